@@ -1,0 +1,102 @@
+-- The laws of sums, each stated once over the length.
+use mathlib.Core.Path.{_≡_, refl, sym, _∙_, ap, ap₂}
+use mathlib.Core.Logic.{_≢_}
+use Prim.Native.Nat.{ℕ, zero, suc, _+_, _*_, _≤_, _<_}
+use native.Mathlib.Nat.{suc-mul, mul-zero, mul-add, add-zero, add-suc}
+use native.Mathlib.Numerals.{add-one}
+use native.Mathlib.Decide.{decLt}
+use native.Mathlib.Omega.{arith}
+use Rattle.sums.specs.Sum.{sum}
+
+-- No term sums to 0, and one more adds its own, as a loop that counts up finds it.
+pub sum-start : (f : ℕ → ℕ) → sum f 0 ≡ 0
+unfolding sum
+sum-start f = refl
+
+pub sum-step : (f : ℕ → ℕ) (n : ℕ) → sum f (n + 1) ≡ sum f n + f n
+unfolding sum
+sum-step f n = rw add-one refl
+
+-- Equal terms have equal sums.
+pub sum-ext : (f g : ℕ → ℕ) (n : ℕ) → ((k : ℕ) → k < n → f k ≡ g k) → sum f n ≡ sum g n
+unfolding sum
+sum-ext f g zero h = refl
+sum-ext f g (suc n) h = ap₂ _+_ (sum-ext f g n (λ k l. h k (omega arith))) (h n (omega arith))
+
+-- Larger terms have larger sums.
+pub sum-mono : (f g : ℕ → ℕ) (n : ℕ) → ((k : ℕ) → k < n → f k ≤ g k) → sum f n ≤ sum g n
+unfolding sum
+sum-mono f g zero h = omega arith
+sum-mono f g (suc n) h = omega (arith, sum-mono f g n (λ k l. h k (omega arith)), h n (omega arith))
+
+-- Terms that are 0 sum to 0.
+pub sum-none : (f : ℕ → ℕ) (n : ℕ) → ((k : ℕ) → k < n → f k ≡ 0) → sum f n ≡ 0
+unfolding sum
+sum-none f zero h = refl
+sum-none f (suc n) h = omega (arith, sum-none f n (λ k l. h k (omega arith)), h n (omega arith))
+
+-- Terms of at most b sum to at most n times b.
+pub sum-bound : (f : ℕ → ℕ) (b n : ℕ) → ((k : ℕ) → k < n → f k ≤ b) → sum f n ≤ n * b
+unfolding sum
+sum-bound f b zero h = omega arith
+sum-bound f b (suc n) h = omega (arith, sum-bound f b n (λ k l. h k (omega arith)), h n (omega arith), suc-mul n b)
+
+-- A sum of pairwise sums is the sum of the two sums.
+pub sum-add : (f g : ℕ → ℕ) (n : ℕ) → sum (λ k. f k + g k) n ≡ sum f n + sum g n
+unfolding sum
+sum-add f g zero = refl
+sum-add f g (suc n) = omega (arith, sum-add f g n)
+
+-- A common factor comes out.
+pub sum-scale : (c : ℕ) (f : ℕ → ℕ) (n : ℕ) → sum (λ k. c * f k) n ≡ c * sum f n
+unfolding sum
+sum-scale c f zero = sym (mul-zero c)
+sum-scale c f (suc n) = omega (arith, sum-scale c f n, mul-add c (sum f n) (f n))
+
+-- A sum splits at any index.
+pub sum-split : (f : ℕ → ℕ) (m n : ℕ) → sum f (m + n) ≡ sum f m + sum (λ k. f (m + k)) n
+unfolding sum
+sum-split f m zero = rw add-zero (omega arith)
+sum-split f m (suc n) = rw add-suc (omega (arith, sum-split f m n))
+
+-- Two sums change places.
+pub sum-swap : (f : ℕ → ℕ → ℕ) (m n : ℕ) → sum (λ i. sum (f i) m) n ≡ sum (λ j. sum (λ i. f i j) n) m
+unfolding sum
+sum-swap f m zero = sym (sum-none (λ j. 0) m (λ k l. refl))
+sum-swap f m (suc n) = ap (λ s. s + sum (f n) m) (sum-swap f m n) ∙ sym (sum-add (λ j. sum (λ i. f i j) n) (f n) m)
+
+-- Below the next length an index is below this one, or is its last.
+pub below-or-last {ℓ} : {A : Type ℓ} (k n : ℕ) → k < suc n → (k < n → A) → (k ≡ n → A) → A
+below-or-last {A = A} k n l below last = go (decLt k n)
+  where
+    go : Dec (k < n) → A
+    go (yes p) = below p
+    go (no p) = last (omega arith)
+
+-- No term is above the sum.
+pub term-le : (f : ℕ → ℕ) (n k : ℕ) → k < n → f k ≤ sum f n
+unfolding sum
+term-le f (suc n) k l = below-or-last k n l (λ p. omega (arith, term-le f n k p)) (λ e. rw e (omega arith))
+
+-- Where one term alone differs, so do the sums, by as much. (What a store into a list does to its sum.)
+pub sum-change : (f g : ℕ → ℕ) (n i : ℕ) → i < n → ((k : ℕ) → k < n → k ≢ i → f k ≡ g k) → sum f n + g i ≡ sum g n + f i
+unfolding sum
+sum-change f g (suc n) i l h =
+    below-or-last i n l
+    (λ p. omega (arith, sum-change f g n i p (λ k l′ e. h k (omega arith) e), h n (omega arith) (omega arith)))
+    (λ e. rw e (omega (arith, sum-ext f g n (λ k l′. h k (omega arith) (omega arith)))))
+
+-- A sum whose terms are 0 but for one index is that term.
+pub sum-one : (f : ℕ → ℕ) (n i : ℕ) → i < n → ((k : ℕ) → k < n → k ≢ i → f k ≡ 0) → sum f n ≡ f i
+sum-one f n i l h = omega (arith, sum-change f (λ k. 0) n i l h, sum-none (λ k. 0) n (λ k l′. refl))
+
+-- Totals decide each term: where no term is above its partner and the sums are equal, so is each pair.
+pub sum-decides : (f g : ℕ → ℕ) (n : ℕ) → ((k : ℕ) → k < n → f k ≤ g k) → sum f n ≡ sum g n → (k : ℕ) → k < n → f k ≡ g k
+unfolding sum
+sum-decides f g (suc n) h e k l =
+    below-or-last k n l
+    (λ p. sum-decides f g n (λ j l′. h j (omega arith)) (omega (arith, least, h n (omega arith))) k p)
+    (λ q. rw q (omega (arith, least, h n (omega arith))))
+  where
+    least : sum f n ≤ sum g n
+    least = sum-mono f g n (λ j l′. h j (omega arith))
