@@ -1,0 +1,62 @@
+-- `plan::rules::names_hold` meets its contract: after i jobs the rule holds over the first i.
+use mathlib.Core.Path.{_≡_, sym, _∙_, ap}
+use Prim.Native.Nat.{ℕ, _-_, _≤_}
+use native.Mathlib.Omega.{arith}
+use borrow.Author.Needs.{needs}
+use Rattle.plan.specs.Below.{every}
+use Rattle.plan.specs.Rules.{namesHold, nameAllowed, jobOf, counted}
+use Rattle.plan.proofs.Below.{every-start, every-next}
+use Rattle.plan.proofs.rules.names_hold.Statement.{statement}
+use Rattle.plan.proofs.rules.names_hold.Tie as tie
+
+abbrev Inv-loop : tie.InvT-loop
+Inv-loop p count holds₀ i₀ holds i = (i ≤ count) × (holds ≡ every (λ k. nameAllowed (jobOf p k .name .0)) i)
+
+abbrev μ-loop : tie.MeasureT-loop
+μ-loop p count holds₀ i₀ holds i = count - i
+
+counted-of-requires : tie.Need-counted-of-requires Inv-loop μ-loop
+counted-of-requires c κs = search needs
+
+loop-holds : tie.Need-loop-holds Inv-loop μ-loop
+loop-holds c = (omega arith, sym (every-start _))
+
+mul-job : tie.Need-mul-job Inv-loop μ-loop
+mul-job c = search needs
+
+element-copy-out-job : tie.Need-element-copy-out-job Inv-loop μ-loop
+element-copy-out-job c = search needs
+
+name-allowed-requires : tie.Need-name-allowed-requires Inv-loop μ-loop
+name-allowed-requires c κs = search needs
+
+add-i : tie.Need-add-i Inv-loop μ-loop
+add-i c = search needs
+
+loop-less : tie.Need-loop-less Inv-loop μ-loop
+loop-less c = omega arith
+
+loop-again : tie.Need-loop-again Inv-loop μ-loop
+loop-again c = (omega arith, every-next _ (c .before .before .before .loop .i) (c .before .before .before .loop .inv .1) (c .name-allowed .ensures))
+
+returns : tie.Need-returns Inv-loop μ-loop
+unfolding namesHold
+returns c =
+    let whole : c .before .loop .i ≡ counted (c .before .before .before .args .t1) = omega arith in
+    c .before .loop .inv .1 ∙ ap (every _) whole
+
+pub names-hold-spec : {M : Type 1} → statement M
+names-hold-spec =
+    tie.close
+    (tie.spec
+    Inv-loop
+    μ-loop
+    counted-of-requires
+    loop-holds
+    mul-job
+    element-copy-out-job
+    name-allowed-requires
+    add-i
+    loop-less
+    loop-again
+    returns)

@@ -1,0 +1,3 @@
+pub mod Edition
+pub mod Below
+pub mod Rules

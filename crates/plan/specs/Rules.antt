@@ -1,0 +1,97 @@
+-- Rules 4 to 9: what rates, a job count, names, grades, windows and sizes are allowed, alone and over a plan in hand.
+use mathlib.Core.Bool.{Bool, not, _&&_, _||_}
+use mathlib.Core.List.{List, map}
+use Prim.Native.Nat.{ℕ, _/_, _%_, _^_, min}
+use lib.Dec.{leb, ltb, eqb}
+use lib.ListN.{length, getD}
+use Rattle.plan.specs.Edition.{mostJobs, mostRate, mostDeadline, mostSize}
+use Rattle.plan.specs.Below.{every}
+use Rattle.plan.specs.declared.kinds.Job.{Job}
+use Rattle.plan.specs.declared.kinds.Plan.{Plan}
+
+-- The grades: LO is other, HI is essential.
+abbrev pub lo : ℕ
+lo = 0
+
+abbrev pub hi : ℕ
+hi = 1
+
+-- Rule 4: the floor is at least 1 and below the normal rate, which is within its bound.
+abbrev pub ratesAllowed : ℕ → ℕ → Bool
+ratesAllowed n d = leb 1 d && ltb d n && leb n mostRate
+
+-- Rule 5: there is a job, and there are no more than the edition has room for.
+abbrev pub countAllowed : ℕ → Bool
+countAllowed count = leb 1 count && leb count mostJobs
+
+-- A name is eight bytes, taken as one number; this is its byte k, counted from the last.
+abbrev pub byteOf : ℕ → ℕ → ℕ
+byteOf name k = name / 256 ^ k % 256
+
+-- Rule 6: each of a name's eight bytes lies from 0x21 to 0x7E.
+unfoldable pub nameAllowed : ℕ → Bool
+nameAllowed name = every (λ k. leb 0x21 (byteOf name k) && leb (byteOf name k) 0x7E) 8
+
+-- Names are the same when the numbers are. (Laws.Names: exactly when all eight bytes are.)
+abbrev pub sameName : ℕ → ℕ → Bool
+sameName a b = eqb a b
+
+-- No number of a list is x.
+unfoldable pub isAbsent : List ℕ → ℕ → Bool
+isAbsent l x = every (λ k. not (eqb (getD l k 0) x)) (length l)
+
+-- Rule 8: the grade byte is LO's or HI's.
+abbrev pub gradeAllowed : ℕ → Bool
+gradeAllowed grade = eqb grade lo || eqb grade hi
+
+-- Rule 9, for a window: the release comes before the deadline, which is within its bound.
+abbrev pub windowAllowed : ℕ → ℕ → Bool
+windowAllowed release deadline = ltb release deadline && leb deadline mostDeadline
+
+-- Rule 9, for a size: at least 1, and within its bound.
+abbrev pub sizeAllowed : ℕ → Bool
+sizeAllowed size = leb 1 size && leb size mostSize
+
+-- A record that is not there reads as zeros.
+abbrev pub noJob : Job
+noJob = record { name = record { 0 = 0 }; grade = 0; release = record { 0 = 0 }; size = record { 0 = 0 }; deadline = record { 0 = 0 } }
+
+-- The record of job i.
+abbrev pub jobOf : Plan → ℕ → Job
+jobOf p i = getD (p .jobs) i noJob
+
+-- How many of the records count: never more than there are.
+abbrev pub counted : Plan → ℕ
+counted p = min (p .count) mostJobs
+
+-- The names of all records, in order.
+unfoldable pub names : Plan → List ℕ
+names p = map (λ (j : Job). j .name .0) (p .jobs)
+
+-- Rule 4 over a plan in hand.
+abbrev pub ratesHold : Plan → Bool
+ratesHold p = ratesAllowed (p .n .0) (p .d .0)
+
+-- Rule 5 over a plan in hand.
+abbrev pub countHolds : Plan → Bool
+countHolds p = countAllowed (p .count)
+
+-- Rule 6 over a plan in hand: every counted job's name is allowed.
+unfoldable pub namesHold : Plan → Bool
+namesHold p = every (λ i. nameAllowed (jobOf p i .name .0)) (counted p)
+
+-- Rule 7 over a plan in hand: no counted job has a name that an earlier job has.
+unfoldable pub namesDiffer : Plan → Bool
+namesDiffer p = every (λ i. every (λ k. not (sameName (jobOf p k .name .0) (jobOf p i .name .0))) i) (counted p)
+
+-- Rule 8 over a plan in hand: every counted job's grade is allowed.
+unfoldable pub gradesHold : Plan → Bool
+gradesHold p = every (λ i. gradeAllowed (jobOf p i .grade)) (counted p)
+
+-- Rule 9 over a plan in hand: every counted job's window and size are allowed.
+unfoldable pub boundsHold : Plan → Bool
+boundsHold p = every (λ i. windowAllowed (jobOf p i .release .0) (jobOf p i .deadline .0) && sizeAllowed (jobOf p i .size .0)) (counted p)
+
+-- Rules 4 to 9 together.
+unfoldable pub rulesHold : Plan → Bool
+rulesHold p = ratesHold p && countHolds p && namesHold p && namesDiffer p && gradesHold p && boundsHold p

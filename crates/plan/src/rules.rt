@@ -1,0 +1,176 @@
+// Rules 4 to 9, each on the values it speaks of, and each over a plan in hand.
+use crate::edition::Edition;
+use crate::kinds::{HI, LO, Name, Plan, Rate, Slots, Units};
+ghost use mathlib.Core.Path.{_≡_};
+ghost use mathlib.Core.Bool.{_&&_};
+ghost use lib.ListN.{length, getD};
+ghost use Rattle.plan.specs.Rules.{ratesAllowed, countAllowed, nameAllowed, sameName, isAbsent, gradeAllowed, windowAllowed, sizeAllowed};
+ghost use Rattle.plan.specs.Rules.{counted, names, ratesHold, countHolds, namesHold, namesDiffer, gradesHold, boundsHold, rulesHold};
+
+// Rule 4.
+pub fn rates_allowed(n: Rate, d: Rate) -> bool
+    ensures { λ r. ⌜ r ≡ ratesAllowed (n .0) (d .0) ⌝ }
+{
+    (1 <= d.0) & (d.0 < n.0) & (n.0 <= Edition::MOST_RATE)
+}
+
+// Rule 5.
+pub fn count_allowed(count: usize) -> bool
+    ensures { λ r. ⌜ r ≡ countAllowed count ⌝ }
+{
+    (1 <= count) & (count <= Edition::MOST_JOBS)
+}
+
+// Rule 6.
+pub fn name_allowed(name: Name) -> bool
+    ensures { λ r. ⌜ r ≡ nameAllowed (name .0) ⌝ }
+{
+    let mut rest = name.0;
+    let mut allowed = true;
+    let mut k: u32 = 0;
+    while k < 8 {
+        let byte = rest % 256;
+        let printable = (0x21 <= byte) & (byte <= 0x7E);
+        allowed = allowed & printable;
+        rest = rest / 256;
+        k += 1;
+    }
+    allowed
+}
+
+// Whether two names are the same, in all eight bytes.
+pub fn same_name(a: Name, b: Name) -> bool
+    ensures { λ r. ⌜ r ≡ sameName (a .0) (b .0) ⌝ }
+{
+    a.0 == b.0
+}
+
+// Whether none of some numbers is x. It looks at all of them, which is faster than to stop early.
+pub fn is_absent(numbers: &[u64], x: u64) -> bool
+    ensures { λ r. ⌜ r ≡ isAbsent (now (numbers .entry)) x ⌝ }
+{
+    let mut absent = true;
+    let mut k = 0;
+    while k < numbers.len() {
+        absent = absent & (numbers[k] != x);
+        k += 1;
+    }
+    absent
+}
+
+// Rule 8.
+pub fn grade_allowed(grade: u8) -> bool
+    ensures { λ r. ⌜ r ≡ gradeAllowed grade ⌝ }
+{
+    (grade == LO) | (grade == HI)
+}
+
+// Rule 9, on a window and on a size.
+pub fn window_allowed(release: Slots, deadline: Slots) -> bool
+    ensures { λ r. ⌜ r ≡ windowAllowed (release .0) (deadline .0) ⌝ }
+{
+    (release.0 < deadline.0) & (deadline.0 <= Edition::MOST_DEADLINE)
+}
+
+pub fn size_allowed(size: Units) -> bool
+    ensures { λ r. ⌜ r ≡ sizeAllowed (size .0) ⌝ }
+{
+    (1 <= size.0) & (size.0 <= Edition::MOST_SIZE)
+}
+
+// How many of the records count: never more than there are.
+pub fn counted_of(p: Plan) -> usize
+    ensures { λ r. ⌜ r ≡ counted p ⌝ }
+{
+    let count = p.count;
+    if count <= Edition::MOST_JOBS { count } else { Edition::MOST_JOBS }
+}
+
+// The names of all records, as numbers in a row.
+pub fn names_of(p: Plan) -> [u64; Edition::MOST_JOBS]
+    ensures { λ r. ⌜ r ≡ names p ⌝ }
+{
+    let mut row = [0u64; Edition::MOST_JOBS];
+    let mut i = 0;
+    while i < Edition::MOST_JOBS {
+        let job = p.jobs[i];
+        let name = job.name;
+        row[i] = name.0;
+        i += 1;
+    }
+    row
+}
+
+// Rule 6 over a plan in hand.
+pub fn names_hold(p: Plan) -> bool
+    ensures { λ r. ⌜ r ≡ namesHold p ⌝ }
+{
+    let count = counted_of(p);
+    let mut holds = true;
+    let mut i = 0;
+    while i < count {
+        let job = p.jobs[i];
+        holds = holds & name_allowed(job.name);
+        i += 1;
+    }
+    holds
+}
+
+// Rule 7 over a plan in hand.
+pub fn names_differ(p: Plan) -> bool
+    ensures { λ r. ⌜ r ≡ namesDiffer p ⌝ }
+{
+    let count = counted_of(p);
+    let row = names_of(p);
+    let mut differ = true;
+    let mut i = 0;
+    while i < count {
+        let name = row[i];
+        differ = differ & is_absent(&row[..i], name);
+        i += 1;
+    }
+    differ
+}
+
+// Rule 8 over a plan in hand.
+pub fn grades_hold(p: Plan) -> bool
+    ensures { λ r. ⌜ r ≡ gradesHold p ⌝ }
+{
+    let count = counted_of(p);
+    let mut holds = true;
+    let mut i = 0;
+    while i < count {
+        let job = p.jobs[i];
+        holds = holds & grade_allowed(job.grade);
+        i += 1;
+    }
+    holds
+}
+
+// Rule 9 over a plan in hand.
+pub fn bounds_hold(p: Plan) -> bool
+    ensures { λ r. ⌜ r ≡ boundsHold p ⌝ }
+{
+    let count = counted_of(p);
+    let mut holds = true;
+    let mut i = 0;
+    while i < count {
+        let job = p.jobs[i];
+        let allowed = window_allowed(job.release, job.deadline) & size_allowed(job.size);
+        holds = holds & allowed;
+        i += 1;
+    }
+    holds
+}
+
+// Rules 4 to 9 together: what judge and writer ask of a plan besides its table.
+pub fn rules_hold(p: Plan) -> bool
+    ensures { λ r. ⌜ r ≡ rulesHold p ⌝ }
+{
+    rates_allowed(p.n, p.d)
+        & count_allowed(p.count)
+        & names_hold(p)
+        & names_differ(p)
+        & grades_hold(p)
+        & bounds_hold(p)
+}

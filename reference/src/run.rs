@@ -1,0 +1,136 @@
+//! A run: its start, one slot of it, and the outcome of each job.
+
+use crate::edition::{HI, LO, MOST_JOBS, TABLE_PLACES};
+use crate::judge::judge;
+use crate::plan::{allotment, boundaries, intervals, numbers_hold, Job, Plan};
+use crate::refusal::{self, Refusal};
+
+/// The record that a host keeps between slots. Made by hand it may hold anything.
+#[derive(Clone, Debug, PartialEq, Eq)]
+pub struct Run {
+    pub clock: u32,
+    pub slow: bool,
+    pub below_floor: bool,
+    pub carried: [u32; MOST_JOBS],
+}
+
+/// How a job stands in a run.
+#[derive(Clone, Copy, Debug, PartialEq, Eq)]
+pub enum Outcome {
+    Met,
+    Discarded,
+    Missed,
+    Open,
+}
+
+/// The run at its beginning, or the judge's refusal.
+pub fn start(plan: &Plan, table: &[u32]) -> Result<Run, Refusal> {
+    judge(plan, table)?;
+    let clock = first_release(plan.counted());
+    Ok(Run { clock, slow: false, below_floor: false, carried: [0; MOST_JOBS] })
+}
+
+/// One slot at a speed: 0 when done, else the refusal number with run and grants as they were.
+pub fn step(plan: &Plan, table: &[u32], run: &mut Run, speed: u16, grants: &mut [u32]) -> u8 {
+    if !sound_to_run(plan, run) {
+        return refusal::UNSOUND;
+    }
+    let jobs = plan.counted();
+    if table.len() < TABLE_PLACES || grants.len() < jobs.len() {
+        return refusal::TOO_SHORT;
+    }
+    if run.clock == last_deadline(jobs) {
+        return refusal::AT_LAST_DEADLINE;
+    }
+    if speed > plan.n {
+        return refusal::SPEED;
+    }
+    set_marks(plan, run, speed);
+    for (i, &grant) in serve(plan, table, run, speed).iter().enumerate() {
+        grants[i] = grant;
+        run.carried[i] += grant;
+    }
+    run.clock += 1;
+    refusal::DONE
+}
+
+/// The outcome of the job at a position, or the refusal number.
+pub fn outcome(plan: &Plan, run: &Run, position: u64) -> Result<Outcome, u8> {
+    if !sound_to_run(plan, run) || position >= plan.count {
+        return Err(refusal::UNSOUND);
+    }
+    let job = &plan.counted()[position as usize];
+    if u64::from(run.carried[position as usize]) == job.size {
+        Ok(Outcome::Met)
+    } else if job.grade == LO && run.slow {
+        Ok(Outcome::Discarded)
+    } else if run.clock >= job.deadline {
+        Ok(Outcome::Missed)
+    } else {
+        Ok(Outcome::Open)
+    }
+}
+
+/// What a slot and an outcome ask of plan and run.
+fn sound_to_run(plan: &Plan, run: &Run) -> bool {
+    numbers_hold(plan)
+        && first_release(plan.counted()) <= run.clock
+        && run.clock <= last_deadline(plan.counted())
+        && (0..plan.counted().len()).all(|i| u64::from(run.carried[i]) <= plan.jobs[i].size)
+}
+
+/// The first boundary is the earliest release, since each release is before its deadline.
+fn first_release(jobs: &[Job]) -> u32 {
+    boundaries(jobs)[0]
+}
+
+/// The last boundary is the latest deadline, for the same reason.
+fn last_deadline(jobs: &[Job]) -> u32 {
+    boundaries(jobs)[boundaries(jobs).len() - 1]
+}
+
+fn set_marks(plan: &Plan, run: &mut Run, speed: u16) {
+    if speed < plan.n {
+        run.slow = true;
+    }
+    if speed < plan.d {
+        run.below_floor = true;
+    }
+}
+
+/// The grants of one slot, one number per job, the marks of this slot being set already.
+fn serve(plan: &Plan, table: &[u32], run: &Run, speed: u16) -> Vec<u32> {
+    let mut grants = vec![0; plan.counted().len()];
+    let mut rest = u64::from(speed);
+    for position in turns(plan.counted(), run) {
+        let grant = rest.min(due(plan, table, run, position));
+        grants[position] = grant as u32;
+        rest -= grant;
+    }
+    grants
+}
+
+/// The positions of the jobs to be served, in the order of their turns.
+fn turns(jobs: &[Job], run: &Run) -> Vec<usize> {
+    let served = |job: &Job| job.live(run.clock) && (job.grade == HI || !run.slow);
+    let mut positions: Vec<usize> = (0..jobs.len()).filter(|&i| served(&jobs[i])).collect();
+    // HI before LO, then the earlier deadline, then the lower position.
+    positions.sort_by_key(|&i| (jobs[i].grade == LO, jobs[i].deadline, i));
+    positions
+}
+
+/// The units that a job in its turn may have at most.
+fn due(plan: &Plan, table: &[u32], run: &Run, position: usize) -> u64 {
+    let size = plan.counted()[position].size;
+    let carried = u64::from(run.carried[position]);
+    if run.slow {
+        return size - carried;
+    }
+    let mut allotted = 0;
+    for (j, interval) in intervals(plan.counted()).iter().enumerate() {
+        if interval.start <= run.clock {
+            allotted += allotment(table, position, j);
+        }
+    }
+    size.min(allotted).saturating_sub(carried)
+}
