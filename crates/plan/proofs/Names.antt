@@ -2,10 +2,12 @@
 use mathlib.Core.Path.{_≡_, refl, sym, _∙_, ap, ap₂}
 use mathlib.Core.Bool.{not}
 use mathlib.Core.List.{List}
+use mathlib.Core.Logic.{_↔_}
 use Prim.Native.Nat.{ℕ, zero, suc, _+_, _*_, _/_, _%_, _^_, _≤_, _<_}
-use native.Mathlib.Nat.{mod-eq-of-lt}
+use native.Mathlib.Nat.{mod-eq-of-lt, mod-one, one-le-pow, pow-succ'}
+use lib.Arith.{mod-mul}
 use native.Mathlib.Omega.{arith}
-use lib.Dec.{eqb}
+use lib.Dec.{eqb, lit<}
 use lib.ListN.{length, getD, take, List·getD-map}
 use lib.Seq.{length-take-le, getD-take}
 use Rattle.plan.specs.Below.{every}
@@ -23,3 +25,15 @@ name-at p k = List·getD-map (λ (j : Job). j .name .0) (p .jobs) k noJob
 pub absent-before : (l : List ℕ) (i x : ℕ) → i ≤ length l → isAbsent (take i l) x ≡ every (λ k. not (eqb (getD l k 0) x)) i
 unfolding isAbsent
 absent-before l i x h = rw (length-take-le i l h) (every-ext _ _ i (λ k l′. rw (getD-take i l k 0 l′) refl))
+
+-- Numbers whose lowest bytes are equal, pair by pair, are equal as far as those bytes go.
+same-below : (x y w : ℕ) → ((k : ℕ) → k < w → byteOf x k ≡ byteOf y k) → x % 256 ^ w ≡ y % 256 ^ w
+same-below x y zero h = mod-one x ∙ sym (mod-one y)
+same-below x y (suc w) h =
+    rw (pow-succ' 256 w, mod-mul x (lit< tt) (one-le-pow w 256 (lit< tt)), mod-mul y (lit< tt) (one-le-pow w 256 (lit< tt)))
+    (ap₂ (λ a b. a * 256 ^ w + b) (h w (omega arith)) (same-below x y w (λ k l. h k (omega arith))))
+
+-- Names are equal only if all eight bytes are, and then they are.
+pub equal-by-bytes : (x y : ℕ) → x < 256 ^ 8 → y < 256 ^ 8 → (((k : ℕ) → k < 8 → byteOf x k ≡ byteOf y k) ↔ (x ≡ y))
+equal-by-bytes x y hx hy =
+    (λ h. sym (mod-eq-of-lt hx) ∙ same-below x y 8 h ∙ mod-eq-of-lt hy, λ e k l. ap (λ n. byteOf n k) e)

@@ -1,3 +1,6 @@
 pub mod Edition
+pub mod Refusal
 pub mod Below
 pub mod Rules
+pub mod Boundaries
+pub mod Table

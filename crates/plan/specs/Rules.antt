@@ -32,7 +32,7 @@ byteOf name k = name / 256 ^ k % 256
 unfoldable pub nameAllowed : ℕ → Bool
 nameAllowed name = every (λ k. leb 0x21 (byteOf name k) && leb (byteOf name k) 0x7E) 8
 
--- Names are the same when the numbers are. (Laws.Names: exactly when all eight bytes are.)
+-- Names are the same when the numbers are. (proofs/Names: exactly when all eight bytes are.)
 abbrev pub sameName : ℕ → ℕ → Bool
 sameName a b = eqb a b
 

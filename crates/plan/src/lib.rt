@@ -1,6 +1,8 @@
 // What a plan is: the edition's bounds; slots, units and the rate that joins them; jobs; rules 4 to 9 on a plan in hand;
 // its boundaries and intervals; the places of its table.
+pub mod boundaries;
 pub mod edition;
 pub mod kinds;
 pub mod refusal;
 pub mod rules;
+pub mod table;

@@ -1,0 +1,98 @@
+//! The generator of test inputs: a fixed part, then inputs drawn from a seed.
+
+mod accepted;
+mod damaged;
+mod draft;
+mod fixed;
+mod hand;
+mod prng;
+mod refused;
+mod speeds;
+
+use std::io::{self, Write};
+
+use crate::record::{put, FileInput, Input, Lent, MOST_LENT_TABLE};
+use crate::edition::TABLE_PLACES;
+use crate::refusal::{ROW_ORDER, VERSION};
+use draft::{Draft, AMPLE, EVERYWHERE};
+use prng::Prng;
+use refused::PLACED;
+
+/// Seed of the stored set.
+pub const STORED_SEED: u64 = 20_260_101;
+/// Number of inputs of the stored set.
+pub const STORED_COUNT: u64 = 6_400;
+
+/// Writes so many inputs; the same seed gives the same bytes on every machine.
+pub fn generate(seed: u64, count: u64, output: &mut impl Write) -> io::Result<()> {
+    let fixed = fixed::inputs();
+    for number in 0..count {
+        match fixed.get(number as usize) {
+            Some(input) => put(input, output)?,
+            None => put(&drawn(seed, number), output)?,
+        }
+    }
+    Ok(())
+}
+
+/// One input drawn from the seed and its own number alone.
+fn drawn(seed: u64, number: u64) -> Input {
+    let mut prng = Prng::new(seed, number);
+    match prng.below(100) {
+        0..=44 => {
+            let draft = accepted::accepted(&mut prng);
+            run_of(&mut prng, &draft)
+        }
+        45..=58 => refused_input(&mut prng),
+        59..=74 => damaged_input(&mut prng),
+        75..=77 => of_file(damaged::random_bytes(&mut prng)),
+        78..=81 => of_file(damaged::sprinkled(&mut prng)),
+        _ => Input::Hand(Box::new(hand::hand(&mut prng))),
+    }
+}
+
+fn of_file(file: Vec<u8>) -> Input {
+    Input::File(FileInput { lent: AMPLE, file, speeds: vec![2, 1] })
+}
+
+/// A draft as a file with the speeds of a run, now and then with scant buffers.
+fn run_of(prng: &mut Prng, draft: &Draft) -> Input {
+    let file = draft.file();
+    let mut lent = AMPLE;
+    if prng.once_in(10) {
+        lent = scant(prng, file.len(), draft.jobs());
+    }
+    Input::File(FileInput { lent, file, speeds: speeds::speeds(prng, &draft.plan) })
+}
+
+/// Buffers around the lengths that a plan needs.
+fn scant(prng: &mut Prng, exact: usize, jobs: usize) -> Lent {
+    Lent {
+        table: prng.pick(&[TABLE_PLACES, TABLE_PLACES, TABLE_PLACES - 1, MOST_LENT_TABLE]),
+        output: prng.pick(&[exact, exact - 1, exact + 1, 0]),
+        grants: prng.pick(&[jobs, jobs - 1, jobs + 1, 0]),
+    }
+}
+
+fn refused_input(prng: &mut Prng) -> Input {
+    if prng.once_in(12) {
+        let draft = refused::wide_column(prng);
+        return run_of(prng, &draft);
+    }
+    let number = prng.pick(&PLACED);
+    let place = prng.pick(&EVERYWHERE);
+    let draft = refused::refused(prng, number, place);
+    run_of(prng, &draft)
+}
+
+fn damaged_input(prng: &mut Prng) -> Input {
+    let number = |prng: &mut Prng| prng.between(u64::from(VERSION), u64::from(ROW_ORDER)) as u8;
+    if prng.once_in(3) {
+        let numbers = (number(prng), number(prng));
+        let places = (prng.pick(&EVERYWHERE), prng.pick(&EVERYWHERE));
+        return of_file(damaged::damaged_twice(prng, numbers, places));
+    }
+    let number = number(prng);
+    let place = prng.pick(&EVERYWHERE);
+    of_file(damaged::damaged(prng, number, place))
+}
