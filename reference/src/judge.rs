@@ -61,7 +61,10 @@ fn no_interval_above_rate(plan: &Plan, table: &[u32]) -> Result<(), Refusal> {
 pub fn floor_rule(plan: &Plan, table: &[u32], deadlines: &[u32]) -> Result<(), Refusal> {
     let intervals = intervals(plan.counted());
     for (j, interval) in intervals.iter().enumerate() {
-        for &deadline in deadlines.iter().filter(|&&deadline| deadline > interval.start) {
+        for &deadline in deadlines
+            .iter()
+            .filter(|&&deadline| deadline > interval.start)
+        {
             let allowed = floor_units(plan, interval, deadline);
             if essential_units(plan.counted(), table, &intervals, j, deadline) > allowed {
                 let places = [j as u64, u64::from(deadline)];

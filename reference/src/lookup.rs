@@ -10,7 +10,10 @@ pub struct Part {
     pub length: usize,
 }
 
-const EMPTY: Part = Part { offset: 0, length: 0 };
+const EMPTY: Part = Part {
+    offset: 0,
+    length: 0,
+};
 
 /// The part that holds the name of the job at `position`, or the empty part.
 pub fn name_lookup(file: &[u8], position: u64) -> Part {
@@ -21,5 +24,8 @@ pub fn name_lookup(file: &[u8], position: u64) -> Part {
     if position >= contents.plan.count {
         return EMPTY;
     }
-    Part { offset: contents.names_at[position as usize], length: NAME_BYTES }
+    Part {
+        offset: contents.names_at[position as usize],
+        length: NAME_BYTES,
+    }
 }

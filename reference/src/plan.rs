@@ -17,7 +17,13 @@ pub struct Job {
 
 impl Job {
     pub fn zeros() -> Job {
-        Job { name: [0; NAME_BYTES], grade: LO, release: 0, size: 0, deadline: 0 }
+        Job {
+            name: [0; NAME_BYTES],
+            grade: LO,
+            release: 0,
+            size: 0,
+            deadline: 0,
+        }
     }
 
     /// Whether the job may be served in the slot at clock `t`.
@@ -42,7 +48,12 @@ pub struct Plan {
 
 impl Plan {
     pub fn zeros() -> Plan {
-        Plan { n: 0, d: 0, count: 0, jobs: [Job::zeros(); MOST_JOBS] }
+        Plan {
+            n: 0,
+            d: 0,
+            count: 0,
+            jobs: [Job::zeros(); MOST_JOBS],
+        }
     }
 
     /// The records below the count. Asked only where the count is within its bounds.
@@ -79,7 +90,13 @@ pub fn boundaries(jobs: &[Job]) -> Vec<u32> {
 /// The intervals between neighbouring boundaries, from the earliest on.
 pub fn intervals(jobs: &[Job]) -> Vec<Interval> {
     let bounds = boundaries(jobs);
-    bounds.windows(2).map(|pair| Interval { start: pair[0], end: pair[1] }).collect()
+    bounds
+        .windows(2)
+        .map(|pair| Interval {
+            start: pair[0],
+            end: pair[1],
+        })
+        .collect()
 }
 
 /// The place of the table that belongs to a job and an interval.
@@ -101,7 +118,8 @@ pub fn count_holds(count: u64) -> bool {
 }
 
 pub fn name_bytes_hold(name: &[u8; NAME_BYTES]) -> bool {
-    name.iter().all(|&byte| LEAST_NAME_BYTE <= byte && byte <= MOST_NAME_BYTE)
+    name.iter()
+        .all(|&byte| LEAST_NAME_BYTE <= byte && byte <= MOST_NAME_BYTE)
 }
 
 pub fn name_is_new(name: &[u8; NAME_BYTES], earlier: &[Job]) -> bool {
@@ -123,12 +141,16 @@ pub fn numbers_hold(plan: &Plan) -> bool {
     // The count comes before any record is looked at: it may be any number.
     rates_hold(plan.n, plan.d)
         && count_holds(plan.count)
-        && plan.counted().iter().all(|job| grade_holds(job.grade) && times_and_size_hold(job))
+        && plan
+            .counted()
+            .iter()
+            .all(|job| grade_holds(job.grade) && times_and_size_hold(job))
 }
 
 /// The bytes of all names, and that no name stands twice.
 fn names_hold(jobs: &[Job]) -> bool {
-    (0..jobs.len()).all(|i| name_bytes_hold(&jobs[i].name) && name_is_new(&jobs[i].name, &jobs[..i]))
+    (0..jobs.len())
+        .all(|i| name_bytes_hold(&jobs[i].name) && name_is_new(&jobs[i].name, &jobs[..i]))
 }
 
 /// Whether some place of the plan's table outside its jobs and intervals is not 0.

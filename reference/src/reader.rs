@@ -33,7 +33,9 @@ impl<'a> Bytes<'a> {
     /// The next field of so many bytes as a number, highest byte first.
     fn number(&mut self, length: usize) -> Result<u64, u8> {
         let field = self.field(length)?;
-        Ok(field.iter().fold(0, |number, &byte| number * 256 + u64::from(byte)))
+        Ok(field
+            .iter()
+            .fold(0, |number, &byte| number * 256 + u64::from(byte)))
     }
 
     fn byte(&mut self) -> Result<u8, u8> {
@@ -101,7 +103,11 @@ pub fn contents(file: &[u8]) -> Result<Contents, u8> {
     if bytes.left() > 0 {
         return Err(refusal::CUT_OR_LENGTH);
     }
-    Ok(Contents { plan, names_at, rows })
+    Ok(Contents {
+        plan,
+        names_at,
+        rows,
+    })
 }
 
 fn read_head(bytes: &mut Bytes) -> Result<(), u8> {
@@ -207,5 +213,9 @@ fn read_row(bytes: &mut Bytes, jobs: &[Job], intervals: usize) -> Result<Row, u8
     if units == 0 {
         return Err(refusal::NO_UNITS);
     }
-    Ok(Row { job, interval, units })
+    Ok(Row {
+        job,
+        interval,
+        units,
+    })
 }

@@ -79,11 +79,17 @@ pub fn get(bytes: &mut impl Read) -> io::Result<Option<Input>> {
     bytes.read_exact(&mut length)?;
     let mut body = vec![0; u32::from_be_bytes(length) as usize];
     bytes.read_exact(&mut body)?;
-    let mut body = Body { bytes: &body, next: 0 };
+    let mut body = Body {
+        bytes: &body,
+        next: 0,
+    };
     match kind[0] {
         KIND_FILE => Ok(Some(Input::File(file_input(&mut body)))),
         KIND_HAND => Ok(Some(Input::Hand(Box::new(hand_input(&mut body))))),
-        _ => Err(io::Error::new(io::ErrorKind::InvalidData, "unknown kind of record")),
+        _ => Err(io::Error::new(
+            io::ErrorKind::InvalidData,
+            "unknown kind of record",
+        )),
     }
 }
 
@@ -113,7 +119,10 @@ fn lent_bytes(lent: &Lent) -> Vec<u8> {
 }
 
 fn speed_bytes(speeds: &[u16]) -> Vec<u8> {
-    speeds.iter().flat_map(|speed| speed.to_be_bytes()).collect()
+    speeds
+        .iter()
+        .flat_map(|speed| speed.to_be_bytes())
+        .collect()
 }
 
 /// Rates, count, and the records up to the last one that is not all zeros.
@@ -137,7 +146,9 @@ fn plan_bytes(plan: &Plan) -> Vec<u8> {
 
 /// The places that are not 0, each with its value.
 fn table_bytes(table: &[u32]) -> Vec<u8> {
-    let places: Vec<usize> = (0..table.len()).filter(|&place| table[place] != 0).collect();
+    let places: Vec<usize> = (0..table.len())
+        .filter(|&place| table[place] != 0)
+        .collect();
     let mut bytes = Vec::new();
     bytes.extend((places.len() as u16).to_be_bytes());
     for place in places {
@@ -172,7 +183,9 @@ impl<'a> Body<'a> {
     }
 
     fn number(&mut self, length: usize) -> u64 {
-        self.part(length).iter().fold(0, |number, &byte| number * 256 + u64::from(byte))
+        self.part(length)
+            .iter()
+            .fold(0, |number, &byte| number * 256 + u64::from(byte))
     }
 }
 
@@ -180,7 +193,11 @@ fn file_input(body: &mut Body) -> FileInput {
     let lent = lent(body);
     let length = body.number(4) as usize;
     let file = body.part(length).to_vec();
-    FileInput { lent, file, speeds: speeds(body) }
+    FileInput {
+        lent,
+        file,
+        speeds: speeds(body),
+    }
 }
 
 fn hand_input(body: &mut Body) -> HandInput {
@@ -188,14 +205,24 @@ fn hand_input(body: &mut Body) -> HandInput {
     let plan = plan(body);
     let table = table(body, lent.table.min(TABLE_PLACES));
     let run = run(body);
-    HandInput { lent, plan, table, run, speeds: speeds(body) }
+    HandInput {
+        lent,
+        plan,
+        table,
+        run,
+        speeds: speeds(body),
+    }
 }
 
 fn lent(body: &mut Body) -> Lent {
     let table = body.number(2) as usize;
     let output = body.number(4) as usize;
     let grants = body.number(2) as usize;
-    Lent { table, output, grants }
+    Lent {
+        table,
+        output,
+        grants,
+    }
 }
 
 fn plan(body: &mut Body) -> Plan {
@@ -231,7 +258,12 @@ fn run(body: &mut Body) -> Run {
     for place in &mut carried {
         *place = body.number(4) as u32;
     }
-    Run { clock, slow, below_floor, carried }
+    Run {
+        clock,
+        slow,
+        below_floor,
+        carried,
+    }
 }
 
 /// Two bytes each up to the end of the body.

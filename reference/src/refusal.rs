@@ -41,10 +41,16 @@ pub struct Refusal {
 
 impl Refusal {
     pub fn without_place(number: u8) -> Refusal {
-        Refusal { number, places: Vec::new() }
+        Refusal {
+            number,
+            places: Vec::new(),
+        }
     }
 
     pub fn at(number: u8, places: &[u64]) -> Refusal {
-        Refusal { number, places: places.to_vec() }
+        Refusal {
+            number,
+            places: places.to_vec(),
+        }
     }
 }

@@ -27,7 +27,12 @@ pub enum Outcome {
 pub fn start(plan: &Plan, table: &[u32]) -> Result<Run, Refusal> {
     judge(plan, table)?;
     let clock = first_release(plan.counted());
-    Ok(Run { clock, slow: false, below_floor: false, carried: [0; MOST_JOBS] })
+    Ok(Run {
+        clock,
+        slow: false,
+        below_floor: false,
+        carried: [0; MOST_JOBS],
+    })
 }
 
 /// One slot at a speed: 0 when done, else the refusal number with run and grants as they were.

@@ -9,7 +9,11 @@ use crate::refusal::Refusal;
 #[derive(Clone, Debug, PartialEq, Eq)]
 pub enum SlackFigure {
     NoneEssential,
-    Least { slack: i64, interval: u64, deadline: u32 },
+    Least {
+        slack: i64,
+        interval: u64,
+        deadline: u32,
+    },
 }
 
 /// What the floor rate has to spare between the start of an interval and a later boundary.
@@ -41,7 +45,11 @@ pub fn slack_figure(plan: &Plan, table: &[u32]) -> Result<SlackFigure, Refusal> 
             if deadline > interval.start {
                 let slack = slack_of_pair(plan, table, j, deadline);
                 if is_less(slack, &figure) {
-                    figure = SlackFigure::Least { slack, interval: j as u64, deadline };
+                    figure = SlackFigure::Least {
+                        slack,
+                        interval: j as u64,
+                        deadline,
+                    };
                 }
             }
         }

@@ -16,6 +16,7 @@ pub struct Rate(pub u16);
 pub struct Name(pub u64);
 
 pub const LO: u8 = 0;
+
 pub const HI: u8 = 1;
 
 pub struct Job {

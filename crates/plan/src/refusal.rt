@@ -2,30 +2,48 @@
 
 // Faults of a plan file, in the order in which its bytes come.
 pub const WRONG_VERSION: u8 = 1;
+
 pub const WRONG_EXTENT: u8 = 2;
+
 pub const WRONG_RECORD_LENGTH: u8 = 3;
+
 pub const WRONG_RATES: u8 = 4;
+
 pub const WRONG_JOB_COUNT: u8 = 5;
+
 pub const WRONG_NAME_BYTE: u8 = 6;
+
 pub const NAME_TAKEN: u8 = 7;
+
 pub const WRONG_GRADE: u8 = 8;
+
 pub const WRONG_JOB_BOUNDS: u8 = 9;
+
 pub const TOO_MANY_ROWS: u8 = 10;
+
 pub const ROW_WITHOUT_JOB: u8 = 11;
+
 pub const ROW_WITHOUT_INTERVAL: u8 = 12;
+
 pub const ROW_WITHOUT_UNITS: u8 = 13;
+
 pub const ROW_OUT_OF_ORDER: u8 = 14;
 
 // Faults of a plan, in the order in which the judge looks for them.
 pub const OUTSIDE_WINDOW: u8 = 15;
+
 pub const WRONG_TOTAL: u8 = 16;
+
 pub const OVER_CAPACITY: u8 = 17;
+
 pub const BELOW_FLOOR_RULE: u8 = 18;
 
 // Faults of a slot's call.
 pub const CLOCK_AT_END: u8 = 19;
+
 pub const SPEED_ABOVE_NORMAL: u8 = 20;
 
 // What any call with a plan, a run or a lent buffer can answer.
 pub const UNSOUND: u8 = 21;
+
 pub const BUFFER_TOO_SHORT: u8 = 22;

@@ -1,6 +1,12 @@
 // Rules 4 to 9, each on the values it speaks of, and each over a plan in hand.
 use crate::edition::Edition;
-use crate::kinds::{HI, LO, Name, Plan, Rate, Slots, Units};
+use crate::kinds::HI;
+use crate::kinds::LO;
+use crate::kinds::Name;
+use crate::kinds::Plan;
+use crate::kinds::Rate;
+use crate::kinds::Slots;
+use crate::kinds::Units;
 ghost use mathlib.Core.Path.{_≡_};
 ghost use mathlib.Core.Bool.{_&&_};
 ghost use lib.ListN.{length, getD};
@@ -83,7 +89,11 @@ pub fn counted_of(p: Plan) -> usize
     ensures { λ r. ⌜ r ≡ counted p ⌝ }
 {
     let count = p.count;
-    if count <= Edition::MOST_JOBS { count } else { Edition::MOST_JOBS }
+    if count <= Edition::MOST_JOBS {
+        count
+    } else {
+        Edition::MOST_JOBS
+    }
 }
 
 // The names of all records, as numbers in a row.

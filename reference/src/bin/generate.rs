@@ -7,7 +7,10 @@ use reference::generate::{generate, STORED_COUNT, STORED_SEED};
 
 fn main() -> io::Result<()> {
     let arguments: Vec<String> = std::env::args().skip(1).collect();
-    let numbers: Vec<u64> = arguments.iter().filter_map(|text| text.parse().ok()).collect();
+    let numbers: Vec<u64> = arguments
+        .iter()
+        .filter_map(|text| text.parse().ok())
+        .collect();
     let (seed, count) = match (arguments.len(), numbers.as_slice()) {
         (0, _) => (STORED_SEED, STORED_COUNT),
         (2, [seed, count]) => (*seed, *count),

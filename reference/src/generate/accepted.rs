@@ -23,11 +23,20 @@ impl Rooms {
         let (n, d) = (u64::from(draft.plan.n), u64::from(draft.plan.d));
         let intervals = draft.intervals();
         let floor = |t: u32| -> Vec<u64> {
-            boundaries.iter().map(|&end| d * u64::from(end.saturating_sub(t))).collect()
+            boundaries
+                .iter()
+                .map(|&end| d * u64::from(end.saturating_sub(t)))
+                .collect()
         };
         Rooms {
-            floors: intervals.iter().map(|interval| floor(interval.start)).collect(),
-            intervals: intervals.iter().map(|interval| n * interval.length()).collect(),
+            floors: intervals
+                .iter()
+                .map(|interval| floor(interval.start))
+                .collect(),
+            intervals: intervals
+                .iter()
+                .map(|interval| n * interval.length())
+                .collect(),
             boundaries,
         }
     }
@@ -181,8 +190,9 @@ fn joined_windows(prng: &mut Prng, jobs: usize, boundaries: usize) -> Vec<(usize
         ends.push(other);
     }
     let pairs = ends.chunks_exact(2);
-    let mut windows: Vec<(usize, usize)> =
-        pairs.map(|pair| (pair[0].min(pair[1]), pair[0].max(pair[1]))).collect();
+    let mut windows: Vec<(usize, usize)> = pairs
+        .map(|pair| (pair[0].min(pair[1]), pair[0].max(pair[1])))
+        .collect();
     prng.shuffle(&mut windows);
     windows
 }
@@ -206,7 +216,10 @@ fn times(prng: &mut Prng, count: usize) -> Vec<u32> {
         2 => prng.between(1, 5) as u32,
         _ => 0,
     };
-    times.iter().map(|time| start.min(latest_start) + time).collect()
+    times
+        .iter()
+        .map(|time| start.min(latest_start) + time)
+        .collect()
 }
 
 fn grades(prng: &mut Prng, jobs: usize) -> Vec<u8> {
@@ -258,7 +271,9 @@ fn lay_down(prng: &mut Prng, mut draft: Draft) -> Option<Draft> {
     prng.shuffle(&mut order);
     for &i in &order {
         let free = covered(&draft, i).into_iter();
-        let free: Vec<usize> = free.filter(|&j| rooms.most(&draft.plan.jobs[i], j) > 0).collect();
+        let free: Vec<usize> = free
+            .filter(|&j| rooms.most(&draft.plan.jobs[i], j) > 0)
+            .collect();
         if free.is_empty() {
             return None;
         }
@@ -278,7 +293,11 @@ fn lay_down_more(prng: &mut Prng, draft: &mut Draft, rooms: &mut Rooms) {
     let j = prng.pick(&covered(draft, i));
     let most = rooms.most(&draft.plan.jobs[i], j);
     if most > 0 {
-        let units = if prng.once_in(3) { most } else { prng.between(1, most) };
+        let units = if prng.once_in(3) {
+            most
+        } else {
+            prng.between(1, most)
+        };
         add(draft, rooms, i, j, units);
     }
 }
@@ -286,7 +305,9 @@ fn lay_down_more(prng: &mut Prng, draft: &mut Draft, rooms: &mut Rooms) {
 /// The intervals inside a job's window.
 pub fn covered(draft: &Draft, position: usize) -> Vec<usize> {
     let intervals = draft.intervals();
-    (0..intervals.len()).filter(|&j| draft.plan.jobs[position].covers(&intervals[j])).collect()
+    (0..intervals.len())
+        .filter(|&j| draft.plan.jobs[position].covers(&intervals[j]))
+        .collect()
 }
 
 fn add(draft: &mut Draft, rooms: &mut Rooms, position: usize, interval: usize, units: u64) {

@@ -78,9 +78,12 @@ impl Damage {
     fn strike_length(&mut self, prng: &mut Prng) {
         let length = self.file.len();
         match prng.below(6) {
-            0 => self.file.truncate(prng.between(1, length as u64 - 1) as usize),
+            0 => self
+                .file
+                .truncate(prng.between(1, length as u64 - 1) as usize),
             1 => {
-                self.file.truncate(prng.between(5, length as u64 - 1) as usize);
+                self.file
+                    .truncate(prng.between(5, length as u64 - 1) as usize);
                 seal(&mut self.file);
             }
             2 => {
@@ -186,7 +189,13 @@ impl Damage {
 
     fn strike_interval(&mut self, prng: &mut Prng, place: Where) {
         let intervals = self.intervals as u16;
-        let wrong = prng.pick(&[intervals, intervals, MOST_INTERVALS as u16, 0x0100, u16::MAX]);
+        let wrong = prng.pick(&[
+            intervals,
+            intervals,
+            MOST_INTERVALS as u16,
+            0x0100,
+            u16::MAX,
+        ]);
         self.set(self.row(place) + INTERVAL_IN, &wrong.to_be_bytes());
     }
 
@@ -258,7 +267,11 @@ pub fn random_bytes(prng: &mut Prng) -> Vec<u8> {
     if style > 2 {
         let job = job_at(0);
         patch(&mut file, job + NAME_IN, b"only-job");
-        patch(&mut file, job + GRADE_IN, &[1, 0, 0, 0, 0, 0, 0, 0, 9, 0, 0, 0, 9, 0, 2]);
+        patch(
+            &mut file,
+            job + GRADE_IN,
+            &[1, 0, 0, 0, 0, 0, 0, 0, 9, 0, 0, 0, 9, 0, 2],
+        );
     }
     file
 }

@@ -24,8 +24,11 @@ pub const INTERVAL_IN: usize = 9;
 pub const UNITS_IN: usize = 11;
 
 /// Lent lengths that are long enough for every plan, with places to spare.
-pub const AMPLE: Lent =
-    Lent { table: MOST_LENT_TABLE - 60, output: MOST_LENT_OUTPUT - 100, grants: MOST_LENT_GRANTS - 8 };
+pub const AMPLE: Lent = Lent {
+    table: MOST_LENT_TABLE - 60,
+    output: MOST_LENT_OUTPUT - 100,
+    grants: MOST_LENT_GRANTS - 8,
+};
 
 /// First, middle or last among the jobs, rows or intervals.
 #[derive(Clone, Copy, Debug, PartialEq, Eq)]
@@ -57,9 +60,17 @@ pub struct Draft {
 
 impl Draft {
     pub fn new(n: u16, d: u16, jobs: &[Job]) -> Draft {
-        let mut plan = Plan { n, d, count: jobs.len() as u64, ..Plan::zeros() };
+        let mut plan = Plan {
+            n,
+            d,
+            count: jobs.len() as u64,
+            ..Plan::zeros()
+        };
         plan.jobs[..jobs.len()].copy_from_slice(jobs);
-        Draft { plan, table: vec![0; TABLE_PLACES] }
+        Draft {
+            plan,
+            table: vec![0; TABLE_PLACES],
+        }
     }
 
     /// Gives each job the allotments of its row, from interval 0 on.
@@ -99,7 +110,13 @@ impl Draft {
 }
 
 pub fn job(name: &[u8; NAME_BYTES], grade: u8, release: u32, size: u64, deadline: u32) -> Job {
-    Job { name: *name, grade, release, size, deadline }
+    Job {
+        name: *name,
+        grade,
+        release,
+        size,
+        deadline,
+    }
 }
 
 /// Where the length byte of a job stands.

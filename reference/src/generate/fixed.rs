@@ -47,7 +47,11 @@ pub fn inputs() -> Vec<Input> {
 }
 
 fn of_file(file: Vec<u8>, speeds: &[u16]) -> Input {
-    Input::File(FileInput { lent: AMPLE, file, speeds: speeds.to_vec() })
+    Input::File(FileInput {
+        lent: AMPLE,
+        file,
+        speeds: speeds.to_vec(),
+    })
 }
 
 fn of_draft(draft: &Draft, speeds: &[u16]) -> Input {
@@ -69,7 +73,10 @@ fn cases() -> Vec<Input> {
         of_draft(&plan_e_with(&[2, 4, 0], &[0, 3, 5]), &run),
         of_draft(&plan_e_with(&[2, 4, 0], &[0, 2, 6]), &run),
         of_draft(&plan_e_with(&[2, 4, 0], &[0, 4, 3]), &run),
-        of_draft(&four_jobs(), &[2, 2, 2, 2, 2, 1, 1, 1, 1, 1, 1, 1, 1, 1, 1, 1, 1]),
+        of_draft(
+            &four_jobs(),
+            &[2, 2, 2, 2, 2, 1, 1, 1, 1, 1, 1, 1, 1, 1, 1, 1, 1],
+        ),
         of_draft(&three_jobs(&[0, 2]), &run),
         of_draft(&three_jobs(&[2, 0]), &run),
         of_draft(&plan_e_with(&[2, 3, 1], &[0, 4, 4]), &run),
@@ -152,7 +159,17 @@ fn wrong_lengths() -> Vec<Input> {
     let whole = plan_e().file();
     let right = whole.len() as u32 - 5;
     let mut inputs = Vec::new();
-    for length in [0, 1, right - 1, right + 1, right + 256, 30_951, 30_952, u32::MAX - 4, u32::MAX] {
+    for length in [
+        0,
+        1,
+        right - 1,
+        right + 1,
+        right + 256,
+        30_951,
+        30_952,
+        u32::MAX - 4,
+        u32::MAX,
+    ] {
         inputs.push(patched_e(LENGTH_AT, &length.to_be_bytes()));
     }
     for more in [1, 2, 4, 15] {
@@ -169,8 +186,21 @@ fn wrong_lengths() -> Vec<Input> {
 fn rate_bounds() -> Vec<Input> {
     let mut inputs = Vec::new();
     let rates: [(u16, u16); 15] = [
-        (2, 1), (3, 2), (1_000, 1), (1_000, 999), (999, 998), (1_000, 1_000), (1_001, 1),
-        (1_001, 1_000), (2, 2), (2, 3), (2, 0), (1, 0), (0, 0), (u16::MAX, 1), (258, 257),
+        (2, 1),
+        (3, 2),
+        (1_000, 1),
+        (1_000, 999),
+        (999, 998),
+        (1_000, 1_000),
+        (1_001, 1),
+        (1_001, 1_000),
+        (2, 2),
+        (2, 3),
+        (2, 0),
+        (1, 0),
+        (0, 0),
+        (u16::MAX, 1),
+        (258, 257),
     ];
     for (n, d) in rates {
         let mut bytes = n.to_be_bytes().to_vec();
@@ -191,7 +221,15 @@ fn job_bounds() -> Vec<Input> {
         for length in [0, 14, 20, 22, 255] {
             inputs.push(patched_e(at, &[length]));
         }
-        for (place, byte) in [(0, 0x20), (7, 0x20), (0, 0x7F), (7, 0x7F), (3, 0), (0, 0x21), (7, 0x7E)] {
+        for (place, byte) in [
+            (0, 0x20),
+            (7, 0x20),
+            (0, 0x7F),
+            (7, 0x7F),
+            (3, 0),
+            (0, 0x21),
+            (7, 0x7E),
+        ] {
             inputs.push(patched_e(at + NAME_IN + place, &[byte]));
         }
         for grade in [0, 1, 2, 255] {
@@ -200,7 +238,17 @@ fn job_bounds() -> Vec<Input> {
         for size in [0, 1, MOST_SIZE as u32, MOST_SIZE as u32 + 1, u32::MAX] {
             inputs.push(patched_e(at + SIZE_IN, &size.to_be_bytes()));
         }
-        for time in [0, 4, 5, 9, 10, MOST_DEADLINE - 1, MOST_DEADLINE, MOST_DEADLINE + 1, u32::MAX] {
+        for time in [
+            0,
+            4,
+            5,
+            9,
+            10,
+            MOST_DEADLINE - 1,
+            MOST_DEADLINE,
+            MOST_DEADLINE + 1,
+            u32::MAX,
+        ] {
             inputs.push(patched_e(at + RELEASE_IN, &time.to_be_bytes()));
             inputs.push(patched_e(at + DEADLINE_IN, &time.to_be_bytes()));
         }
@@ -220,7 +268,13 @@ fn row_bounds() -> Vec<Input> {
         for length in [0, 13, 15, 21, 255] {
             inputs.push(patched_e(at, &[length]));
         }
-        for name in [b"Mirror-A", b"mirror-A", b"MIRROR-A", b"Mirror-B", b"mirror-a"] {
+        for name in [
+            b"Mirror-A",
+            b"mirror-A",
+            b"MIRROR-A",
+            b"Mirror-B",
+            b"mirror-a",
+        ] {
             inputs.push(patched_e(at + NAME_IN, name));
         }
         for interval in [0, 1, 2, 3, 62, 63, 256, u16::MAX] {
@@ -282,10 +336,19 @@ fn wide_sums() -> Vec<Input> {
     ];
     for grade in [LO, HI] {
         let jobs: Vec<Job> = (0..MOST_JOBS)
-            .map(|i| Job { name: [b'a' + i as u8 % 26, b'A' + i as u8, 33, 33, 33, 33, 33, 33], grade, release: 0, size: MOST_SIZE, deadline: MOST_DEADLINE })
+            .map(|i| Job {
+                name: [b'a' + i as u8 % 26, b'A' + i as u8, 33, 33, 33, 33, 33, 33],
+                grade,
+                release: 0,
+                size: MOST_SIZE,
+                deadline: MOST_DEADLINE,
+            })
             .collect();
         let row: &[u32] = &[MOST_SIZE as u32];
-        inputs.push(of_draft(&Draft::new(1_000, 1, &jobs).with_rows(&[row; MOST_JOBS]), &[1]));
+        inputs.push(of_draft(
+            &Draft::new(1_000, 1, &jobs).with_rows(&[row; MOST_JOBS]),
+            &[1],
+        ));
     }
     inputs
 }
@@ -297,7 +360,13 @@ fn full_draft() -> Draft {
         .enumerate()
         .map(|(i, &(release, deadline))| {
             let name = [b'!' + i as u8, 0x7E, 0x21, 0x7E, 0x21, 0x7E, 0x21, 0x7E];
-            job(&name, if i % 2 == 0 { HI } else { LO }, release, 1, deadline)
+            job(
+                &name,
+                if i % 2 == 0 { HI } else { LO },
+                release,
+                1,
+                deadline,
+            )
         })
         .collect();
     let row: &[u32] = &[1; MOST_INTERVALS];
@@ -319,7 +388,9 @@ fn widest_files() -> Vec<Input> {
             }
         }
     }
-    let run: Vec<u16> = (0..66).map(|slot| if slot < 40 { 1_000 } else { 500 }).collect();
+    let run: Vec<u16> = (0..66)
+        .map(|slot| if slot < 40 { 1_000 } else { 500 })
+        .collect();
     inputs.push(of_draft(&largest, &run));
     for input in 0..6 {
         let mut prng = Prng::new(SEED, input);
@@ -334,7 +405,15 @@ fn short_buffers() -> Vec<Input> {
     let file = plan_e().file();
     let exact = file.len();
     let mut lents = Vec::new();
-    for table in [0, 1, 63, TABLE_PLACES - 1, TABLE_PLACES, TABLE_PLACES + 1, MOST_LENT_TABLE] {
+    for table in [
+        0,
+        1,
+        63,
+        TABLE_PLACES - 1,
+        TABLE_PLACES,
+        TABLE_PLACES + 1,
+        MOST_LENT_TABLE,
+    ] {
         lents.push(Lent { table, ..AMPLE });
     }
     for output in [0, 1, 5, exact - 1, exact, exact + 1] {
@@ -345,8 +424,15 @@ fn short_buffers() -> Vec<Input> {
     }
     let mut inputs = Vec::new();
     for lent in lents {
-        let whole = FileInput { lent, file: file.clone(), speeds: vec![2, 2, 3, 1] };
-        let broken = FileInput { file: file[..40].to_vec(), ..whole.clone() };
+        let whole = FileInput {
+            lent,
+            file: file.clone(),
+            speeds: vec![2, 2, 3, 1],
+        };
+        let broken = FileInput {
+            file: file[..40].to_vec(),
+            ..whole.clone()
+        };
         let at_end = in_hand(&plan_e(), &[2, 3]);
         inputs.push(Input::File(whole));
         inputs.push(Input::File(broken));
@@ -401,7 +487,15 @@ fn twists() -> Vec<Input> {
 fn hand_bounds() -> Vec<Input> {
     let mut inputs = Vec::new();
     for clock in [0, 1, 4, 5, 9, 10, 11, u32::MAX] {
-        for carried in [[0, 0], [6, 8], [5, 8], [6, 7], [7, 0], [0, 9], [u32::MAX, 0]] {
+        for carried in [
+            [0, 0],
+            [6, 8],
+            [5, 8],
+            [6, 7],
+            [7, 0],
+            [0, 9],
+            [u32::MAX, 0],
+        ] {
             for slow in [false, true] {
                 let mut input = in_hand(&plan_e(), &[2, 3, 2, 0, 1]);
                 input.run.clock = clock;

@@ -60,7 +60,12 @@ pub fn in_hand(draft: &Draft, speeds: &[u16]) -> HandInput {
         lent: AMPLE,
         plan: draft.plan.clone(),
         table: draft.table.clone(),
-        run: Run { clock, slow: false, below_floor: false, carried: [0; MOST_JOBS] },
+        run: Run {
+            clock,
+            slow: false,
+            below_floor: false,
+            carried: [0; MOST_JOBS],
+        },
         speeds: speeds.to_vec(),
     }
 }
@@ -107,7 +112,13 @@ fn set_clock(prng: &mut Prng, input: &mut HandInput, boundaries: &[u32]) {
 
 /// Does one twist; places and records are those of the plan as it was counted at first.
 pub fn twist_input(prng: &mut Prng, input: &mut HandInput, twist: Twist, place: Where) {
-    let jobs = input.plan.jobs.iter().filter(|job| job.deadline > 0).count().max(1);
+    let jobs = input
+        .plan
+        .jobs
+        .iter()
+        .filter(|job| job.deadline > 0)
+        .count()
+        .max(1);
     let i = place.index(jobs);
     match twist {
         Twist::Rates => twist_rates(prng, &mut input.plan),
@@ -137,7 +148,16 @@ pub fn twist_input(prng: &mut Prng, input: &mut HandInput, twist: Twist, place: 
 
 fn twist_rates(prng: &mut Prng, plan: &mut Plan) {
     let n = plan.n;
-    let pairs = [(n, n), (n, 0), (0, 0), (1, 1), (1_001, 1), (u16::MAX, 1), (n, 1_000), (1_001, 1_001)];
+    let pairs = [
+        (n, n),
+        (n, 0),
+        (0, 0),
+        (1, 1),
+        (1_001, 1),
+        (u16::MAX, 1),
+        (n, 1_000),
+        (1_001, 1_001),
+    ];
     let (n, d) = prng.pick(&pairs);
     plan.n = n;
     plan.d = d;
@@ -146,7 +166,15 @@ fn twist_rates(prng: &mut Prng, plan: &mut Plan) {
 /// No job, one too many, or the right count with a bit beyond some narrower type.
 fn twist_count(prng: &mut Prng, plan: &mut Plan) {
     let count = plan.count;
-    let counts = [0, 33, 64, count | 1 << 8, count | 1 << 16, count | 1 << 32, u64::MAX];
+    let counts = [
+        0,
+        33,
+        64,
+        count | 1 << 8,
+        count | 1 << 16,
+        count | 1 << 32,
+        u64::MAX,
+    ];
     plan.count = prng.pick(&counts);
 }
 
@@ -193,7 +221,14 @@ fn set_place(input: &mut HandInput, place: usize, units: u32) {
 }
 
 fn twist_table_length(prng: &mut Prng, input: &mut HandInput) {
-    let lengths = [0, 1, TABLE_PLACES - 1, TABLE_PLACES, TABLE_PLACES + 1, MOST_LENT_TABLE];
+    let lengths = [
+        0,
+        1,
+        TABLE_PLACES - 1,
+        TABLE_PLACES,
+        TABLE_PLACES + 1,
+        MOST_LENT_TABLE,
+    ];
     let length = prng.pick(&lengths);
     input.lent.table = length;
     input.table.truncate(length);
@@ -214,8 +249,15 @@ fn twist_clock(prng: &mut Prng, input: &mut HandInput) {
     let first = used.clone().map(|job| job.release).min().unwrap_or(0);
     let last = used.map(|job| job.deadline).max().unwrap_or(0);
     let before_first = first.saturating_sub(1);
-    let clocks =
-        [before_first, first, last.saturating_sub(1), last, last, last.saturating_add(1), u32::MAX];
+    let clocks = [
+        before_first,
+        first,
+        last.saturating_sub(1),
+        last,
+        last,
+        last.saturating_add(1),
+        u32::MAX,
+    ];
     input.run.clock = prng.pick(&clocks);
 }
 
@@ -227,7 +269,9 @@ fn twist_carried(prng: &mut Prng, input: &mut HandInput, position: usize) {
 
 /// Allotments that no judge would take, with prefixes that pass 2^32.
 fn wild_table(prng: &mut Prng, input: &mut HandInput, jobs: usize) {
-    let intervals = intervals(&input.plan.jobs[..jobs]).len().clamp(1, MOST_INTERVALS);
+    let intervals = intervals(&input.plan.jobs[..jobs])
+        .len()
+        .clamp(1, MOST_INTERVALS);
     for _ in 0..prng.between(1, 8) {
         let place = place_of(prng.index(jobs), prng.index(intervals));
         let units = match prng.below(3) {
@@ -242,7 +286,11 @@ fn wild_table(prng: &mut Prng, input: &mut HandInput, jobs: usize) {
 /// Rubbish in the records from the count on and in what a run carries for them.
 pub fn rubbish(prng: &mut Prng, input: &mut HandInput) {
     let jobs = input.plan.count.min(MOST_JOBS as u64) as usize;
-    let records = if prng.once_in(4) { MOST_JOBS } else { (jobs + 3).min(MOST_JOBS) };
+    let records = if prng.once_in(4) {
+        MOST_JOBS
+    } else {
+        (jobs + 3).min(MOST_JOBS)
+    };
     for i in jobs..records {
         let job = &mut input.plan.jobs[i];
         job.name = prng.next().to_be_bytes();

@@ -11,8 +11,8 @@ mod speeds;
 
 use std::io::{self, Write};
 
-use crate::record::{put, FileInput, Input, Lent, MOST_LENT_TABLE};
 use crate::edition::TABLE_PLACES;
+use crate::record::{put, FileInput, Input, Lent, MOST_LENT_TABLE};
 use crate::refusal::{ROW_ORDER, VERSION};
 use draft::{Draft, AMPLE, EVERYWHERE};
 use prng::Prng;
@@ -52,7 +52,11 @@ fn drawn(seed: u64, number: u64) -> Input {
 }
 
 fn of_file(file: Vec<u8>) -> Input {
-    Input::File(FileInput { lent: AMPLE, file, speeds: vec![2, 1] })
+    Input::File(FileInput {
+        lent: AMPLE,
+        file,
+        speeds: vec![2, 1],
+    })
 }
 
 /// A draft as a file with the speeds of a run, now and then with scant buffers.
@@ -62,13 +66,22 @@ fn run_of(prng: &mut Prng, draft: &Draft) -> Input {
     if prng.once_in(10) {
         lent = scant(prng, file.len(), draft.jobs());
     }
-    Input::File(FileInput { lent, file, speeds: speeds::speeds(prng, &draft.plan) })
+    Input::File(FileInput {
+        lent,
+        file,
+        speeds: speeds::speeds(prng, &draft.plan),
+    })
 }
 
 /// Buffers around the lengths that a plan needs.
 fn scant(prng: &mut Prng, exact: usize, jobs: usize) -> Lent {
     Lent {
-        table: prng.pick(&[TABLE_PLACES, TABLE_PLACES, TABLE_PLACES - 1, MOST_LENT_TABLE]),
+        table: prng.pick(&[
+            TABLE_PLACES,
+            TABLE_PLACES,
+            TABLE_PLACES - 1,
+            MOST_LENT_TABLE,
+        ]),
         output: prng.pick(&[exact, exact - 1, exact + 1, 0]),
         grants: prng.pick(&[jobs, jobs - 1, jobs + 1, 0]),
     }

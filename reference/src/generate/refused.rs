@@ -49,7 +49,11 @@ fn is_refused_at(draft: &Draft, number: u8, place: Where) -> bool {
         Err(refusal) => refusal,
     };
     let of_jobs = number == OUTSIDE_WINDOW || number == NOT_THE_SIZE;
-    let length = if of_jobs { draft.jobs() } else { draft.intervals().len() };
+    let length = if of_jobs {
+        draft.jobs()
+    } else {
+        draft.intervals().len()
+    };
     let last = (length - 1) as u64;
     refusal.number == number
         && match place {
@@ -100,7 +104,9 @@ fn spoil_size(prng: &mut Prng, draft: &mut Draft, place: Where) {
 /// Fills an interval to one unit above its room, or far above, sizes following.
 fn spoil_interval(prng: &mut Prng, draft: &mut Draft, place: Where) {
     let j = place.index(draft.intervals().len());
-    let covering: Vec<usize> = (0..draft.jobs()).filter(|&i| covered(draft, i).contains(&j)).collect();
+    let covering: Vec<usize> = (0..draft.jobs())
+        .filter(|&i| covered(draft, i).contains(&j))
+        .collect();
     if covering.is_empty() {
         return;
     }
@@ -125,7 +131,11 @@ fn spoil_floor(prng: &mut Prng, draft: &mut Draft, place: Where) {
     let least = rooms.of_floor(&draft.plan.jobs[i], j) + 1;
     let most = rooms.of_interval(j);
     if least <= most {
-        let units = if prng.once_in(2) { least } else { prng.between(least, most) };
+        let units = if prng.once_in(2) {
+            least
+        } else {
+            prng.between(least, most)
+        };
         add(draft, i, j, units);
     }
 }

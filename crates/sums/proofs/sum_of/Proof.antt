@@ -18,8 +18,8 @@ inside-is-all : (l : List ℕ) (start stride r count : ℕ) → r ≤ count
 inside-is-all l start stride r count few outside =
     let f : ℕ → ℕ = strided l start stride in
     let rest : sum (λ k. f (r + k)) (count - r) ≡ 0
-          = sum-none (λ k. f (r + k)) (count - r)
-            (λ k h. List·getD-eq-default l 0 (outside (r + k) (omega arith) (omega arith))) in
+    = sum-none (λ k. f (r + k)) (count - r)
+    (λ k h. List·getD-eq-default l 0 (outside (r + k) (omega arith) (omega arith))) in
     let whole : r + (count - r) ≡ count = omega arith in
     omega (arith, sum-split f r (count - r), ap (sum f) whole)
 

@@ -41,10 +41,11 @@ loop-less : tie.Need-loop-less Inv-loop μ-loop
 loop-less c = omega arith
 
 loop-again : tie.Need-loop-again Inv-loop μ-loop
-loop-again c =
-    (omega arith,
-      every-next _ (c .before .before .before .before .loop .i) (c .before .before .before .before .loop .inv .1)
-      (ap₂ _&&_ (c .before .window-allowed .ensures) (c .size-allowed .ensures)))
+loop-again c = (
+  omega arith,
+  every-next _ (c .before .before .before .before .loop .i) (c .before .before .before .before .loop .inv .1)
+      (ap₂ _&&_ (c .before .window-allowed .ensures) (c .size-allowed .ensures)),
+)
 
 returns : tie.Need-returns Inv-loop μ-loop
 unfolding boundsHold

@@ -58,10 +58,11 @@ loop-again : tie.Need-loop-again Inv-loop μ-loop
 loop-again c =
     let row = c .before .before .before .before .names-of .result in
     let n : length row ≡ mostJobs = c .before .before .before .before .names-of .ok .1 .0 .1 in
-    let i = c .before .before .before .loop .i in
-    (omega arith,
+    let i = c .before .before .before .loop .i in (
+      omega arith,
       every-next _ i (c .before .before .before .loop .inv .1)
-      (c .is-absent .ensures ∙ absent-before row i (getD row i 0) (omega arith)))
+          (c .is-absent .ensures ∙ absent-before row i (getD row i 0) (omega arith)),
+    )
 
 returns : tie.Need-returns Inv-loop μ-loop
 unfolding namesDiffer
@@ -70,7 +71,7 @@ returns c =
     let whole : c .before .loop .i ≡ counted p = omega arith in
     rw (c .before .before .names-of .ensures) at (c .before .loop .inv .1) ∙ ap (every _) whole
     ∙ every-ext _ _ (counted p)
-      (λ j l. every-ext _ _ j (λ k l′. rw (name-at p k, name-at p j) refl))
+    (λ j l. every-ext _ _ j (λ k l′. rw (name-at p k, name-at p j) refl))
 
 pub names-differ-spec : {M : Type 1} → statement M
 names-differ-spec =

@@ -55,7 +55,7 @@ loop-again c =
     let inv = c .before .before .before .loop .inv in
     let p = c .before .before .before .before .args .t1 in
     let n : length (p .jobs) ≡ mostJobs
-          = sym (length-map (p .jobs) _) ∙ c .before .before .before .before .good .0 .1 .1 .1 .1 .1 .0 .1 .0 .1 in
+    = sym (length-map (p .jobs) _) ∙ c .before .before .before .before .good .0 .1 .1 .1 .1 .1 .0 .1 .0 .1 in
     (omega arith, simp length-set (inv .1), one-more p (c .before .before .before .loop .row) (c .before .before .before .loop .i) (omega arith) (omega arith) (inv .2))
 
 returns : tie.Need-returns Inv-loop μ-loop

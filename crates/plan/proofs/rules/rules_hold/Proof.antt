@@ -26,9 +26,14 @@ bounds-hold-requires c κs = search needs
 returns : tie.Need-returns
 unfolding rulesHold
 returns c =
-    rw (c .bounds-hold .ensures, c .before .grades-hold .ensures, c .before .before .names-differ .ensures,
-    c .before .before .before .names-hold .ensures, c .before .before .before .before .count-allowed .ensures,
-    c .before .before .before .before .before .rates-allowed .ensures)
+    rw (
+      c .bounds-hold .ensures,
+      c .before .grades-hold .ensures,
+      c .before .before .names-differ .ensures,
+      c .before .before .before .names-hold .ensures,
+      c .before .before .before .before .count-allowed .ensures,
+      c .before .before .before .before .before .rates-allowed .ensures,
+    )
 
 pub rules-hold-spec : {M : Type 1} → statement M
 rules-hold-spec =

@@ -14,9 +14,11 @@ cast-t4 c = search needs
 
 mul-t5 : tie.Need-mul-t5
 mul-t5 c =
-    omega (arith,
-    mul-le-mul {n₁ = c .before .before .args .self .0} {m₁ = c .before .before .args .time .0} {n₂ = 65535} {m₂ = 4294967295}
-    (omega arith) (omega arith))
+    omega (
+      arith,
+      mul-le-mul {n₁ = c .before .before .args .self .0} {m₁ = c .before .before .args .time .0} {n₂ = 65535} {m₂ = 4294967295}
+          (omega arith) (omega arith),
+    )
 
 returns : tie.Need-returns
 returns c = search needs

@@ -1,0 +1,153 @@
+//! What several tests share: plan E as bytes written by hand and as a plan in hand, and buffers.
+
+use reference::edition::{HI, LO, TABLE_PLACES};
+use reference::plan::{Job, Plan};
+use reference::reader::reader;
+use reference::run::Run;
+
+/// Where the parts of plan E's file stand.
+pub const JOB_0: usize = 10;
+pub const JOB_1: usize = 32;
+pub const ROW_COUNT: usize = 54;
+pub const ROW_0: usize = 56;
+pub const ROW_1: usize = 71;
+pub const ROW_2: usize = 86;
+pub const ROW_3: usize = 101;
+
+/// Plan E as a file, byte for byte.
+pub fn e_file() -> Vec<u8> {
+    let parts: [&[u8]; 14] = [
+        &[1, 0, 0, 0, 111, 0, 2, 0, 1, 2],
+        &[21],
+        b"Mirror-A",
+        &[0, 0, 0, 0, 0, 0, 0, 0, 6, 0, 0, 0, 5],
+        &[21],
+        b"mirror-A",
+        &[1, 0, 0, 0, 1, 0, 0, 0, 8, 0, 0, 0, 10],
+        &[0, 4],
+        b"\x0EMirror-A",
+        &[0, 0, 0, 0, 0, 2],
+        b"\x0EMirror-A\x00\x01\x00\x00\x00\x04",
+        b"\x0Emirror-A\x00\x01\x00\x00\x00\x04",
+        b"\x0Emirror-A",
+        &[0, 2, 0, 0, 0, 4],
+    ];
+    parts.concat()
+}
+
+/// Plan E's file with bytes replaced.
+pub fn e_with(at: usize, bytes: &[u8]) -> Vec<u8> {
+    replaced(e_file(), at, bytes)
+}
+
+pub fn replaced(mut file: Vec<u8>, at: usize, bytes: &[u8]) -> Vec<u8> {
+    file[at..at + bytes.len()].copy_from_slice(bytes);
+    file
+}
+
+/// The file with a length field that agrees with its bytes.
+pub fn sealed(file: Vec<u8>) -> Vec<u8> {
+    let length = (file.len() - 5) as u32;
+    replaced(file, 1, &length.to_be_bytes())
+}
+
+/// The reader's answer, table and plan apart.
+pub fn answer(file: &[u8]) -> u8 {
+    reader(file, &mut table()).0
+}
+
+/// A table of zeros, exactly as long as needed.
+pub fn table() -> Vec<u32> {
+    vec![0; TABLE_PLACES]
+}
+
+/// A table with rows laid down by hand.
+pub fn table_of(rows: &[&[u32]]) -> Vec<u32> {
+    let mut table = table();
+    for (i, row) in rows.iter().enumerate() {
+        table[63 * i..63 * i + row.len()].copy_from_slice(row);
+    }
+    table
+}
+
+pub fn hi(name: &[u8; 8], release: u32, size: u64, deadline: u32) -> Job {
+    Job {
+        name: *name,
+        grade: HI,
+        release,
+        size,
+        deadline,
+    }
+}
+
+pub fn lo(name: &[u8; 8], release: u32, size: u64, deadline: u32) -> Job {
+    Job {
+        name: *name,
+        grade: LO,
+        release,
+        size,
+        deadline,
+    }
+}
+
+/// A plan with rates 2 and 1.
+pub fn plan_of(jobs: &[Job]) -> Plan {
+    let mut plan = Plan {
+        n: 2,
+        d: 1,
+        count: jobs.len() as u64,
+        ..Plan::zeros()
+    };
+    plan.jobs[..jobs.len()].copy_from_slice(jobs);
+    plan
+}
+
+/// Plan E in hand.
+pub fn e_plan() -> Plan {
+    plan_of(&[lo(b"Mirror-A", 0, 6, 5), hi(b"mirror-A", 1, 8, 10)])
+}
+
+pub fn e_table() -> Vec<u32> {
+    table_of(&[&[2, 4, 0], &[0, 4, 4]])
+}
+
+/// A run of plan E made by hand.
+pub fn e_run(clock: u32, slow: bool, carried: [u32; 2]) -> Run {
+    let mut run = Run {
+        clock,
+        slow,
+        below_floor: false,
+        carried: [0; 32],
+    };
+    run.carried[..2].copy_from_slice(&carried);
+    run
+}
+
+/// Each way to break one of the rules 4 to 9 in hand, with the rule's number.
+pub fn broken_plans() -> Vec<(u8, Plan)> {
+    let mut plans = Vec::new();
+    let mut add = |rule: u8, change: &dyn Fn(&mut Plan)| {
+        let mut plan = e_plan();
+        change(&mut plan);
+        plans.push((rule, plan));
+    };
+    add(4, &|plan| plan.d = 0);
+    add(4, &|plan| plan.d = 2);
+    add(4, &|plan| plan.n = 1_001);
+    add(5, &|plan| plan.count = 0);
+    add(5, &|plan| plan.count = 33);
+    add(5, &|plan| plan.count = 258);
+    add(5, &|plan| plan.count = (1 << 32) + 2);
+    add(5, &|plan| plan.count = u64::MAX);
+    add(6, &|plan| plan.jobs[0].name[7] = 0x20);
+    add(6, &|plan| plan.jobs[1].name[0] = 0x7F);
+    add(7, &|plan| plan.jobs[1].name = *b"Mirror-A");
+    add(8, &|plan| plan.jobs[0].grade = 2);
+    add(8, &|plan| plan.jobs[1].grade = 255);
+    add(9, &|plan| plan.jobs[0].release = 5);
+    add(9, &|plan| plan.jobs[1].deadline = 100_001);
+    add(9, &|plan| plan.jobs[0].size = 0);
+    add(9, &|plan| plan.jobs[1].size = 100_000_001);
+    add(9, &|plan| plan.jobs[1].size = (1 << 32) + 8);
+    plans
+}

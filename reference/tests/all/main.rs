@@ -1,0 +1,15 @@
+//! The tests of the reference, one file for each call or group of cases.
+
+mod cases;
+mod common;
+mod floor;
+mod generated;
+mod judge;
+mod lookup;
+mod outcome;
+mod program;
+mod reader;
+mod slack;
+mod step;
+mod verdicts;
+mod writer;
