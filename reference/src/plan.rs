@@ -114,12 +114,12 @@ pub fn rates_hold(n: u16, d: u16) -> bool {
 }
 
 pub fn count_holds(count: u64) -> bool {
-    1 <= count && count <= MOST_JOBS as u64
+    (1..=MOST_JOBS as u64).contains(&count)
 }
 
 pub fn name_bytes_hold(name: &[u8; NAME_BYTES]) -> bool {
-    name.iter()
-        .all(|&byte| LEAST_NAME_BYTE <= byte && byte <= MOST_NAME_BYTE)
+    let allowed = LEAST_NAME_BYTE..=MOST_NAME_BYTE;
+    name.iter().all(|byte| allowed.contains(byte))
 }
 
 pub fn name_is_new(name: &[u8; NAME_BYTES], earlier: &[Job]) -> bool {

@@ -15,7 +15,7 @@ use crate::edition::{
     HI, LO, MOST_DEADLINE, MOST_INTERVALS, MOST_JOBS, MOST_ROWS, MOST_SIZE, TABLE_PLACES,
 };
 use crate::plan::{place_of, Job};
-use crate::record::{FileInput, Input, Lent, MOST_LENT_TABLE};
+use crate::record::{FileInput, HandInput, Input, Lent, MOST_LENT_TABLE};
 use crate::refusal::{ROW_ORDER, VERSION};
 
 /// The seed of everything in this file that is drawn.
@@ -37,6 +37,7 @@ pub fn inputs() -> Vec<Input> {
         job_bounds(),
         row_bounds(),
         judge_bounds(),
+        every_width(),
         widest_files(),
         short_buffers(),
         damages(),
@@ -213,44 +214,33 @@ fn rate_bounds() -> Vec<Input> {
     inputs
 }
 
+/// Plan E with each of these bytes at one place.
+fn bytes_at(at: usize, bytes: &[u8]) -> Vec<Input> {
+    bytes.iter().map(|&byte| patched_e(at, &[byte])).collect()
+}
+
+/// Plan E with each of these numbers of four bytes at one place.
+fn numbers_at(at: usize, numbers: &[u32]) -> Vec<Input> {
+    let patched = |number: &u32| patched_e(at, &number.to_be_bytes());
+    numbers.iter().map(patched).collect()
+}
+
 /// Fields of the first and the last job of plan E at their bounds and one past each.
 fn job_bounds() -> Vec<Input> {
+    let name_bytes = [0, 0x20, 0x21, 0x7E, 0x7F, 0xFF];
+    let sizes = [0, 1, MOST_SIZE as u32, MOST_SIZE as u32 + 1, u32::MAX];
+    let latest = [MOST_DEADLINE - 1, MOST_DEADLINE, MOST_DEADLINE + 1];
     let mut inputs = Vec::new();
     for position in [0, 1] {
         let at = job_at(position);
-        for length in [0, 14, 20, 22, 255] {
-            inputs.push(patched_e(at, &[length]));
-        }
-        for (place, byte) in [
-            (0, 0x20),
-            (7, 0x20),
-            (0, 0x7F),
-            (7, 0x7F),
-            (3, 0),
-            (0, 0x21),
-            (7, 0x7E),
-        ] {
-            inputs.push(patched_e(at + NAME_IN + place, &[byte]));
-        }
-        for grade in [0, 1, 2, 255] {
-            inputs.push(patched_e(at + GRADE_IN, &[grade]));
-        }
-        for size in [0, 1, MOST_SIZE as u32, MOST_SIZE as u32 + 1, u32::MAX] {
-            inputs.push(patched_e(at + SIZE_IN, &size.to_be_bytes()));
-        }
-        for time in [
-            0,
-            4,
-            5,
-            9,
-            10,
-            MOST_DEADLINE - 1,
-            MOST_DEADLINE,
-            MOST_DEADLINE + 1,
-            u32::MAX,
-        ] {
-            inputs.push(patched_e(at + RELEASE_IN, &time.to_be_bytes()));
-            inputs.push(patched_e(at + DEADLINE_IN, &time.to_be_bytes()));
+        inputs.extend(bytes_at(at, &[0, 14, 20, 22, 255]));
+        inputs.extend(bytes_at(at + NAME_IN, &name_bytes));
+        inputs.extend(bytes_at(at + NAME_IN + 7, &name_bytes));
+        inputs.extend(bytes_at(at + GRADE_IN, &[0, 1, 2, 255]));
+        inputs.extend(numbers_at(at + SIZE_IN, &sizes));
+        for field in [RELEASE_IN, DEADLINE_IN] {
+            inputs.extend(numbers_at(at + field, &[0, 4, 5, 9, 10, u32::MAX]));
+            inputs.extend(numbers_at(at + field, &latest));
         }
     }
     inputs.push(patched_e(job_at(1) + NAME_IN, b"Mirror-A"));
@@ -259,30 +249,20 @@ fn job_bounds() -> Vec<Input> {
 
 /// The row count and the fields of each row of plan E at their bounds and one past each.
 fn row_bounds() -> Vec<Input> {
+    let names = [b"Mirror-A", b"mirror-A", b"MIRROR-A", b"Mirror-B"];
     let mut inputs = Vec::new();
     for count in [0, 3, 5, MOST_ROWS as u16, MOST_ROWS as u16 + 1, u16::MAX] {
         inputs.push(patched_e(row_count_at(2), &count.to_be_bytes()));
     }
     for row in 0..4 {
         let at = row_at(2, row);
-        for length in [0, 13, 15, 21, 255] {
-            inputs.push(patched_e(at, &[length]));
-        }
-        for name in [
-            b"Mirror-A",
-            b"mirror-A",
-            b"MIRROR-A",
-            b"Mirror-B",
-            b"mirror-a",
-        ] {
-            inputs.push(patched_e(at + NAME_IN, name));
-        }
+        inputs.extend(bytes_at(at, &[0, 13, 15, 21, 255]));
+        inputs.extend(names.map(|name| patched_e(at + NAME_IN, name)));
         for interval in [0, 1, 2, 3, 62, 63, 256, u16::MAX] {
             inputs.push(patched_e(at + INTERVAL_IN, &interval.to_be_bytes()));
         }
-        for units in [0, 1, 3, MOST_SIZE as u32, 1 << 31, u32::MAX] {
-            inputs.push(patched_e(at + UNITS_IN, &units.to_be_bytes()));
-        }
+        let units = [0, 1, 3, MOST_SIZE as u32, 1 << 31, u32::MAX];
+        inputs.extend(numbers_at(at + UNITS_IN, &units));
     }
     inputs
 }
@@ -349,6 +329,28 @@ fn wide_sums() -> Vec<Input> {
             &Draft::new(1_000, 1, &jobs).with_rows(&[row; MOST_JOBS]),
             &[1],
         ));
+    }
+    inputs
+}
+
+/// An accepted plan for each number of intervals, with as few jobs as can make them and one more.
+fn every_width() -> Vec<Input> {
+    let mut inputs = Vec::new();
+    for intervals in 1..=MOST_INTERVALS {
+        let jobs = (intervals / 2 + 1 + intervals % 2).min(MOST_JOBS);
+        let mut prng = Prng::new(SEED, intervals as u64);
+        let mut draft = accepted_of(&mut prng, jobs, intervals + 1);
+        while draft.intervals().len() != intervals {
+            draft = accepted_of(&mut prng, jobs, intervals + 1);
+        }
+        let run = [
+            draft.plan.n,
+            draft.plan.n,
+            draft.plan.n,
+            draft.plan.d,
+            draft.plan.d,
+        ];
+        inputs.push(of_draft(&draft, &run));
     }
     inputs
 }
@@ -433,16 +435,16 @@ fn short_buffers() -> Vec<Input> {
             file: file[..40].to_vec(),
             ..whole.clone()
         };
-        let at_end = in_hand(&plan_e(), &[2, 3]);
+        let at_end = at_the_end(in_hand(&plan_e(), &[2, 3]), lent);
         inputs.push(Input::File(whole));
         inputs.push(Input::File(broken));
-        inputs.push(Input::Hand(Box::new(with_lent(at_end, lent))));
+        inputs.push(Input::Hand(Box::new(at_end)));
     }
     inputs
 }
 
 /// The same plan in hand with its clock at the last deadline and other buffers.
-fn with_lent(mut input: crate::record::HandInput, lent: Lent) -> crate::record::HandInput {
+fn at_the_end(mut input: HandInput, lent: Lent) -> HandInput {
     input.lent = lent;
     input.table.truncate(lent.table);
     input.run.clock = 10;

@@ -112,13 +112,7 @@ fn set_clock(prng: &mut Prng, input: &mut HandInput, boundaries: &[u32]) {
 
 /// Does one twist; places and records are those of the plan as it was counted at first.
 pub fn twist_input(prng: &mut Prng, input: &mut HandInput, twist: Twist, place: Where) {
-    let jobs = input
-        .plan
-        .jobs
-        .iter()
-        .filter(|job| job.deadline > 0)
-        .count()
-        .max(1);
+    let jobs = records_in_use(&input.plan);
     let i = place.index(jobs);
     match twist {
         Twist::Rates => twist_rates(prng, &mut input.plan),
@@ -146,6 +140,12 @@ pub fn twist_input(prng: &mut Prng, input: &mut HandInput, twist: Twist, place: 
     }
 }
 
+/// How many records hold a job; the count itself may have been twisted already.
+fn records_in_use(plan: &Plan) -> usize {
+    let used = plan.jobs.iter().filter(|job| job.deadline > 0);
+    used.count().max(1)
+}
+
 fn twist_rates(prng: &mut Prng, plan: &mut Plan) {
     let n = plan.n;
     let pairs = [
@@ -166,16 +166,11 @@ fn twist_rates(prng: &mut Prng, plan: &mut Plan) {
 /// No job, one too many, or the right count with a bit beyond some narrower type.
 fn twist_count(prng: &mut Prng, plan: &mut Plan) {
     let count = plan.count;
-    let counts = [
-        0,
-        33,
-        64,
-        count | 1 << 8,
-        count | 1 << 16,
-        count | 1 << 32,
-        u64::MAX,
-    ];
-    plan.count = prng.pick(&counts);
+    let widened = [count | 1 << 8, count | 1 << 16, count | 1 << 32];
+    plan.count = match prng.below(2) {
+        0 => prng.pick(&[0, 33, 64, u64::MAX]),
+        _ => prng.pick(&widened),
+    };
 }
 
 fn twist_times_or_size(prng: &mut Prng, plan: &mut Plan, position: usize) {

@@ -21,7 +21,7 @@ use refused::PLACED;
 /// Seed of the stored set.
 pub const STORED_SEED: u64 = 20_260_101;
 /// Number of inputs of the stored set.
-pub const STORED_COUNT: u64 = 6_400;
+pub const STORED_COUNT: u64 = 10_000;
 
 /// Writes so many inputs; the same seed gives the same bytes on every machine.
 pub fn generate(seed: u64, count: u64, output: &mut impl Write) -> io::Result<()> {

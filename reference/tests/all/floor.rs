@@ -9,7 +9,7 @@ use reference::refusal::DONE;
 use reference::slack::essential_deadlines;
 
 /// Inputs looked at; most of the later ones are drawn.
-const INPUTS: u64 = 4_000;
+const INPUTS: u64 = 8_000;
 const SEED: u64 = 5;
 
 /// All plans among generated inputs that keep every rule before the floor rule.

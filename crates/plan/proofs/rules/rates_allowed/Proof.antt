@@ -1,0 +1,10 @@
+-- `plan::rules::rates_allowed` meets its contract: the code's test is the definition's.
+use mathlib.Core.Path.{refl}
+use Rattle.plan.proofs.rules.rates_allowed.Statement.{statement}
+use Rattle.plan.proofs.rules.rates_allowed.Tie as tie
+
+returns : tie.Need-returns
+returns c = refl
+
+pub rates-allowed-spec : {M : Type 1} → statement M
+rates-allowed-spec = tie.close (tie.spec returns)
