@@ -26,11 +26,11 @@ countAllowed count = leb 1 count && leb count mostJobs
 
 -- A name is eight bytes, taken as one number; this is its byte k, counted from the last.
 abbrev pub byteOf : ℕ → ℕ → ℕ
-byteOf name k = name / 256 ^ k % 256
+byteOf x k = x / 256 ^ k % 256
 
 -- Rule 6: each of a name's eight bytes lies from 0x21 to 0x7E.
 unfoldable pub nameAllowed : ℕ → Bool
-nameAllowed name = every (λ k. leb 0x21 (byteOf name k) && leb (byteOf name k) 0x7E) 8
+nameAllowed x = every (λ k. leb 0x21 (byteOf x k) && leb (byteOf x k) 0x7E) 8
 
 -- Names are the same when the numbers are. (proofs/Names: exactly when all eight bytes are.)
 abbrev pub sameName : ℕ → ℕ → Bool
@@ -42,15 +42,15 @@ isAbsent l x = every (λ k. not (eqb (getD l k 0) x)) (length l)
 
 -- Rule 8: the grade byte is LO's or HI's.
 abbrev pub gradeAllowed : ℕ → Bool
-gradeAllowed grade = eqb grade lo || eqb grade hi
+gradeAllowed g = eqb g lo || eqb g hi
 
 -- Rule 9, for a window: the release comes before the deadline, which is within its bound.
 abbrev pub windowAllowed : ℕ → ℕ → Bool
-windowAllowed release deadline = ltb release deadline && leb deadline mostDeadline
+windowAllowed from to = ltb from to && leb to mostDeadline
 
 -- Rule 9, for a size: at least 1, and within its bound.
 abbrev pub sizeAllowed : ℕ → Bool
-sizeAllowed size = leb 1 size && leb size mostSize
+sizeAllowed u = leb 1 u && leb u mostSize
 
 -- A record that is not there reads as zeros.
 abbrev pub noJob : Job
@@ -59,6 +59,22 @@ noJob = record { name = record { 0 = 0 }; grade = 0; release = record { 0 = 0 };
 -- The record of job i.
 abbrev pub jobOf : Plan → ℕ → Job
 jobOf p i = getD (p .jobs) i noJob
+
+-- What job i's record says.
+abbrev pub name : Plan → ℕ → ℕ
+name p i = jobOf p i .name .0
+
+abbrev pub release : Plan → ℕ → ℕ
+release p i = jobOf p i .release .0
+
+abbrev pub size : Plan → ℕ → ℕ
+size p i = jobOf p i .size .0
+
+abbrev pub deadline : Plan → ℕ → ℕ
+deadline p i = jobOf p i .deadline .0
+
+abbrev pub isHi : Plan → ℕ → Bool
+isHi p i = eqb (jobOf p i .grade) hi
 
 -- How many of the records count: never more than there are.
 abbrev pub counted : Plan → ℕ
@@ -78,11 +94,11 @@ countHolds p = countAllowed (p .count)
 
 -- Rule 6 over a plan in hand: every counted job's name is allowed.
 unfoldable pub namesHold : Plan → Bool
-namesHold p = every (λ i. nameAllowed (jobOf p i .name .0)) (counted p)
+namesHold p = every (λ i. nameAllowed (name p i)) (counted p)
 
 -- Rule 7 over a plan in hand: no counted job has a name that an earlier job has.
 unfoldable pub namesDiffer : Plan → Bool
-namesDiffer p = every (λ i. every (λ k. not (sameName (jobOf p k .name .0) (jobOf p i .name .0))) i) (counted p)
+namesDiffer p = every (λ i. every (λ k. not (sameName (name p k) (name p i))) i) (counted p)
 
 -- Rule 8 over a plan in hand: every counted job's grade is allowed.
 unfoldable pub gradesHold : Plan → Bool
@@ -90,7 +106,7 @@ gradesHold p = every (λ i. gradeAllowed (jobOf p i .grade)) (counted p)
 
 -- Rule 9 over a plan in hand: every counted job's window and size are allowed.
 unfoldable pub boundsHold : Plan → Bool
-boundsHold p = every (λ i. windowAllowed (jobOf p i .release .0) (jobOf p i .deadline .0) && sizeAllowed (jobOf p i .size .0)) (counted p)
+boundsHold p = every (λ i. windowAllowed (release p i) (deadline p i) && sizeAllowed (size p i)) (counted p)
 
 -- Rules 4 to 9 together.
 unfoldable pub rulesHold : Plan → Bool

@@ -1,10 +1,14 @@
--- The table: a row of places for each job, one for each interval.
-use mathlib.Core.Bool.{cond, _&&_}
-use mathlib.Core.List.{List}
-use Prim.Native.Nat.{ℕ, _+_, _*_}
-use lib.Dec.{ltb}
-use lib.ListN.{getD}
+-- The table: a row of places for each job, one for each interval; and when a plan in hand is sound.
+use mathlib.Core.Bool.{Bool, true, cond, _&&_, _||_}
+use mathlib.Core.List.{List, [], _∷_}
+use Prim.Native.Nat.{ℕ, suc, _+_, _*_, _/_, _%_}
+use lib.Dec.{ltb, eqb}
+use lib.ListN.{getD, take}
 use Rattle.sums.specs.Sum.{on}
+use Rattle.plan.specs.Edition.{mostIntervals, places}
+use Rattle.plan.specs.Rules.{rulesHold, counted}
+use Rattle.plan.specs.Boundaries.{intervals}
+use Rattle.plan.specs.declared.kinds.Plan.{Plan}
 
 -- The place of job i in interval j, in a table with width places for each job.
 abbrev pub place : ℕ → ℕ → ℕ → ℕ
@@ -21,3 +25,13 @@ placeIn jobs width i j = cond (ltb i jobs && ltb j width) (place width i j) (job
 -- The allotment where the table has room for the job and the interval, and else nothing.
 abbrev pub allotmentIn : ℕ → ℕ → List ℕ → ℕ → ℕ → ℕ
 allotmentIn jobs width table i j = on (ltb i jobs && ltb j width) (allotment width table i j)
+
+-- From place q on, nothing stands outside the first jobs and the first intervals.
+unfoldable pub noStray : ℕ → ℕ → ℕ → ℕ → List ℕ → Bool
+noStray width jobs spans q [] = true
+noStray width jobs spans q (u ∷ l) =
+    (eqb u 0 || ltb (q / width) jobs && ltb (q % width) spans) && noStray width jobs spans (suc q) l
+
+-- A plan and its table are sound for judge and writer: rules 4 to 9 hold, and no place of the table outside jobs and intervals is used.
+unfoldable pub sound : Plan → List ℕ → Bool
+sound p table = rulesHold p && noStray mostIntervals (counted p) (intervals p) 0 (take places table)

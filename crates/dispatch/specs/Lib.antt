@@ -1,0 +1,3 @@
+pub mod Dues
+pub mod Turns
+pub mod Step

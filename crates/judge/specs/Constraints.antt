@@ -1,0 +1,52 @@
+-- The constraints of Baruah and Guo's linear program (figure 2), in whole slots and units, with exact totals.
+use mathlib.Core.Path.{_≡_}
+use mathlib.Core.Bool.{Bool, false, _&&_}
+use mathlib.Core.List.{List}
+use Prim.Native.Nat.{ℕ, suc, _+_, _*_, _-_, _≤_, _<_}
+use lib.Dec.{leb}
+use Rattle.sums.specs.Sum.{sum, on}
+use Rattle.plan.specs.Edition.{mostIntervals}
+use Rattle.plan.specs.Rules.{counted, release, size, deadline, isHi}
+use Rattle.plan.specs.Boundaries.{boundary, intervals}
+use Rattle.plan.specs.Table.{allotment}
+use Rattle.plan.specs.declared.kinds.Plan.{Plan}
+
+-- The units of job i in interval j.
+abbrev pub units : List ℕ → ℕ → ℕ → ℕ
+units table i j = allotment mostIntervals table i j
+
+-- Interval j lies inside the window of job i.
+abbrev pub inWindow : Plan → ℕ → ℕ → Bool
+inWindow p i j = leb (release p i) (boundary p j) && leb (boundary p (suc j)) (deadline p i)
+
+-- The length of interval j, in slots.
+abbrev pub span : Plan → ℕ → ℕ
+span p j = boundary p (suc j) - boundary p j
+
+-- All units of job i.
+abbrev pub total : Plan → List ℕ → ℕ → ℕ
+total p table i = sum (units table i) (intervals p)
+
+-- All units in interval j.
+abbrev pub load : Plan → List ℕ → ℕ → ℕ
+load p table j = sum (λ i. units table i j) (counted p)
+
+-- The units of job i in intervals from l on that end by time D.
+abbrev pub unitsBetween : Plan → List ℕ → ℕ → ℕ → ℕ → ℕ
+unitsBetween p table l D i = sum (λ j. on (leb l j && leb (boundary p (suc j)) D) (units table i j)) (intervals p)
+
+-- The demand on the floor from interval l to time D: the HI units between them, of jobs with deadline at most D.
+abbrev pub demand : Plan → List ℕ → ℕ → ℕ → ℕ
+demand p table l D = sum (λ i. on (isHi p i && leb (deadline p i) D) (unitsBetween p table l D i)) (counted p)
+
+-- What the floor carries from the start of interval l to time D.
+abbrev pub floorCarries : Plan → ℕ → ℕ → ℕ
+floorCarries p l D = p .d .0 * (D - boundary p l)
+
+-- Figure 2 holds: (1) nothing lies outside a window, and each job has its size exactly; (2) no interval holds more than n times
+-- its length; (3) from each interval to each later boundary, the demand is at most what the floor carries.
+pub record Accepted (p : Plan) (table : List ℕ) : Type 0 where
+  pub inside : (i j : ℕ) → i < counted p → j < intervals p → inWindow p i j ≡ false → units table i j ≡ 0
+  pub exact : (i : ℕ) → i < counted p → total p table i ≡ size p i
+  pub within : (j : ℕ) → j < intervals p → load p table j ≤ p .n .0 * span p j
+  pub floor : (l m : ℕ) → l < m → m ≤ intervals p → demand p table l (boundary p m) ≤ floorCarries p l (boundary p m)

@@ -1,0 +1,3 @@
+pub mod Constraints
+pub mod Verdict
+pub mod Slack

@@ -1,0 +1,1 @@
+// Is a plan good, and by how much: the judge's verdict and the slack figure.

@@ -1,0 +1,177 @@
+-- The paper's own cases P1 to P12: one list, and one statement that every case comes out.
+use mathlib.Core.Path.{_≡_, refl}
+use mathlib.Core.List.{List, [], _∷_, _++_, map}
+use Prim.Native.Nat.{ℕ, _-_}
+use lib.IntN.{pos, negsuc}
+use lib.ListN.{length, take, replicate}
+use Rattle.sums.specs.Sum.{sum, on}
+use Rattle.plan.specs.Edition.{mostJobs, mostIntervals, places}
+use Rattle.plan.specs.Refusal.{outsideWindow, wrongTotal, overCapacity, belowFloorRule, speedAboveNormal}
+use Rattle.plan.specs.Below
+use Rattle.plan.specs.Rules.{hi, lo, noJob, nameAllowed, namesHold, namesDiffer, gradesHold, boundsHold, rulesHold}
+use Rattle.plan.specs.Boundaries.{insert, boundariesTo, come}
+use Rattle.plan.specs.Table.{noStray, sound}
+use Rattle.plan.specs.declared.kinds.Job.{Job}
+use Rattle.plan.specs.declared.kinds.Plan.{Plan}
+use Rattle.judge.specs.Verdict.{Report, fine, first, outsideFault, totalFault, capacityFault, isHiDeadline, floorFault, judged}
+use Rattle.judge.specs.Slack.{Figure, least, refused, through, leastSlack, slackFigure}
+use Rattle.dispatch.specs.declared.Run.{Run}
+use Rattle.dispatch.specs.Turns.{enqueue, order, serve}
+use Rattle.dispatch.specs.Turns
+use Rattle.dispatch.specs.Step.{Slot, started, slotSound, slotRefusal, granted, added, advanced, stepped}
+
+-- A list in a room of n places, filled up by one value.
+abbrev pub padded : {A : Type 0} → ℕ → A → List A → List A
+padded n fill l = l ++ replicate (n - length l) fill
+
+-- A job by its name's eight bytes, grade, release, size and deadline.
+abbrev pub job : ℕ → ℕ → ℕ → ℕ → ℕ → Job
+job name grade release size deadline =
+    record { name = record { 0 = name }; grade = grade; release = record { 0 = release }; size = record { 0 = size }; deadline = record { 0 = deadline } }
+
+-- A plan of some jobs at normal rate 2 and floor 1, as all the cases have them.
+abbrev pub planOf : List Job → Plan
+planOf jobs =
+    record { n = record { 0 = 2 }; d = record { 0 = 1 }; count = length jobs; jobs = padded mostJobs noJob jobs }
+
+-- A table of some rows, in the edition's layout.
+unfoldable pub tableOf : List (List ℕ) → List ℕ
+tableOf rows = padded places 0 (laid rows)
+  where
+    laid : List (List ℕ) → List ℕ
+    laid [] = []
+    laid (row ∷ rest) = padded mostIntervals 0 row ++ laid rest
+
+-- What is seen of a slot: its number, whether the slow mark is set after it, and the jobs' grants.
+abbrev pub line : Plan → Slot → List ℕ
+line p slot = slot .number ∷ on (slot .run .slow) 1 ∷ take (p .count) (slot .grants)
+
+-- What is seen of a run, slot by slot.
+unfoldable pub night : Plan → List ℕ → Run → List ℕ → List (List ℕ)
+night p table run [] = []
+night p table run (v ∷ rest) =
+    let slot = stepped p table run v (replicate (p .count) 0) in
+    line p slot ∷ night p table (slot .run) rest
+
+-- What comes out of a case: the verdict, the slack figure, and the slots at the given speeds from the start.
+pub record Seen : Type 0 where
+  pub verdict : Report
+  pub slack : Figure
+  pub slots : List (List ℕ)
+
+pub record Case : Type 0 where
+  pub jobs : List Job
+  pub rows : List (List ℕ)
+  pub speeds : List ℕ
+  pub must : Seen
+
+unfoldable pub seen : Case → Seen
+seen c =
+    let p = planOf (c .jobs) in
+    let table = tableOf (c .rows) in
+    record { verdict = judged p table; slack = slackFigure p table; slots = night p table (started p) (c .speeds) }
+
+-- Names: those of plan E, which differ in one letter's case only, and others for the cases that name no jobs.
+abbrev capitalMirror : ℕ
+capitalMirror = 0x4D69_7272_6F72_2D41
+
+abbrev smallMirror : ℕ
+smallMirror = 0x6D69_7272_6F72_2D41
+
+abbrev jobA : ℕ
+jobA = 0x6A6F_622D_2D2D_2D41
+
+abbrev jobB : ℕ
+jobB = 0x6A6F_622D_2D2D_2D42
+
+abbrev jobC : ℕ
+jobC = 0x6A6F_622D_2D2D_2D43
+
+abbrev jobD : ℕ
+jobD = 0x6A6F_622D_2D2D_2D44
+
+-- Plan E: example 1 of Baruah and Guo.
+abbrev pub jobsOfE : List Job
+jobsOfE = job capitalMirror lo 0 6 5 ∷ job smallMirror hi 1 8 10 ∷ []
+
+abbrev pub rowsOfE : List (List ℕ)
+rowsOfE = (2 ∷ 4 ∷ 0 ∷ []) ∷ (0 ∷ 4 ∷ 4 ∷ []) ∷ []
+
+-- Plan E with another second row.
+abbrev withSecondRow : List ℕ → List (List ℕ)
+withSecondRow row = (2 ∷ 4 ∷ 0 ∷ []) ∷ row ∷ []
+
+-- Their example 4, doubled.
+abbrev jobsOfP6 : List Job
+jobsOfP6 = job jobA lo 0 4 2 ∷ job jobB hi 0 2 4 ∷ job jobC hi 2 2 4 ∷ []
+
+-- A case of judging: its jobs, its rows, the verdict and the slack figure that must come out.
+abbrev judging : List Job → List (List ℕ) → Report → Figure → Case
+judging jobs rows verdict slack =
+    record { jobs = jobs; rows = rows; speeds = []; must = record { verdict = verdict; slack = slack; slots = [] } }
+
+-- A case of slots of plan E: the speeds, and the slots that must come out.
+abbrev slotsOfE : List ℕ → List (List ℕ) → Case
+slotsOfE speeds slots =
+    record
+      { jobs = jobsOfE;
+        rows = rowsOfE;
+        speeds = speeds;
+        must = record { verdict = fine; slack = least (pos 1) 1 10; slots = slots } }
+
+abbrev P1 : Case
+P1 = judging jobsOfE rowsOfE fine (least (pos 1) 1 10)
+
+abbrev P2 : Case
+P2 = judging jobsOfE (withSecondRow (0 ∷ 3 ∷ 5 ∷ [])) fine (least (pos 0) 2 10)
+
+abbrev P3 : Case
+P3 = judging jobsOfE (withSecondRow (0 ∷ 2 ∷ 6 ∷ [])) (belowFloorRule ∷ 2 ∷ 10 ∷ []) (least (negsuc 0) 2 10)
+
+abbrev P4 : Case
+P4 = judging jobsOfE (withSecondRow (0 ∷ 4 ∷ 3 ∷ [])) (wrongTotal ∷ 1 ∷ []) (refused (wrongTotal ∷ 1 ∷ []))
+
+-- Their example 2, doubled.
+abbrev P5 : Case
+P5 =
+    judging (job jobA hi 0 8 10 ∷ job jobB hi 0 4 16 ∷ job jobC lo 0 6 4 ∷ job jobD lo 0 10 12 ∷ [])
+    ((2 ∷ 6 ∷ 0 ∷ 0 ∷ []) ∷ (0 ∷ 0 ∷ 0 ∷ 4 ∷ []) ∷ (6 ∷ 0 ∷ 0 ∷ 0 ∷ []) ∷ (0 ∷ 6 ∷ 4 ∷ 0 ∷ []) ∷ [])
+    fine
+    (least (pos 0) 1 10)
+
+abbrev P6 : Case
+P6 =
+    judging jobsOfP6 ((4 ∷ 0 ∷ []) ∷ (0 ∷ 2 ∷ []) ∷ (0 ∷ 2 ∷ []) ∷ []) (belowFloorRule ∷ 1 ∷ 4 ∷ []) (least (negsuc 1) 1 4)
+
+abbrev P7 : Case
+P7 = judging jobsOfP6 ((4 ∷ 0 ∷ []) ∷ (2 ∷ 0 ∷ []) ∷ (0 ∷ 2 ∷ []) ∷ []) (overCapacity ∷ 0 ∷ []) (refused (overCapacity ∷ 0 ∷ []))
+
+abbrev P8 : Case
+P8 =
+    judging jobsOfE ((2 ∷ 3 ∷ 1 ∷ []) ∷ (0 ∷ 4 ∷ 4 ∷ []) ∷ []) (outsideWindow ∷ 0 ∷ 2 ∷ []) (refused (outsideWindow ∷ 0 ∷ 2 ∷ []))
+
+-- Position 0 is B, position 1 is A: at speeds 2 and 1, A gets 2, and then B gets 1.
+abbrev P9 : Case
+P9 =
+    record
+      { jobs = job jobB hi 0 2 4 ∷ job jobA hi 0 2 2 ∷ [];
+        rows = (2 ∷ 0 ∷ []) ∷ (2 ∷ 0 ∷ []) ∷ [];
+        speeds = 2 ∷ 1 ∷ [];
+        must = record { verdict = fine; slack = least (pos 0) 0 2; slots = (0 ∷ 0 ∷ 0 ∷ 2 ∷ []) ∷ (0 ∷ 1 ∷ 1 ∷ 0 ∷ []) ∷ [] } }
+
+abbrev P10 : Case
+P10 = slotsOfE (2 ∷ 2 ∷ []) ((0 ∷ 0 ∷ 2 ∷ 0 ∷ []) ∷ (0 ∷ 0 ∷ 0 ∷ 2 ∷ []) ∷ [])
+
+abbrev P11 : Case
+P11 = slotsOfE (1 ∷ []) ((0 ∷ 1 ∷ 0 ∷ 0 ∷ []) ∷ [])
+
+abbrev P12 : Case
+P12 = slotsOfE (3 ∷ []) ((speedAboveNormal ∷ 0 ∷ 0 ∷ 0 ∷ []) ∷ [])
+
+abbrev pub cases : List Case
+cases = P1 ∷ P2 ∷ P3 ∷ P4 ∷ P5 ∷ P6 ∷ P7 ∷ P8 ∷ P9 ∷ P10 ∷ P11 ∷ P12 ∷ []
+
+-- Every case comes out as it must.
+pub every-case-comes-out : map seen cases ≡ map (λ (c : Case). c .must) cases
+unfolding seen night tableOf sum Below.every Below.least Below.greatest nameAllowed namesHold namesDiffer gradesHold boundsHold rulesHold insert boundariesTo come noStray sound first outsideFault totalFault capacityFault isHiDeadline floorFault judged through leastSlack slackFigure enqueue Turns.line order serve started slotSound slotRefusal granted added advanced stepped
+every-case-comes-out = refl

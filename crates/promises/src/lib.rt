@@ -1,0 +1,1 @@
+// What the tender asks, as theorems over the definitions that the public calls are promised by. There is no code here.
