@@ -10,7 +10,7 @@ use Rattle.plan.specs.Below.{every}
 use Rattle.plan.specs.Rules.{counted, size, deadline, isHi, ratesHold, countHolds, gradesHold, boundsHold}
 use Rattle.plan.specs.Boundaries.{firstRelease, lastDeadline}
 use Rattle.plan.specs.declared.kinds.Plan.{Plan}
-use Rattle.judge.specs.Verdict.{Report, judged}
+use Rattle.judge.specs.Verdict.{Report, orElse, fault, judged}
 use Rattle.dispatch.specs.declared.Run.{Run}
 use Rattle.dispatch.specs.Dues.{carriedOf, slowAfter, belowAfter, due}
 use Rattle.dispatch.specs.Turns.{order, serve}
@@ -26,9 +26,8 @@ noRun = record { clock = record { 0 = 0 }; slow = false; below = false; carried 
 
 -- The record that a start leaves: the new run where the judge accepts, and else what was there.
 abbrev pub startFrom : Report → Run → Run → Run
-startFrom [] run was = was
-startFrom (zero ∷ places) run was = run
-startFrom (suc number ∷ places) run was = was
+startFrom [] run was = run
+startFrom (number ∷ places) run was = was
 
 -- A lent record after start.
 unfoldable pub startIn : Plan → List ℕ → Run → Run
@@ -41,13 +40,13 @@ slotSound p run =
     ratesHold p && countHolds p && gradesHold p && boundsHold p && leb (firstRelease p) (run .clock .0)
     && leb (run .clock .0) (lastDeadline p) && every (λ i. leb (carriedOf run i) (size p i)) (counted p)
 
--- The refusal of a slot's call, or 0: 21, 22, 19, 20.
-unfoldable pub slotRefusal : Plan → List ℕ → Run → ℕ → List ℕ → ℕ
-slotRefusal p table run v grants =
-    cond (not (slotSound p run)) unsound
-    (cond (ltb (length table) places || ltb (length grants) (counted p)) bufferTooShort
-    (cond (eqb (run .clock .0) (lastDeadline p)) clockAtEnd
-    (cond (ltb (p .n .0) v) speedAboveNormal 0)))
+-- What a slot's call is refused by: 21, 22, 19, 20.
+unfoldable pub slotFault : Plan → List ℕ → Run → ℕ → List ℕ → Report
+slotFault p table run v grants =
+    orElse (fault (not (slotSound p run)) (unsound ∷ []))
+    (orElse (fault (ltb (length table) places || ltb (length grants) (counted p)) (bufferTooShort ∷ []))
+    (orElse (fault (eqb (run .clock .0) (lastDeadline p)) (clockAtEnd ∷ []))
+    (fault (ltb (p .n .0) v) (speedAboveNormal ∷ []))))
 
 -- A slot's grants: zeros for the jobs, each served in turn; places beyond the jobs stay.
 unfoldable pub granted : Plan → List ℕ → Run → ℕ → List ℕ → List ℕ
@@ -71,21 +70,21 @@ advanced p table run v grants =
         below = belowAfter p run v;
         carried = added (counted p) (run .carried) (granted p table run v grants) }
 
--- What a slot's call leaves: its number (0 for done), the run and the grant row.
+-- What a slot's call leaves: its answer (empty for done), the run and the grant row.
 pub record Slot : Type 0 where
-  pub number : ℕ
+  pub answer : Report
   pub run : Run
   pub grants : List ℕ
 
 -- A refused call leaves run and grants as they were.
-abbrev pub slotBy : ℕ → Plan → List ℕ → Run → ℕ → List ℕ → Slot
-slotBy zero p table run v grants =
-    record { number = 0; run = advanced p table run v grants; grants = granted p table run v grants }
-slotBy (suc n) p table run v grants = record { number = suc n; run = run; grants = grants }
+abbrev pub slotBy : Report → Plan → List ℕ → Run → ℕ → List ℕ → Slot
+slotBy [] p table run v grants =
+    record { answer = []; run = advanced p table run v grants; grants = granted p table run v grants }
+slotBy (number ∷ rest) p table run v grants = record { answer = number ∷ rest; run = run; grants = grants }
 
 -- A slot's call.
 unfoldable pub stepped : Plan → List ℕ → Run → ℕ → List ℕ → Slot
-stepped p table run v grants = slotBy (slotRefusal p table run v grants) p table run v grants
+stepped p table run v grants = slotBy (slotFault p table run v grants) p table run v grants
 
 -- How a transfer ended, or that the plan, the run or the position is refused.
 pub data Ending : Type 0 where

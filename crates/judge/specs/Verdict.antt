@@ -13,12 +13,9 @@ use Rattle.plan.specs.Table.{sound}
 use Rattle.plan.specs.declared.kinds.Plan.{Plan}
 use Rattle.judge.specs.Constraints.{units, inWindow, span, total, load, demand, floorCarries}
 
--- A report is a refusal number and the place it names; 0 alone says that there is nothing to refuse.
+-- A report is a refusal number and the place that it names; it is empty where there is nothing to refuse.
 abbrev pub Report : Type 0
 Report = List ℕ
-
-abbrev pub fine : Report
-fine = 0 ∷ []
 
 -- A report, if there is one, or else the next.
 abbrev pub orElse : Report → Report → Report
@@ -72,11 +69,10 @@ floorFault p table =
 abbrev pub handFault : Plan → List ℕ → Report
 handFault p table = orElse (fault (ltb (length table) places) (bufferTooShort ∷ [])) (fault (not (sound p table)) (unsound ∷ []))
 
--- The verdict: 22, 21, then 15 over all jobs, 16, 17 and 18.
+-- The verdict: 22, 21, then 15 over all jobs, 16, 17 and 18; accepted where none is given.
 unfoldable pub judged : Plan → List ℕ → Report
 judged p table =
     orElse (handFault p table)
     (orElse (outsideFault p table)
     (orElse (totalFault p table)
-    (orElse (capacityFault p table)
-    (orElse (floorFault p table) fine))))
+    (orElse (capacityFault p table) (floorFault p table))))

@@ -13,12 +13,12 @@ use Rattle.plan.specs.Boundaries.{insert, boundariesTo, come}
 use Rattle.plan.specs.Table.{noStray, sound}
 use Rattle.plan.specs.declared.kinds.Job.{Job}
 use Rattle.plan.specs.declared.kinds.Plan.{Plan}
-use Rattle.judge.specs.Verdict.{Report, fine, first, outsideFault, totalFault, capacityFault, isHiDeadline, floorFault, judged}
+use Rattle.judge.specs.Verdict.{Report, first, outsideFault, totalFault, capacityFault, isHiDeadline, floorFault, judged}
 use Rattle.judge.specs.Slack.{Figure, least, refused, through, leastSlack, slackFigure}
 use Rattle.dispatch.specs.declared.Run.{Run}
 use Rattle.dispatch.specs.Turns.{enqueue, order, serve}
 use Rattle.dispatch.specs.Turns
-use Rattle.dispatch.specs.Step.{Slot, started, slotSound, slotRefusal, granted, added, advanced, stepped}
+use Rattle.dispatch.specs.Step.{Slot, started, slotSound, slotFault, granted, added, advanced, stepped}
 
 -- A list in a room of n places, filled up by one value.
 abbrev pub padded : {A : Type 0} → ℕ → A → List A → List A
@@ -42,9 +42,9 @@ tableOf rows = padded places 0 (laid rows)
     laid [] = []
     laid (row ∷ rest) = padded mostIntervals 0 row ++ laid rest
 
--- What is seen of a slot: its number, whether the slow mark is set after it, and the jobs' grants.
+-- What is seen of a slot: the number that refuses it, if one does, whether the slow mark is set after it, and the jobs' grants.
 abbrev pub line : Plan → Slot → List ℕ
-line p slot = slot .number ∷ on (slot .run .slow) 1 ∷ take (p .count) (slot .grants)
+line p slot = slot .answer ++ on (slot .run .slow) 1 ∷ take (p .count) (slot .grants)
 
 -- What is seen of a run, slot by slot.
 unfoldable pub night : Plan → List ℕ → Run → List ℕ → List (List ℕ)
@@ -117,13 +117,13 @@ slotsOfE speeds slots =
       { jobs = jobsOfE;
         rows = rowsOfE;
         speeds = speeds;
-        must = record { verdict = fine; slack = least (pos 1) 1 10; slots = slots } }
+        must = record { verdict = []; slack = least (pos 1) 1 10; slots = slots } }
 
 abbrev P1 : Case
-P1 = judging jobsOfE rowsOfE fine (least (pos 1) 1 10)
+P1 = judging jobsOfE rowsOfE [] (least (pos 1) 1 10)
 
 abbrev P2 : Case
-P2 = judging jobsOfE (withSecondRow (0 ∷ 3 ∷ 5 ∷ [])) fine (least (pos 0) 2 10)
+P2 = judging jobsOfE (withSecondRow (0 ∷ 3 ∷ 5 ∷ [])) [] (least (pos 0) 2 10)
 
 abbrev P3 : Case
 P3 = judging jobsOfE (withSecondRow (0 ∷ 2 ∷ 6 ∷ [])) (belowFloorRule ∷ 2 ∷ 10 ∷ []) (least (negsuc 0) 2 10)
@@ -136,7 +136,7 @@ abbrev P5 : Case
 P5 =
     judging (job jobA hi 0 8 10 ∷ job jobB hi 0 4 16 ∷ job jobC lo 0 6 4 ∷ job jobD lo 0 10 12 ∷ [])
     ((2 ∷ 6 ∷ 0 ∷ 0 ∷ []) ∷ (0 ∷ 0 ∷ 0 ∷ 4 ∷ []) ∷ (6 ∷ 0 ∷ 0 ∷ 0 ∷ []) ∷ (0 ∷ 6 ∷ 4 ∷ 0 ∷ []) ∷ [])
-    fine
+    []
     (least (pos 0) 1 10)
 
 abbrev P6 : Case
@@ -157,13 +157,13 @@ P9 =
       { jobs = job jobB hi 0 2 4 ∷ job jobA hi 0 2 2 ∷ [];
         rows = (2 ∷ 0 ∷ []) ∷ (2 ∷ 0 ∷ []) ∷ [];
         speeds = 2 ∷ 1 ∷ [];
-        must = record { verdict = fine; slack = least (pos 0) 0 2; slots = (0 ∷ 0 ∷ 0 ∷ 2 ∷ []) ∷ (0 ∷ 1 ∷ 1 ∷ 0 ∷ []) ∷ [] } }
+        must = record { verdict = []; slack = least (pos 0) 0 2; slots = (0 ∷ 0 ∷ 2 ∷ []) ∷ (1 ∷ 1 ∷ 0 ∷ []) ∷ [] } }
 
 abbrev P10 : Case
-P10 = slotsOfE (2 ∷ 2 ∷ []) ((0 ∷ 0 ∷ 2 ∷ 0 ∷ []) ∷ (0 ∷ 0 ∷ 0 ∷ 2 ∷ []) ∷ [])
+P10 = slotsOfE (2 ∷ 2 ∷ []) ((0 ∷ 2 ∷ 0 ∷ []) ∷ (0 ∷ 0 ∷ 2 ∷ []) ∷ [])
 
 abbrev P11 : Case
-P11 = slotsOfE (1 ∷ []) ((0 ∷ 1 ∷ 0 ∷ 0 ∷ []) ∷ [])
+P11 = slotsOfE (1 ∷ []) ((1 ∷ 0 ∷ 0 ∷ []) ∷ [])
 
 abbrev P12 : Case
 P12 = slotsOfE (3 ∷ []) ((speedAboveNormal ∷ 0 ∷ 0 ∷ 0 ∷ []) ∷ [])
@@ -173,5 +173,5 @@ cases = P1 ∷ P2 ∷ P3 ∷ P4 ∷ P5 ∷ P6 ∷ P7 ∷ P8 ∷ P9 ∷ P10 ∷ P
 
 -- Every case comes out as it must.
 pub every-case-comes-out : map seen cases ≡ map (λ (c : Case). c .must) cases
-unfolding seen night tableOf sum Below.every Below.least Below.greatest nameAllowed namesHold namesDiffer gradesHold boundsHold rulesHold insert boundariesTo come noStray sound first outsideFault totalFault capacityFault isHiDeadline floorFault judged through leastSlack slackFigure enqueue Turns.line order serve started slotSound slotRefusal granted added advanced stepped
+unfolding seen night tableOf sum Below.every Below.least Below.greatest nameAllowed namesHold namesDiffer gradesHold boundsHold rulesHold insert boundariesTo come noStray sound first outsideFault totalFault capacityFault isHiDeadline floorFault judged through leastSlack slackFigure enqueue Turns.line order serve started slotSound slotFault granted added advanced stepped
 every-case-comes-out = refl

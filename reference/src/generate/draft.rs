@@ -1,7 +1,7 @@
 //! A plan in the making: its records and table, its file, and where each field of the file stands.
 
-use crate::edition::{LARGEST_FILE, MOST_JOBS, NAME_BYTES, TABLE_PLACES};
-use crate::plan::{boundaries, place_of, Interval, Job, Plan};
+use crate::edition::{HI, LARGEST_FILE, LO, MOST_JOBS, NAME_BYTES, TABLE_PLACES};
+use crate::plan::{boundaries, intervals, place_of, Interval, Job, Plan};
 use crate::record::{Lent, MOST_LENT_GRANTS, MOST_LENT_OUTPUT, MOST_LENT_TABLE};
 use crate::writer::writer;
 
@@ -88,7 +88,7 @@ impl Draft {
     }
 
     pub fn intervals(&self) -> Vec<Interval> {
-        crate::plan::intervals(self.plan.counted())
+        intervals(self.plan.counted())
     }
 
     pub fn boundaries(&self) -> Vec<u32> {
@@ -157,8 +157,8 @@ pub fn plan_e() -> Draft {
 
 /// The same jobs with other allotments.
 pub fn plan_e_with(first: &[u32], second: &[u32]) -> Draft {
-    let lo = job(b"Mirror-A", crate::edition::LO, 0, 6, 5);
-    let hi = job(b"mirror-A", crate::edition::HI, 1, 8, 10);
+    let lo = job(b"Mirror-A", LO, 0, 6, 5);
+    let hi = job(b"mirror-A", HI, 1, 8, 10);
     Draft::new(2, 1, &[lo, hi]).with_rows(&[first, second])
 }
 

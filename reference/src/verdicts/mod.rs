@@ -191,7 +191,7 @@ impl<'a, W: Write> Printer<'a, W> {
     fn writer_line(&mut self, plan: &Plan, table: &[u32], lent: &Lent) -> io::Result<()> {
         let mut output = marked_output(lent.output);
         let answer = match writer(plan, table, &mut output) {
-            Ok(length) => format!("0 {}", length),
+            Ok(length) => format!("{} {}", DONE, length),
             Err(number) => {
                 self.counts.answer(number);
                 number.to_string()
@@ -216,13 +216,17 @@ impl<'a, W: Write> Printer<'a, W> {
     /// The slack figure and, unless it is refused, the slacks of all pairs.
     fn slack_line(&mut self, plan: &Plan, table: &[u32]) -> io::Result<()> {
         match slack_figure(plan, table) {
-            Ok(SlackFigure::NoneEssential) => writeln!(self.output, "slack 0 none")?,
+            Ok(SlackFigure::NoneEssential) => writeln!(self.output, "slack {} none", DONE)?,
             Ok(SlackFigure::Least {
                 slack,
                 interval,
                 deadline,
             }) => {
-                writeln!(self.output, "slack 0 {} {} {}", slack, interval, deadline)?;
+                writeln!(
+                    self.output,
+                    "slack {} {} {} {}",
+                    DONE, slack, interval, deadline
+                )?;
             }
             Err(refusal) => {
                 self.counts.answer(refusal.number);

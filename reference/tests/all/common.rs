@@ -3,6 +3,7 @@
 use reference::edition::{HI, LO, TABLE_PLACES};
 use reference::plan::{Job, Plan};
 use reference::reader::reader;
+use reference::refusal::{GRADE, JOB_COUNT, NAME_BYTE, NAME_TWICE, RATES, TIMES_OR_SIZE};
 use reference::run::Run;
 
 /// Where the parts of plan E's file stand.
@@ -131,23 +132,23 @@ pub fn broken_plans() -> Vec<(u8, Plan)> {
         change(&mut plan);
         plans.push((rule, plan));
     };
-    add(4, &|plan| plan.d = 0);
-    add(4, &|plan| plan.d = 2);
-    add(4, &|plan| plan.n = 1_001);
-    add(5, &|plan| plan.count = 0);
-    add(5, &|plan| plan.count = 33);
-    add(5, &|plan| plan.count = 258);
-    add(5, &|plan| plan.count = (1 << 32) + 2);
-    add(5, &|plan| plan.count = u64::MAX);
-    add(6, &|plan| plan.jobs[0].name[7] = 0x20);
-    add(6, &|plan| plan.jobs[1].name[0] = 0x7F);
-    add(7, &|plan| plan.jobs[1].name = *b"Mirror-A");
-    add(8, &|plan| plan.jobs[0].grade = 2);
-    add(8, &|plan| plan.jobs[1].grade = 255);
-    add(9, &|plan| plan.jobs[0].release = 5);
-    add(9, &|plan| plan.jobs[1].deadline = 100_001);
-    add(9, &|plan| plan.jobs[0].size = 0);
-    add(9, &|plan| plan.jobs[1].size = 100_000_001);
-    add(9, &|plan| plan.jobs[1].size = (1 << 32) + 8);
+    add(RATES, &|plan| plan.d = 0);
+    add(RATES, &|plan| plan.d = 2);
+    add(RATES, &|plan| plan.n = 1_001);
+    add(JOB_COUNT, &|plan| plan.count = 0);
+    add(JOB_COUNT, &|plan| plan.count = 33);
+    add(JOB_COUNT, &|plan| plan.count = 258);
+    add(JOB_COUNT, &|plan| plan.count = (1 << 32) + 2);
+    add(JOB_COUNT, &|plan| plan.count = u64::MAX);
+    add(NAME_BYTE, &|plan| plan.jobs[0].name[7] = 0x20);
+    add(NAME_BYTE, &|plan| plan.jobs[1].name[0] = 0x7F);
+    add(NAME_TWICE, &|plan| plan.jobs[1].name = *b"Mirror-A");
+    add(GRADE, &|plan| plan.jobs[0].grade = 2);
+    add(GRADE, &|plan| plan.jobs[1].grade = 255);
+    add(TIMES_OR_SIZE, &|plan| plan.jobs[0].release = 5);
+    add(TIMES_OR_SIZE, &|plan| plan.jobs[1].deadline = 100_001);
+    add(TIMES_OR_SIZE, &|plan| plan.jobs[0].size = 0);
+    add(TIMES_OR_SIZE, &|plan| plan.jobs[1].size = 100_000_001);
+    add(TIMES_OR_SIZE, &|plan| plan.jobs[1].size = (1 << 32) + 8);
     plans
 }

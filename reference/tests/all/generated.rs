@@ -1,6 +1,7 @@
 //! The stored set: its size, its limits, and that it reaches every answer of every call.
 
 use std::collections::BTreeMap;
+use std::ops::RangeInclusive;
 
 use reference::generate::{generate, STORED_COUNT, STORED_SEED};
 use reference::judge::judge;
@@ -9,8 +10,11 @@ use reference::reader::reader;
 use reference::record::{
     get, Input, MOST_BODY, MOST_LENT_GRANTS, MOST_LENT_OUTPUT, MOST_LENT_TABLE, MOST_SPEEDS,
 };
-use reference::refusal::DONE;
+use reference::refusal::{
+    ABOVE_RATE, DONE, FLOOR_RULE, OUTSIDE_WINDOW, ROW_ORDER, TOO_SHORT, UNSOUND, VERSION,
+};
 use reference::slack::{slack_figure, SlackFigure};
+use reference::verdicts::checksum::Checksum;
 use reference::verdicts::verdicts;
 
 /// What every count of the stored set has to reach.
@@ -65,6 +69,23 @@ fn set_is_large_enough_and_small_enough() {
     assert!(inputs().len() >= 5_000);
     assert!(stored().len() <= 4_000_000, "{}", stored().len());
     assert!(text().len() <= 4_000_000);
+}
+
+/// The checksum of the format over all bytes.
+fn sum_of(bytes: &[u8]) -> u64 {
+    let mut checksum = Checksum::new();
+    checksum.add_bytes(bytes);
+    checksum.sum
+}
+
+#[test]
+fn set_and_verdicts_are_those_that_the_format_names() {
+    let (stored, text) = (stored(), text());
+    assert_eq!((stored.len(), sum_of(&stored)), (3_188_400, 239_666_904));
+    assert_eq!(
+        (text.len(), sum_of(text.as_bytes())),
+        (1_840_855, 325_798_996)
+    );
 }
 
 #[test]
@@ -125,21 +146,23 @@ fn answers() -> BTreeMap<(String, String), u64> {
 #[test]
 fn every_call_gives_each_of_its_numbers() {
     let answers = answers();
-    let expect = |call: &str, numbers: &[u8]| {
+    let expect = |call: &str, numbers: RangeInclusive<u8>| {
         for number in numbers {
             let key = (call.to_string(), number.to_string());
             let count = answers.get(&key).copied().unwrap_or(0);
             assert!(count >= LEAST, "{} {}: {}", call, number, count);
         }
     };
-    expect(
-        "reader",
-        &[0, 1, 2, 3, 4, 5, 6, 7, 8, 9, 10, 11, 12, 13, 14, 22],
-    );
-    expect("writer", &[0, 21, 22]);
-    expect("judge", &[0, 15, 16, 17, 18, 21, 22]);
-    expect("slack", &[0, 15, 16, 17, 21, 22]);
-    expect("start", &[0, 15, 16, 17, 18, 21, 22]);
+    expect("reader", VERSION..=ROW_ORDER);
+    expect("judge", OUTSIDE_WINDOW..=FLOOR_RULE);
+    expect("slack", OUTSIDE_WINDOW..=ABOVE_RATE);
+    expect("start", OUTSIDE_WINDOW..=FLOOR_RULE);
+    for call in ["writer", "judge", "slack", "start"] {
+        expect(call, UNSOUND..=TOO_SHORT);
+        expect(call, DONE..=DONE);
+    }
+    expect("reader", TOO_SHORT..=TOO_SHORT);
+    expect("reader", DONE..=DONE);
 }
 
 #[test]
@@ -159,7 +182,7 @@ fn judge_refuses_at_first_middle_and_last_places() {
     for (plan, table) in read_plans() {
         if let Err(refusal) = judge(&plan, &table) {
             let jobs = plan.counted().len();
-            let length = if refusal.number < 17 {
+            let length = if refusal.number < ABOVE_RATE {
                 jobs
             } else {
                 intervals(plan.counted()).len()

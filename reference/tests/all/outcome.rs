@@ -1,7 +1,7 @@
 //! The outcome of a job: each of the four, their order, and the refusal.
 
 use crate::common::{broken_plans, e_plan, e_run};
-use reference::refusal::UNSOUND;
+use reference::refusal::{NAME_BYTE, NAME_TWICE, UNSOUND};
 use reference::run::Outcome::{Discarded, Met, Missed, Open};
 use reference::run::{outcome, Outcome, Run};
 
@@ -70,7 +70,7 @@ fn unsound_run_is_21() {
 fn rules_of_numbers_are_21_for_an_outcome_and_rules_of_names_are_not() {
     for (rule, plan) in broken_plans() {
         let answer = outcome(&plan, &e_run(1, false, [0, 0]), 0);
-        let expected = if rule == 6 || rule == 7 {
+        let expected = if rule == NAME_BYTE || rule == NAME_TWICE {
             Ok(Open)
         } else {
             Err(UNSOUND)

@@ -3,7 +3,8 @@
 use crate::common::{broken_plans, e_plan, e_run, e_table, hi, lo, plan_of, table_of};
 use reference::plan::{Job, Plan};
 use reference::refusal::{
-    Refusal, AT_LAST_DEADLINE, DONE, FLOOR_RULE, NOT_THE_SIZE, SPEED, TOO_SHORT, UNSOUND,
+    Refusal, ABOVE_RATE, AT_LAST_DEADLINE, DONE, FLOOR_RULE, NAME_BYTE, NAME_TWICE, NOT_THE_SIZE,
+    OUTSIDE_WINDOW, SPEED, TOO_SHORT, UNSOUND,
 };
 use reference::run::{start, step, Run};
 
@@ -42,19 +43,25 @@ fn run_starts_at_the_first_release_with_nothing_carried() {
 
 #[test]
 fn start_is_refused_as_by_the_judge() {
-    let refused = |plan: &Plan, table: &[u32]| start(plan, table).unwrap_err();
-    assert_eq!(
-        refused(&e_plan(), &vec![0; 2_015]),
-        Refusal::without_place(TOO_SHORT)
-    );
-    assert_eq!(
-        refused(&Plan::zeros(), &e_table()),
-        Refusal::without_place(UNSOUND)
-    );
-    let short = table_of(&[&[2, 4, 0], &[0, 4, 3]]);
-    assert_eq!(refused(&e_plan(), &short), Refusal::at(NOT_THE_SIZE, &[1]));
-    let late = table_of(&[&[2, 4, 0], &[0, 2, 6]]);
-    assert_eq!(refused(&e_plan(), &late), Refusal::at(FLOOR_RULE, &[2, 10]));
+    let refused = |first: &[u32], second: &[u32]| {
+        let table = table_of(&[first, second]);
+        start(&e_plan(), &table).unwrap_err()
+    };
+    let outside = Refusal::at(OUTSIDE_WINDOW, &[0, 2]);
+    assert_eq!(refused(&[2, 3, 1], &[0, 4, 4]), outside);
+    let short = Refusal::at(NOT_THE_SIZE, &[1]);
+    assert_eq!(refused(&[2, 4, 0], &[0, 4, 3]), short);
+    let over = Refusal::at(ABOVE_RATE, &[0]);
+    assert_eq!(refused(&[3, 3, 0], &[0, 4, 4]), over);
+    let late = Refusal::at(FLOOR_RULE, &[2, 10]);
+    assert_eq!(refused(&[2, 4, 0], &[0, 2, 6]), late);
+}
+
+#[test]
+fn start_is_refused_for_a_short_table_before_an_unsound_plan() {
+    let refused = |plan: &Plan, table: &[u32]| start(plan, table).unwrap_err().number;
+    assert_eq!(refused(&Plan::zeros(), &e_table()[..2_015]), TOO_SHORT);
+    assert_eq!(refused(&Plan::zeros(), &e_table()), UNSOUND);
 }
 
 #[test]
@@ -62,7 +69,7 @@ fn rules_of_numbers_are_21_for_a_step_and_rules_of_names_are_not() {
     for (rule, plan) in broken_plans() {
         let mut run = run_at(1);
         let answer = step(&plan, &e_table(), &mut run, 2, &mut [0; 32]);
-        let expected = if rule == 6 || rule == 7 {
+        let expected = if rule == NAME_BYTE || rule == NAME_TWICE {
             DONE
         } else {
             UNSOUND
