@@ -2,3 +2,4 @@ pub mod Below
 pub mod Names
 pub mod Rising
 pub mod Come
+pub mod Stray
