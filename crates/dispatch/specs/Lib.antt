@@ -1,3 +1,4 @@
 pub mod Dues
 pub mod Turns
+pub mod Shares
 pub mod Step

@@ -56,7 +56,7 @@ sum-scale c f (suc n) = omega (arith, sum-scale c f n, mul-add c (sum f n) (f n)
 -- A sum splits at any index.
 pub sum-split : (f : ℕ → ℕ) (m n : ℕ) → sum f (m + n) ≡ sum f m + sum (λ k. f (m + k)) n
 unfolding sum
-sum-split f m zero = rw add-zero (omega arith)
+sum-split f m zero = rw (add-zero m) (omega arith)
 sum-split f m (suc n) = rw add-suc (omega (arith, sum-split f m n))
 
 -- Two sums change places.
