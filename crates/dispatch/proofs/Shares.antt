@@ -1,11 +1,11 @@
 -- The closed form of a slot is the turn-by-turn rule, for all plans, tables, runs and speeds; and what a slot never does.
 use mathlib.Core.Path.{_≡_, refl, sym, _∙_, ap, ap₂}
-use mathlib.Core.Bool.{Bool, true, false, not, cond, _&&_, _||_, and-false}
+use mathlib.Core.Bool.{Bool, true, false, not, cond, _&&_, _||_}
 use mathlib.Core.List.{List, _++_}
 use Prim.Native.Nat.{ℕ, _+_, _-_, _≤_, _<_, min}
 use native.Mathlib.Omega.{arith}
 use borrow.Author.Tests.{lt-ltb}
-use lib.Dec.{ltb}
+use lib.Dec.{leb, ltb}
 use lib.ListN.{length, getD, drop, replicate, length-append, length-replicate, getD-replicate, List·getD-append}
 use Rattle.sums.specs.Sum.{sum, on}
 use Rattle.sums.proofs.Laws.{sum-ext, sum-add}
@@ -16,7 +16,7 @@ use Rattle.dispatch.specs.Dues.{live, slowAfter, due}
 use Rattle.dispatch.specs.Turns.{line, order, serve}
 use Rattle.dispatch.specs.Shares.{served, claim, ahead, before, share}
 use Rattle.dispatch.specs.Step.{granted}
-use Rattle.dispatch.proofs.Line.{over, front, stands, if-true, line-stands, line-once, over-line, front-line, serve-absent, serve-gets, gets-share, serve-both, serve-length}
+use Rattle.dispatch.proofs.Line.{over, front, stands, gets, if-true, line-in-order, line-stands, line-once, over-line, front-line, serve-absent, serve-gets, gets-share, serve-both, serve-length, first-get, all-get}
 
 -- What is claimed before a HI job is claimed by the HI jobs ahead of it.
 before-hi : (alive h slow b : Bool) (x : ℕ) → on (cond h b false) (on (alive && (h || not slow)) x) ≡ on (alive && h && b) x
@@ -38,7 +38,26 @@ before-lo false true slow b x = refl
 before-lo false false slow true x = refl
 before-lo false false slow false x = refl
 
-module _ (p : Plan) (table : List ℕ) (run : Run) (v : ℕ) (grants : List ℕ) (i : ℕ) (counts : i < counted p) where
+-- What nothing is let through of is nothing.
+on-nothing : (b : Bool) → on b 0 ≡ 0
+on-nothing true = refl
+on-nothing false = refl
+
+-- A HI job of a class claims its due if it is live.
+class-claim : (alive h slow b : Bool) (x : ℕ) → on (alive && h) (on b x) ≡ on (h && b) (on (alive && (h || not slow)) x)
+class-claim true true slow b x = refl
+class-claim true false slow b x = refl
+class-claim false true slow b x = sym (on-nothing b)
+class-claim false false slow b x = refl
+
+-- A job's claim is its due in one of the two lines.
+line-claim : (alive h slow : Bool) (x : ℕ) → on (alive && h) x + on (alive && not h && not slow) x ≡ on (alive && (h || not slow)) x
+line-claim true true slow x = omega arith
+line-claim true false true x = refl
+line-claim true false false x = omega arith
+line-claim false h slow x = refl
+
+module _ (p : Plan) (table : List ℕ) (run : Run) (v : ℕ) (grants : List ℕ) where
   abbrev n : ℕ
   n = counted p
 
@@ -47,6 +66,9 @@ module _ (p : Plan) (table : List ℕ) (run : Run) (v : ℕ) (grants : List ℕ)
 
   abbrev dues : ℕ → ℕ
   dues = due p table run slow
+
+  abbrev claims : ℕ → ℕ
+  claims = claim p table run slow
 
   abbrev alive : ℕ → Bool
   alive = live p (run .clock .0)
@@ -66,62 +88,131 @@ module _ (p : Plan) (table : List ℕ) (run : Run) (v : ℕ) (grants : List ℕ)
   abbrev blank : List ℕ
   blank = replicate n 0 ++ drop n grants
 
-  -- A job stands in a line where that line's test lets it in.
-  in-line : (test : ℕ → Bool) (b : Bool) → test i ≡ b → stands i (line test (deadline p) n) ≡ b
-  in-line test b e = line-stands test (deadline p) i n ∙ rw (lt-ltb i n counts, e) refl
-
-  blank-long : i < length blank
-  blank-long = rw (length-append (replicate n 0) (drop n grants), length-replicate {A = ℕ} n 0) (omega arith)
-
-  blank-none : getD blank i 0 ≡ 0
-  blank-none =
-      List·getD-append (replicate n 0) (drop n grants) 0 i (rw (length-replicate {A = ℕ} n 0) counts) ∙ getD-replicate n i 0 0 counts
+  abbrev grant : ℕ → ℕ
+  grant i = getD (granted p table run v grants) i 0
 
   -- The grants, as the two lines' turns.
   two-lines : granted p table run v grants ≡ serve dues (v - over dues hiLine) loLine (serve dues v hiLine blank)
   unfolding granted order
   two-lines = serve-both dues v hiLine loLine blank
 
-  hi-share : isHi p i ≡ true → alive i ≡ true → getD (granted p table run v grants) i 0 ≡ share p table run v i
-  unfolding share
-  hi-share h a =
+  -- A counted job stands in a line where that line's test lets it in.
+  in-line : (i : ℕ) → i < n → (test : ℕ → Bool) (b : Bool) → test i ≡ b → stands i (line test (deadline p) n) ≡ b
+  in-line i counts test b e = line-stands test (deadline p) i n ∙ rw (lt-ltb i n counts, e) refl
+
+  blank-long : (i : ℕ) → i < n → i < length blank
+  blank-long i counts = rw (length-append (replicate n 0) (drop n grants), length-replicate {A = ℕ} n 0) (omega arith)
+
+  blank-none : (i : ℕ) → i < n → getD blank i 0 ≡ 0
+  blank-none i counts =
+      List·getD-append (replicate n 0) (drop n grants) 0 i (rw (length-replicate {A = ℕ} n 0) counts) ∙ getD-replicate n i 0 0 counts
+
+  -- What a job is granted, by the line that it stands in.
+  hi-grant : (i : ℕ) → i < n → isHi p i ≡ true → alive i ≡ true → grant i ≡ gets dues v hiLine i
+  hi-grant i counts h a =
       ap (λ l. getD l i 0) two-lines
-      ∙ serve-absent dues (v - over dues hiLine) loLine (serve dues v hiLine blank) i (in-line loTest false (rw (a, h) refl))
-      ∙ serve-gets dues v hiLine blank i (line-once hiTest (deadline p) n) blank-long (in-line hiTest true (rw (a, h) refl))
-      ∙ gets-share dues v hiLine i (in-line hiTest true (rw (a, h) refl))
+      ∙ serve-absent dues (v - over dues hiLine) loLine (serve dues v hiLine blank) i (in-line i counts loTest false (rw (a, h) refl))
+      ∙ serve-gets dues v hiLine blank i (line-once hiTest (deadline p) n) (blank-long i counts) (in-line i counts hiTest true (rw (a, h) refl))
+
+  lo-grant : (i : ℕ) → i < n → loTest i ≡ true → grant i ≡ gets dues (v - over dues hiLine) loLine i
+  lo-grant i counts let-in =
+      ap (λ l. getD l i 0) two-lines
+      ∙ serve-gets dues (v - over dues hiLine) loLine (serve dues v hiLine blank) i (line-once loTest (deadline p) n)
+        (rw (serve-length dues v hiLine blank) (blank-long i counts)) (in-line i counts loTest true let-in)
+
+  no-grant : (i : ℕ) → i < n → hiTest i ≡ false → loTest i ≡ false → grant i ≡ 0
+  no-grant i counts hi-out lo-out =
+      ap (λ l. getD l i 0) two-lines
+      ∙ serve-absent dues (v - over dues hiLine) loLine (serve dues v hiLine blank) i (in-line i counts loTest false lo-out)
+      ∙ serve-absent dues v hiLine blank i (in-line i counts hiTest false hi-out) ∙ blank-none i counts
+
+  hi-share : (i : ℕ) → i < n → isHi p i ≡ true → alive i ≡ true → grant i ≡ share p table run v i
+  unfolding share
+  hi-share i counts h a =
+      hi-grant i counts h a
+      ∙ gets-share dues v hiLine i (in-line i counts hiTest true (rw (a, h) refl))
       ∙ ap₂ (λ x s. min x (v - s)) (rw (a, h) refl)
         (front-line hiTest (deadline p) dues i n counts (rw (a, h) refl)
         ∙ sum-ext _ _ n (λ k l. rw h (sym (before-hi (alive k) (isHi p k) slow (ahead (deadline p) k i) (dues k)))))
 
-  lo-share : isHi p i ≡ false → alive i ≡ true → slow ≡ false → getD (granted p table run v grants) i 0 ≡ share p table run v i
+  lo-share : (i : ℕ) → i < n → isHi p i ≡ false → alive i ≡ true → slow ≡ false → grant i ≡ share p table run v i
   unfolding share
-  lo-share h a s =
+  lo-share i counts h a s =
       let let-in : loTest i ≡ true = rw (a, h, s) refl in
       let room : v - over dues hiLine - front dues loLine i ≡ v - (over dues hiLine + front dues loLine i) = omega arith in
-      ap (λ l. getD l i 0) two-lines
-      ∙ serve-gets dues (v - over dues hiLine) loLine (serve dues v hiLine blank) i (line-once loTest (deadline p) n)
-        (rw (serve-length dues v hiLine blank) blank-long) (in-line loTest true let-in)
-      ∙ gets-share dues (v - over dues hiLine) loLine i (in-line loTest true let-in)
+      lo-grant i counts let-in
+      ∙ gets-share dues (v - over dues hiLine) loLine i (in-line i counts loTest true let-in)
       ∙ ap₂ min (rw (a, h, s) refl)
         (room ∙ ap (λ x. v - x)
           (ap₂ _+_ (over-line hiTest (deadline p) dues n) (front-line loTest (deadline p) dues i n counts let-in)
           ∙ sym (sum-add (λ k. on (hiTest k) (dues k)) (λ k. on (loTest k && ahead (deadline p) k i) (dues k)) n)
           ∙ sum-ext _ _ n (λ k l. rw h (sym (before-lo (alive k) (isHi p k) slow (ahead (deadline p) k i) (dues k))))))
 
-  none-share : served p (run .clock .0) slow i ≡ false → hiTest i ≡ false → loTest i ≡ false
-      → getD (granted p table run v grants) i 0 ≡ share p table run v i
+  no-share : (i : ℕ) → i < n → served p (run .clock .0) slow i ≡ false → hiTest i ≡ false → loTest i ≡ false → grant i ≡ share p table run v i
   unfolding share
-  none-share e hi-out lo-out =
-      ap (λ l. getD l i 0) two-lines
-      ∙ serve-absent dues (v - over dues hiLine) loLine (serve dues v hiLine blank) i (in-line loTest false lo-out)
-      ∙ serve-absent dues v hiLine blank i (in-line hiTest false hi-out) ∙ blank-none
-      ∙ rw e (omega arith)
+  no-share i counts e hi-out lo-out = no-grant i counts hi-out lo-out ∙ rw e (omega arith)
 
   -- What a counted job is granted turn by turn is its share.
-  pub granted-is-share : getD (granted p table run v grants) i 0 ≡ share p table run v i
-  granted-is-share =
+  pub granted-is-share : (i : ℕ) → i < n → grant i ≡ share p table run v i
+  granted-is-share i counts =
       if-true (alive i)
       (λ a. if-true (isHi p i)
-        (λ h. hi-share h a)
-        (λ h. if-true slow (λ s. none-share (rw (a, h, s) refl) (rw (a, h) refl) (rw (a, h, s) refl)) (λ s. lo-share h a s)))
-      (λ a. none-share (rw a refl) (rw a refl) (rw a refl))
+        (λ h. hi-share i counts h a)
+        (λ h. if-true slow
+          (λ s. no-share i counts (rw (a, h, s) refl) (rw (a, h) refl) (rw (a, h, s) refl))
+          (λ s. lo-share i counts h a s)))
+      (λ a. no-share i counts (rw a refl) (rw a refl) (rw a refl))
+
+  -- No job is granted more than it claims.
+  pub within-claim : (i : ℕ) → i < n → grant i ≤ claims i
+  unfolding share
+  within-claim i counts = rw (granted-is-share i counts) (omega arith)
+
+  -- The HI jobs with deadline at most D come first: together they get the lesser of v and their claims.
+  pub first-served : (D : ℕ)
+      → sum (λ k. on (isHi p k && leb (deadline p k) D) (grant k)) n
+      ≡ min v (sum (λ k. on (isHi p k && leb (deadline p k) D) (claims k)) n)
+  first-served D =
+      sum-ext _ _ n (λ k l. sym (class-grant k l)) ∙ sym (over-line hiTest (deadline p) (λ k. on (leb (deadline p k) D) (gets dues v hiLine k)) n)
+      ∙ first-get dues (deadline p) v D hiLine (line-in-order hiTest (deadline p) n) (line-once hiTest (deadline p) n)
+      ∙ ap (min v)
+        (over-line hiTest (deadline p) (λ k. on (leb (deadline p k) D) (dues k)) n
+        ∙ sum-ext _ _ n (λ k l. class-claim (alive k) (isHi p k) slow (leb (deadline p k) D) (dues k)))
+    where
+      class-grant : (k : ℕ) → k < n
+          → on (hiTest k) (on (leb (deadline p k) D) (gets dues v hiLine k)) ≡ on (isHi p k && leb (deadline p k) D) (grant k)
+      class-grant k l =
+          if-true (alive k)
+          (λ a. if-true (isHi p k) (λ h. rw (a, h, hi-grant k l h a) refl) (λ h. rw (a, h) refl))
+          (λ a. rw (a, no-grant k l (rw a refl) (rw a refl)) (sym (on-nothing (isHi p k && leb (deadline p k) D))))
+
+  -- All jobs together get the lesser of v and all claims.
+  pub all-served : sum grant n ≡ min v (sum claims n)
+  all-served =
+      sum-ext _ _ n each
+      ∙ sum-add (λ k. on (hiTest k) (gets dues v hiLine k)) (λ k. on (loTest k) (gets dues (v - over dues hiLine) loLine k)) n
+      ∙ ap₂ _+_
+        (sym (over-line hiTest (deadline p) (gets dues v hiLine) n) ∙ all-get dues v hiLine (line-once hiTest (deadline p) n))
+        (sym (over-line loTest (deadline p) (gets dues (v - over dues hiLine) loLine) n)
+        ∙ all-get dues (v - over dues hiLine) loLine (line-once loTest (deadline p) n))
+      ∙ both
+      ∙ ap (min v)
+        (ap₂ _+_ (over-line hiTest (deadline p) dues n) (over-line loTest (deadline p) dues n)
+        ∙ sym (sum-add (λ k. on (hiTest k) (dues k)) (λ k. on (loTest k) (dues k)) n)
+        ∙ sum-ext _ _ n (λ k l. line-claim (alive k) (isHi p k) slow (dues k)))
+    where
+      both : min v (over dues hiLine) + min (v - over dues hiLine) (over dues loLine) ≡ min v (over dues hiLine + over dues loLine)
+      both = omega arith
+
+      each : (k : ℕ) → k < n → grant k ≡ on (hiTest k) (gets dues v hiLine k) + on (loTest k) (gets dues (v - over dues hiLine) loLine k)
+      each k l =
+          if-true (alive k)
+          (λ a. if-true (isHi p k)
+            (λ h. rw (a, h, hi-grant k l h a) (omega arith))
+            (λ h. if-true slow
+              (λ s. rw (a, h, s, no-grant k l (rw (a, h) refl) (rw (a, h, s) refl)) refl)
+              (λ s.
+                let out : hiTest k ≡ false = rw (a, h) refl in
+                let let-in : loTest k ≡ true = rw (a, h, s) refl in
+                rw (out, let-in, lo-grant k l let-in) (omega arith))))
+          (λ a. rw (a, no-grant k l (rw a refl) (rw a refl)) refl)
