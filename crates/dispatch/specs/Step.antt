@@ -64,11 +64,12 @@ added (suc n) (x ∷ l) (g ∷ grants) = (x + g) ∷ added n l grants
 -- The run after a slot: marks, carried units and clock, and nothing else.
 unfoldable pub advanced : Plan → List ℕ → Run → ℕ → List ℕ → Run
 advanced p table run v grants =
-    record
-      { clock = record { 0 = run .clock .0 + 1 };
-        slow = slowAfter p run v;
-        below = belowAfter p run v;
-        carried = added (counted p) (run .carried) (granted p table run v grants) }
+    record {
+      clock = record { 0 = run .clock .0 + 1 };
+      slow = slowAfter p run v;
+      below = belowAfter p run v;
+      carried = added (counted p) (run .carried) (granted p table run v grants);
+    }
 
 -- What a slot's call leaves: its answer (empty for done), the run and the grant row.
 pub record Slot : Type 0 where

@@ -113,11 +113,12 @@ judging jobs rows verdict slack =
 -- A case of slots of plan E: the speeds, and the slots that must come out.
 abbrev slotsOfE : List ℕ → List (List ℕ) → Case
 slotsOfE speeds slots =
-    record
-      { jobs = jobsOfE;
-        rows = rowsOfE;
-        speeds = speeds;
-        must = record { verdict = []; slack = least (pos 1) 1 10; slots = slots } }
+    record {
+      jobs = jobsOfE;
+      rows = rowsOfE;
+      speeds = speeds;
+      must = record { verdict = []; slack = least (pos 1) 1 10; slots = slots };
+    }
 
 abbrev P1 : Case
 P1 = judging jobsOfE rowsOfE [] (least (pos 1) 1 10)
@@ -153,11 +154,12 @@ P8 =
 -- Position 0 is B, position 1 is A: at speeds 2 and 1, A gets 2, and then B gets 1.
 abbrev P9 : Case
 P9 =
-    record
-      { jobs = job jobB hi 0 2 4 ∷ job jobA hi 0 2 2 ∷ [];
-        rows = (2 ∷ 0 ∷ []) ∷ (2 ∷ 0 ∷ []) ∷ [];
-        speeds = 2 ∷ 1 ∷ [];
-        must = record { verdict = []; slack = least (pos 0) 0 2; slots = (0 ∷ 0 ∷ 2 ∷ []) ∷ (1 ∷ 1 ∷ 0 ∷ []) ∷ [] } }
+    record {
+      jobs = job jobB hi 0 2 4 ∷ job jobA hi 0 2 2 ∷ [];
+      rows = (2 ∷ 0 ∷ []) ∷ (2 ∷ 0 ∷ []) ∷ [];
+      speeds = 2 ∷ 1 ∷ [];
+      must = record { verdict = []; slack = least (pos 0) 0 2; slots = (0 ∷ 0 ∷ 2 ∷ []) ∷ (1 ∷ 1 ∷ 0 ∷ []) ∷ [] };
+    }
 
 abbrev P10 : Case
 P10 = slotsOfE (2 ∷ 2 ∷ []) ((0 ∷ 2 ∷ 0 ∷ []) ∷ (0 ∷ 0 ∷ 2 ∷ []) ∷ [])
