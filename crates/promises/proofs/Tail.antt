@@ -89,7 +89,7 @@ module _ (f : Facts) (good : Good f) where
   before-le i l h e = omega (arith, before-size i l h e)
 
   -- A job whose deadline has come by the start of an interval has nothing left from there on.
-  tail-ended : (i l : ℕ) → i < f .N → l ≤ f .K → f .dl i ≤ f .b l → tail f l i ≡ 0
+  pub tail-ended : (i l : ℕ) → i < f .N → l ≤ f .K → f .dl i ≤ f .b l → tail f l i ≡ 0
   tail-ended i l h e m =
       let none : sum (λ j. f .x i (l + j)) (f .K - l) ≡ 0
             = sum-none (λ j. f .x i (l + j)) (f .K - l)
