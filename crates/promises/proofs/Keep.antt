@@ -1,6 +1,6 @@
 -- What every slot keeps, over a plan told by functions: nothing over size; the floor's promise; the plan's pace while no slot was slow.
 use mathlib.Core.Path.{_≡_, refl, sym, _∙_, ap, ap₂}
-use mathlib.Core.Bool.{Bool, true, false, true≢false, not, _&&_, _||_}
+use mathlib.Core.Bool.{Bool, true, false, not, _&&_, _||_, or-true}
 use Prim.Native.Nat.{ℕ, zero, suc, _+_, _*_, _-_, _≤_, _<_, min}
 use native.Mathlib.Nat.{mul-zero, mul-le-mul-left, le-trans}
 use native.Mathlib.Omega.{arith}
@@ -8,7 +8,7 @@ use borrow.Author.Tests.{lt-ltb, le-ltb, le-leb, lt-leb, leb-true, ltb-false}
 use lib.Dec.{leb, ltb}
 use Rattle.sums.specs.Sum.{sum, on}
 use Rattle.sums.proofs.Laws.{sum-ext, sum-mono, sum-none, sum-add, term-le}
-use Rattle.dispatch.proofs.Line.{if-true, if-less, if-same}
+use Rattle.dispatch.proofs.Line.{if-less, neither}
 use Rattle.promises.proofs.Tail.{Facts, Good, class, before, tail, both, on-ext, on-none, rises, rises-strictly, before-le, tail-ended, in-class, floor-tail}
 
 -- The state of a run: the clock, the slow mark, and what is carried for each job.
@@ -151,3 +151,124 @@ module _ (f : Facts) (good : Good f) (s s′ : State) (l v : ℕ) (g : ℕ → �
         where
           sooner : D - f .b (suc l) ≤ D - suc (s .t)
           sooner = omega (arith, slot .inside .2)
+
+  -- While the mark is clear every job claims what the plan allots by the end of the interval, less what it has.
+  claim-is-rest : OnPace f s l → s′ .slow ≡ false → (i : ℕ) → i < f .N → claim f s l (s′ .slow) i ≡ before f i (suc l) - s .carried i
+  unfolding sum
+  claim-is-rest pace clear i e =
+      rw clear
+      (if-less (s .t) (f .rel i)
+        (λ m. rw (lt-leb (f .rel i) (s .t) m) (omega (arith, not-begun i e m)))
+        (λ m. if-less (s .t) (f .dl i)
+          (λ o. rw (le-leb (f .rel i) (s .t) m, lt-ltb (s .t) (f .dl i) o, or-true (f .hi i))
+            (omega (arith, before-le f good i (suc l) e (slot .inside .0))))
+          (λ o. rw (le-leb (f .rel i) (s .t) m, le-ltb (s .t) (f .dl i) o)
+            (omega (arith, good .late i l e (slot .inside .0) (omega (arith, slot .inside .2)), pace .least i e)))))
+
+  -- A slot at the normal rate keeps the pace.
+  pub keeps-pace : OnPace f s l → s′ .slow ≡ false → OnPace f s′ l
+  keeps-pace pace clear =
+      record
+        { inside = (slot .inside .0, rw (slot .clock) (omega (arith, slot .inside .1)), rw (slot .clock) (slot .inside .2));
+          least = λ i e. rw (slot .adds i e) (omega (arith, pace .least i e));
+          most = λ i e. rw (slot .adds i e) (omega (arith, slot .within i e, claim-is-rest pace clear i e, pace .most i e));
+          rest = rw (slot .clock) (omega (arith, given, claimed, slot .all, pace .rest, normal, one-less (f .n) (f .b (suc l)) (s .t))) }
+    where
+      normal : f .n ≤ v
+      normal = ltb-false v (f .n) (neither (s .slow) (ltb v (f .n)) (sym (slot .mark) ∙ clear) .1)
+
+      claimed : sum (claim f s l (s′ .slow)) (f .N) ≡ sum (λ i. before f i (suc l) - s .carried i) (f .N)
+      claimed = sum-ext _ _ (f .N) (claim-is-rest pace clear)
+
+      given : sum (λ i. before f i (suc l) - s′ .carried i) (f .N) + sum g (f .N) ≡ sum (λ i. before f i (suc l) - s .carried i) (f .N)
+      given =
+          sym (sum-add _ _ (f .N))
+          ∙ sum-ext _ _ (f .N)
+            (λ i e. rw (slot .adds i e) (omega (arith, slot .within i e, claim-is-rest pace clear i e, pace .most i e)))
+
+module _ (f : Facts) (good : Good f) (s : State) where
+  -- At the end of an interval every job on pace has all that is allotted by then.
+  all-there : (l : ℕ) → OnPace f s l → s .t ≡ f .b (suc l) → (i : ℕ) → i < f .N → s .carried i ≡ before f i (suc l)
+  all-there l pace e i h =
+      let no-time : f .b (suc l) - s .t ≡ 0 = omega arith in
+      let nothing : f .n * (f .b (suc l) - s .t) ≡ 0 = ap (λ m. f .n * m) no-time ∙ mul-zero (f .n) in
+      omega (arith, pace .most i h, pace .rest, term-le (λ k. before f k (suc l) - s .carried k) (f .N) i h)
+
+  -- The pace passes to the next interval.
+  advance : (l : ℕ) → OnPace f s l → s .t ≡ f .b (suc l) → suc l < f .K → OnPace f s (suc l)
+  unfolding sum
+  advance l pace e more =
+      record
+        { inside = (more, omega arith, omega (arith, good .rise (suc l) more));
+          least = λ i h. omega (arith, all-there l pace e i h);
+          most = λ i h. omega (arith, all-there l pace e i h);
+          rest =
+            rw (e, sum-ext (λ i. before f i (suc (suc l)) - s .carried i) (λ i. f .x i (suc l)) (f .N) (λ i h. omega (arith, all-there l pace e i h)))
+            (good .within (suc l) more) }
+
+  -- On pace in some interval, a run is on pace in the interval of its clock.
+  pub on-pace-here : (l here : ℕ) → OnPace f s l → here < f .K → f .b here ≤ s .t → s .t < f .b (suc here) → OnPace f s here
+  on-pace-here l here pace k from to =
+      if-less (s .t) (f .b (suc l))
+      (λ m. let is : here ≡ l = omega (arith, not-below m, not-above m) in rw is pace)
+      (λ m. let at : s .t ≡ f .b (suc l) = omega (arith, pace .inside .2) in
+        let is : here ≡ suc l = omega (arith, above at, not-far at) in
+        rw is (advance l pace at (omega (arith, above at))))
+    where
+      not-below : s .t < f .b (suc l) → l ≤ here
+      not-below m =
+          if-less here l
+          (λ o. absurd (omega (arith, rises f good (suc here) l o (omega (arith, pace .inside .0)), pace .inside .1)))
+          (λ o. o)
+
+      not-above : s .t < f .b (suc l) → here ≤ l
+      not-above m = if-less l here (λ o. absurd (omega (arith, rises f good (suc l) here o (omega arith)))) (λ o. o)
+
+      above : s .t ≡ f .b (suc l) → suc l ≤ here
+      above at =
+          if-less here (suc l)
+          (λ o. absurd (omega (arith, rises f good (suc here) (suc l) o (pace .inside .0))))
+          (λ o. o)
+
+      not-far : s .t ≡ f .b (suc l) → here ≤ suc l
+      not-far at = if-less (suc l) here (λ o. absurd (omega (arith, rises-strictly f good (suc l) here o (omega arith)))) (λ o. o)
+
+  -- On pace, every job whose deadline the clock has reached has its size.
+  pub on-pace-ended : (l : ℕ) → OnPace f s l → NoMore f s → (i : ℕ) → i < f .N → f .dl i ≤ s .t → s .carried i ≡ f .size i
+  on-pace-ended l pace no-more i h o =
+      if-less l (good .ends i h .0)
+      (λ m.
+        let late : f .b (suc l) ≤ f .dl i = omega (arith, rises f good (suc l) (good .ends i h .0) m (good .ends i h .1), good .ends i h .2) in
+        let at : s .t ≡ f .b (suc l) = omega (arith, pace .inside .2) in
+        omega (arith, all-there l pace at i h, tail-ended f good i (suc l) h (pace .inside .0) (omega arith), no-more i h))
+      (λ m.
+        let early : f .dl i ≤ f .b l
+              = omega (arith, rises f good (good .ends i h .0) l m (omega (arith, pace .inside .0)), good .ends i h .2) in
+        omega (arith, pace .least i h, tail-ended f good i l h (omega (arith, pace .inside .0)) early, no-more i h))
+
+  -- The floor's promise gives every HI job its size by its deadline.
+  pub floor-ended : FloorHolds f s → NoMore f s → (i : ℕ) → i < f .N → f .hi i ≡ true → f .dl i ≤ s .t → s .carried i ≡ f .size i
+  floor-ended floor no-more i h is-hi o =
+      let no-time : f .dl i - s .t ≡ 0 = omega arith in
+      let nothing : f .d * (f .dl i - s .t) ≡ 0 = ap (λ m. f .d * m) no-time ∙ mul-zero (f .d) in
+      let term = term-le (λ k. on (class f (f .dl i) k) (f .size k - s .carried k)) (f .N) i h in
+      omega (arith, rw (is-hi, le-leb (f .dl i) (f .dl i) (omega arith)) at term, floor (f .dl i), no-more i h)
+
+  -- A run begins with the floor's promise, and on pace.
+  pub begins-with-floor : s .t ≡ f .b 0 → ((i : ℕ) → i < f .N → s .carried i ≡ 0) → FloorHolds f s
+  unfolding sum
+  begins-with-floor at none D =
+      rw (at, sum-ext (λ i. on (class f D i) (f .size i - s .carried i)) (λ i. on (class f D i) (tail f 0 i)) (f .N)
+        (λ i h. ap (λ c. on (class f D i) (f .size i - c)) (none i h)))
+      (floor-tail f good 0 D (omega arith))
+
+  pub begins-on-pace : s .t ≡ f .b 0 → ((i : ℕ) → i < f .N → s .carried i ≡ 0) → 0 < f .K → OnPace f s 0
+  unfolding sum
+  begins-on-pace at none k =
+      record
+        { inside = (k, omega arith, omega (arith, good .rise 0 k));
+          least = λ i h. omega arith;
+          most = λ i h. omega (arith, none i h);
+          rest =
+            rw (at, sum-ext (λ i. before f i 1 - s .carried i) (λ i. f .x i 0) (f .N) (λ i h. omega (arith, none i h)))
+            (good .within 0 k) }
