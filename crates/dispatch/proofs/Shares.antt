@@ -118,7 +118,7 @@ module _ (p : Plan) (table : List ℕ) (run : Run) (v : ℕ) (grants : List ℕ)
   lo-grant i counts let-in =
       ap (λ l. getD l i 0) two-lines
       ∙ serve-gets dues (v - over dues hiLine) loLine (serve dues v hiLine blank) i (line-once loTest (deadline p) n)
-        (rw (serve-length dues v hiLine blank) (blank-long i counts)) (in-line i counts loTest true let-in)
+      (rw (serve-length dues v hiLine blank) (blank-long i counts)) (in-line i counts loTest true let-in)
 
   no-grant : (i : ℕ) → i < n → hiTest i ≡ false → loTest i ≡ false → grant i ≡ 0
   no-grant i counts hi-out lo-out =
@@ -132,8 +132,8 @@ module _ (p : Plan) (table : List ℕ) (run : Run) (v : ℕ) (grants : List ℕ)
       hi-grant i counts h a
       ∙ gets-share dues v hiLine i (in-line i counts hiTest true (rw (a, h) refl))
       ∙ ap₂ (λ x s. min x (v - s)) (rw (a, h) refl)
-        (front-line hiTest (deadline p) dues i n counts (rw (a, h) refl)
-        ∙ sum-ext _ _ n (λ k l. rw h (sym (before-hi (alive k) (isHi p k) slow (ahead (deadline p) k i) (dues k)))))
+      (front-line hiTest (deadline p) dues i n counts (rw (a, h) refl)
+      ∙ sum-ext _ _ n (λ k l. rw h (sym (before-hi (alive k) (isHi p k) slow (ahead (deadline p) k i) (dues k)))))
 
   lo-share : (i : ℕ) → i < n → isHi p i ≡ false → alive i ≡ true → slow ≡ false → grant i ≡ share p table run v i
   unfolding share
@@ -143,10 +143,10 @@ module _ (p : Plan) (table : List ℕ) (run : Run) (v : ℕ) (grants : List ℕ)
       lo-grant i counts let-in
       ∙ gets-share dues (v - over dues hiLine) loLine i (in-line i counts loTest true let-in)
       ∙ ap₂ min (rw (a, h, s) refl)
-        (room ∙ ap (λ x. v - x)
-          (ap₂ _+_ (over-line hiTest (deadline p) dues n) (front-line loTest (deadline p) dues i n counts let-in)
-          ∙ sym (sum-add (λ k. on (hiTest k) (dues k)) (λ k. on (loTest k && ahead (deadline p) k i) (dues k)) n)
-          ∙ sum-ext _ _ n (λ k l. rw h (sym (before-lo (alive k) (isHi p k) slow (ahead (deadline p) k i) (dues k))))))
+      (room ∙ ap (λ x. v - x)
+      (ap₂ _+_ (over-line hiTest (deadline p) dues n) (front-line loTest (deadline p) dues i n counts let-in)
+      ∙ sym (sum-add (λ k. on (hiTest k) (dues k)) (λ k. on (loTest k && ahead (deadline p) k i) (dues k)) n)
+      ∙ sum-ext _ _ n (λ k l. rw h (sym (before-lo (alive k) (isHi p k) slow (ahead (deadline p) k i) (dues k))))))
 
   no-share : (i : ℕ) → i < n → served p (run .clock .0) slow i ≡ false → hiTest i ≡ false → loTest i ≡ false → grant i ≡ share p table run v i
   unfolding share
@@ -157,10 +157,10 @@ module _ (p : Plan) (table : List ℕ) (run : Run) (v : ℕ) (grants : List ℕ)
   granted-is-share i counts =
       if-true (alive i)
       (λ a. if-true (isHi p i)
-        (λ h. hi-share i counts h a)
-        (λ h. if-true slow
-          (λ s. no-share i counts (rw (a, h, s) refl) (rw (a, h) refl) (rw (a, h, s) refl))
-          (λ s. lo-share i counts h a s)))
+      (λ h. hi-share i counts h a)
+      (λ h. if-true slow
+      (λ s. no-share i counts (rw (a, h, s) refl) (rw (a, h) refl) (rw (a, h, s) refl))
+      (λ s. lo-share i counts h a s)))
       (λ a. no-share i counts (rw a refl) (rw a refl) (rw a refl))
 
   -- No job is granted more than it claims.
@@ -176,8 +176,8 @@ module _ (p : Plan) (table : List ℕ) (run : Run) (v : ℕ) (grants : List ℕ)
       sum-ext _ _ n (λ k l. sym (class-grant k l)) ∙ sym (over-line hiTest (deadline p) (λ k. on (leb (deadline p k) D) (gets dues v hiLine k)) n)
       ∙ first-get dues (deadline p) v D hiLine (line-in-order hiTest (deadline p) n) (line-once hiTest (deadline p) n)
       ∙ ap (min v)
-        (over-line hiTest (deadline p) (λ k. on (leb (deadline p k) D) (dues k)) n
-        ∙ sum-ext _ _ n (λ k l. class-claim (alive k) (isHi p k) slow (leb (deadline p k) D) (dues k)))
+      (over-line hiTest (deadline p) (λ k. on (leb (deadline p k) D) (dues k)) n
+      ∙ sum-ext _ _ n (λ k l. class-claim (alive k) (isHi p k) slow (leb (deadline p k) D) (dues k)))
     where
       class-grant : (k : ℕ) → k < n
           → on (hiTest k) (on (leb (deadline p k) D) (gets dues v hiLine k)) ≡ on (isHi p k && leb (deadline p k) D) (grant k)
@@ -192,14 +192,14 @@ module _ (p : Plan) (table : List ℕ) (run : Run) (v : ℕ) (grants : List ℕ)
       sum-ext _ _ n each
       ∙ sum-add (λ k. on (hiTest k) (gets dues v hiLine k)) (λ k. on (loTest k) (gets dues (v - over dues hiLine) loLine k)) n
       ∙ ap₂ _+_
-        (sym (over-line hiTest (deadline p) (gets dues v hiLine) n) ∙ all-get dues v hiLine (line-once hiTest (deadline p) n))
-        (sym (over-line loTest (deadline p) (gets dues (v - over dues hiLine) loLine) n)
-        ∙ all-get dues (v - over dues hiLine) loLine (line-once loTest (deadline p) n))
+      (sym (over-line hiTest (deadline p) (gets dues v hiLine) n) ∙ all-get dues v hiLine (line-once hiTest (deadline p) n))
+      (sym (over-line loTest (deadline p) (gets dues (v - over dues hiLine) loLine) n)
+      ∙ all-get dues (v - over dues hiLine) loLine (line-once loTest (deadline p) n))
       ∙ both
       ∙ ap (min v)
-        (ap₂ _+_ (over-line hiTest (deadline p) dues n) (over-line loTest (deadline p) dues n)
-        ∙ sym (sum-add (λ k. on (hiTest k) (dues k)) (λ k. on (loTest k) (dues k)) n)
-        ∙ sum-ext _ _ n (λ k l. line-claim (alive k) (isHi p k) slow (dues k)))
+      (ap₂ _+_ (over-line hiTest (deadline p) dues n) (over-line loTest (deadline p) dues n)
+      ∙ sym (sum-add (λ k. on (hiTest k) (dues k)) (λ k. on (loTest k) (dues k)) n)
+      ∙ sum-ext _ _ n (λ k l. line-claim (alive k) (isHi p k) slow (dues k)))
     where
       both : min v (over dues hiLine) + min (v - over dues hiLine) (over dues loLine) ≡ min v (over dues hiLine + over dues loLine)
       both = omega arith
@@ -208,11 +208,11 @@ module _ (p : Plan) (table : List ℕ) (run : Run) (v : ℕ) (grants : List ℕ)
       each k l =
           if-true (alive k)
           (λ a. if-true (isHi p k)
-            (λ h. rw (a, h, hi-grant k l h a) (omega arith))
-            (λ h. if-true slow
-              (λ s. rw (a, h, s, no-grant k l (rw (a, h) refl) (rw (a, h, s) refl)) refl)
-              (λ s.
-                let out : hiTest k ≡ false = rw (a, h) refl in
-                let let-in : loTest k ≡ true = rw (a, h, s) refl in
-                rw (out, let-in, lo-grant k l let-in) (omega arith))))
+          (λ h. rw (a, h, hi-grant k l h a) (omega arith))
+          (λ h. if-true slow
+          (λ s. rw (a, h, s, no-grant k l (rw (a, h) refl) (rw (a, h, s) refl)) refl)
+          (λ s.
+          let out : hiTest k ≡ false = rw (a, h) refl in
+          let let-in : loTest k ≡ true = rw (a, h, s) refl in
+          rw (out, let-in, lo-grant k l let-in) (omega arith))))
           (λ a. rw (a, no-grant k l (rw a refl) (rw a refl)) refl)

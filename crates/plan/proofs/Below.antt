@@ -3,7 +3,9 @@ use mathlib.Core.Path.{_≡_, refl, sym, _∙_, ap, ap₂}
 use mathlib.Core.Bool.{Bool, true, _&&_, and-true, and-assoc}
 use Prim.Native.Nat.{ℕ, zero, suc, _+_, _≤_, _<_, min, max}
 use native.Mathlib.Numerals.{add-one}
+use native.Mathlib.Decide.{decLt}
 use native.Mathlib.Omega.{arith}
+use Rattle.sums.proofs.Laws.{below-or-last}
 use Rattle.plan.specs.Below.{every, least, greatest}
 
 -- A test holds at every number below 0, and below the next length if it holds at the last too: as a loop finds it.
@@ -50,3 +52,36 @@ pub least-next : (f : ℕ → ℕ) {so-far : ℕ} (n : ℕ) → 1 ≤ n → so-f
 unfolding least
 least-next f zero h e = absurd (omega arith)
 least-next f (suc n) h e = rw (add-one, e) refl
+
+-- The least is no greater than any, and is one of them; the same of the greatest.
+pub least-lower : (f : ℕ → ℕ) (n i : ℕ) → i < n → least f n ≤ f i
+unfolding least
+least-lower f (suc zero) i h = let e : i ≡ 0 = omega arith in rw e (omega arith)
+least-lower f (suc (suc n)) i h =
+    below-or-last i (suc n) h (λ l. omega (arith, least-lower f (suc n) i l)) (λ e. rw e (omega arith))
+
+pub least-attained : (f : ℕ → ℕ) (n : ℕ) → 0 < n → (i : ℕ) × (i < n) × (f i ≡ least f n)
+unfolding least
+least-attained f zero h = absurd (omega arith)
+least-attained f (suc zero) h = (0, omega arith, refl)
+least-attained f (suc (suc n)) h = go (decLt (f (suc n)) (least f (suc n))) (least-attained f (suc n) (omega arith))
+  where
+    go : Dec (f (suc n) < least f (suc n)) → (i : ℕ) × (i < suc n) × (f i ≡ least f (suc n))
+        → (i : ℕ) × (i < suc (suc n)) × (f i ≡ min (least f (suc n)) (f (suc n)))
+    go (yes l) w = (suc n, omega arith, omega arith)
+    go (no l) w = (w .0, omega (arith, w .1), omega (arith, w .2))
+
+pub greatest-upper : (f : ℕ → ℕ) (n i : ℕ) → i < n → f i ≤ greatest f n
+unfolding greatest
+greatest-upper f (suc n) i h = below-or-last i n h (λ l. omega (arith, greatest-upper f n i l)) (λ e. rw e (omega arith))
+
+pub greatest-attained : (f : ℕ → ℕ) (n : ℕ) → 0 < n → (i : ℕ) × (i < n) × (f i ≡ greatest f n)
+unfolding greatest
+greatest-attained f zero h = absurd (omega arith)
+greatest-attained f (suc zero) h = (0, omega arith, omega arith)
+greatest-attained f (suc (suc n)) h = go (decLt (greatest f (suc n)) (f (suc n))) (greatest-attained f (suc n) (omega arith))
+  where
+    go : Dec (greatest f (suc n) < f (suc n)) → (i : ℕ) × (i < suc n) × (f i ≡ greatest f (suc n))
+        → (i : ℕ) × (i < suc (suc n)) × (f i ≡ max (greatest f (suc n)) (f (suc n)))
+    go (yes l) w = (suc n, omega arith, omega arith)
+    go (no l) w = (w .0, omega (arith, w .1), omega (arith, w .2))

@@ -3,3 +3,4 @@ pub mod Names
 pub mod Rising
 pub mod Come
 pub mod Stray
+pub mod Timeline

@@ -99,8 +99,8 @@ module _ (f : Facts) (good : Good f) (s s′ : State) (l v : ℕ) (g : ℕ → �
       if-less (s .t) (f .rel i)
       (λ m. omega (arith, not-begun i e m))
       (λ m. if-less (s .t) (f .dl i)
-        (λ o. rw (le-leb (f .rel i) (s .t) m, lt-ltb (s .t) (f .dl i) o, h) (served (s′ .slow)))
-        (λ o. omega (arith, ended o)))
+      (λ o. rw (le-leb (f .rel i) (s .t) m, lt-ltb (s .t) (f .dl i) o, h) (served (s′ .slow)))
+      (λ o. omega (arith, ended o)))
     where
       served : (slow : Bool) → f .size i - s .carried i - (goal f l slow i - s .carried i) ≤ tail f (suc l) i
       served true = omega (arith, no-more i e)
@@ -133,8 +133,8 @@ module _ (f : Facts) (good : Good f) (s s′ : State) (l v : ℕ) (g : ℕ → �
       given =
           sym (sum-add _ _ (f .N))
           ∙ sum-ext _ _ (f .N)
-            (λ i e. on-parts (c i) (left i) (f .size i - s′ .carried i) (g i)
-              (rw (slot .adds i e) (omega (arith, slot .within i e, claim-left f s l (s′ .slow) i, no-more i e))))
+          (λ i e. on-parts (c i) (left i) (f .size i - s′ .carried i) (g i)
+          (rw (slot .adds i e) (omega (arith, slot .within i e, claim-left f s l (s′ .slow) i, no-more i e))))
 
       -- The same for the claims.
       claimed : sum (λ i. on (c i) (left i - claims i)) (f .N) + sum (λ i. on (c i) (claims i)) (f .N) ≡ sum (λ i. on (c i) (left i)) (f .N)
@@ -158,21 +158,22 @@ module _ (f : Facts) (good : Good f) (s s′ : State) (l v : ℕ) (g : ℕ → �
   claim-is-rest pace clear i e =
       rw clear
       (if-less (s .t) (f .rel i)
-        (λ m. rw (lt-leb (f .rel i) (s .t) m) (omega (arith, not-begun i e m)))
-        (λ m. if-less (s .t) (f .dl i)
-          (λ o. rw (le-leb (f .rel i) (s .t) m, lt-ltb (s .t) (f .dl i) o, or-true (f .hi i))
-            (omega (arith, before-le f good i (suc l) e (slot .inside .0))))
-          (λ o. rw (le-leb (f .rel i) (s .t) m, le-ltb (s .t) (f .dl i) o)
-            (omega (arith, good .late i l e (slot .inside .0) (omega (arith, slot .inside .2)), pace .least i e)))))
+      (λ m. rw (lt-leb (f .rel i) (s .t) m) (omega (arith, not-begun i e m)))
+      (λ m. if-less (s .t) (f .dl i)
+      (λ o. rw (le-leb (f .rel i) (s .t) m, lt-ltb (s .t) (f .dl i) o, or-true (f .hi i))
+      (omega (arith, before-le f good i (suc l) e (slot .inside .0))))
+      (λ o. rw (le-leb (f .rel i) (s .t) m, le-ltb (s .t) (f .dl i) o)
+      (omega (arith, good .late i l e (slot .inside .0) (omega (arith, slot .inside .2)), pace .least i e)))))
 
   -- A slot at the normal rate keeps the pace.
   pub keeps-pace : OnPace f s l → s′ .slow ≡ false → OnPace f s′ l
   keeps-pace pace clear =
-      record
-        { inside = (slot .inside .0, rw (slot .clock) (omega (arith, slot .inside .1)), rw (slot .clock) (slot .inside .2));
-          least = λ i e. rw (slot .adds i e) (omega (arith, pace .least i e));
-          most = λ i e. rw (slot .adds i e) (omega (arith, slot .within i e, claim-is-rest pace clear i e, pace .most i e));
-          rest = rw (slot .clock) (omega (arith, given, claimed, slot .all, pace .rest, normal, one-less (f .n) (f .b (suc l)) (s .t))) }
+      record {
+        inside = (slot .inside .0, rw (slot .clock) (omega (arith, slot .inside .1)), rw (slot .clock) (slot .inside .2));
+        least = λ i e. rw (slot .adds i e) (omega (arith, pace .least i e));
+        most = λ i e. rw (slot .adds i e) (omega (arith, slot .within i e, claim-is-rest pace clear i e, pace .most i e));
+        rest = rw (slot .clock) (omega (arith, given, claimed, slot .all, pace .rest, normal, one-less (f .n) (f .b (suc l)) (s .t)));
+      }
     where
       normal : f .n ≤ v
       normal = ltb-false v (f .n) (neither (s .slow) (ltb v (f .n)) (sym (slot .mark) ∙ clear) .1)
@@ -184,7 +185,7 @@ module _ (f : Facts) (good : Good f) (s s′ : State) (l v : ℕ) (g : ℕ → �
       given =
           sym (sum-add _ _ (f .N))
           ∙ sum-ext _ _ (f .N)
-            (λ i e. rw (slot .adds i e) (omega (arith, slot .within i e, claim-is-rest pace clear i e, pace .most i e)))
+          (λ i e. rw (slot .adds i e) (omega (arith, slot .within i e, claim-is-rest pace clear i e, pace .most i e)))
 
 module _ (f : Facts) (good : Good f) (s : State) where
   -- At the end of an interval every job on pace has all that is allotted by then.
@@ -198,13 +199,14 @@ module _ (f : Facts) (good : Good f) (s : State) where
   advance : (l : ℕ) → OnPace f s l → s .t ≡ f .b (suc l) → suc l < f .K → OnPace f s (suc l)
   unfolding sum
   advance l pace e more =
-      record
-        { inside = (more, omega arith, omega (arith, good .rise (suc l) more));
-          least = λ i h. omega (arith, all-there l pace e i h);
-          most = λ i h. omega (arith, all-there l pace e i h);
-          rest =
+      record {
+        inside = (more, omega arith, omega (arith, good .rise (suc l) more));
+        least = λ i h. omega (arith, all-there l pace e i h);
+        most = λ i h. omega (arith, all-there l pace e i h);
+        rest =
             rw (e, sum-ext (λ i. before f i (suc (suc l)) - s .carried i) (λ i. f .x i (suc l)) (f .N) (λ i h. omega (arith, all-there l pace e i h)))
-            (good .within (suc l) more) }
+            (good .within (suc l) more);
+      }
 
   -- On pace in some interval, a run is on pace in the interval of its clock.
   pub on-pace-here : (l here : ℕ) → OnPace f s l → here < f .K → f .b here ≤ s .t → s .t < f .b (suc here) → OnPace f s here
@@ -212,8 +214,8 @@ module _ (f : Facts) (good : Good f) (s : State) where
       if-less (s .t) (f .b (suc l))
       (λ m. let is : here ≡ l = omega (arith, not-below m, not-above m) in rw is pace)
       (λ m. let at : s .t ≡ f .b (suc l) = omega (arith, pace .inside .2) in
-        let is : here ≡ suc l = omega (arith, above at, not-far at) in
-        rw is (advance l pace at (omega (arith, above at))))
+      let is : here ≡ suc l = omega (arith, above at, not-far at) in
+      rw is (advance l pace at (omega (arith, above at))))
     where
       not-below : s .t < f .b (suc l) → l ≤ here
       not-below m =
@@ -238,13 +240,13 @@ module _ (f : Facts) (good : Good f) (s : State) where
   on-pace-ended l pace no-more i h o =
       if-less l (good .ends i h .0)
       (λ m.
-        let late : f .b (suc l) ≤ f .dl i = omega (arith, rises f good (suc l) (good .ends i h .0) m (good .ends i h .1), good .ends i h .2) in
-        let at : s .t ≡ f .b (suc l) = omega (arith, pace .inside .2) in
-        omega (arith, all-there l pace at i h, tail-ended f good i (suc l) h (pace .inside .0) (omega arith), no-more i h))
+      let late : f .b (suc l) ≤ f .dl i = omega (arith, rises f good (suc l) (good .ends i h .0) m (good .ends i h .1), good .ends i h .2) in
+      let at : s .t ≡ f .b (suc l) = omega (arith, pace .inside .2) in
+      omega (arith, all-there l pace at i h, tail-ended f good i (suc l) h (pace .inside .0) (omega arith), no-more i h))
       (λ m.
-        let early : f .dl i ≤ f .b l
-              = omega (arith, rises f good (good .ends i h .0) l m (omega (arith, pace .inside .0)), good .ends i h .2) in
-        omega (arith, pace .least i h, tail-ended f good i l h (omega (arith, pace .inside .0)) early, no-more i h))
+      let early : f .dl i ≤ f .b l
+      = omega (arith, rises f good (good .ends i h .0) l m (omega (arith, pace .inside .0)), good .ends i h .2) in
+      omega (arith, pace .least i h, tail-ended f good i l h (omega (arith, pace .inside .0)) early, no-more i h))
 
   -- The floor's promise gives every HI job its size by its deadline.
   pub floor-ended : FloorHolds f s → NoMore f s → (i : ℕ) → i < f .N → f .hi i ≡ true → f .dl i ≤ s .t → s .carried i ≡ f .size i
@@ -258,17 +260,21 @@ module _ (f : Facts) (good : Good f) (s : State) where
   pub begins-with-floor : s .t ≡ f .b 0 → ((i : ℕ) → i < f .N → s .carried i ≡ 0) → FloorHolds f s
   unfolding sum
   begins-with-floor at none D =
-      rw (at, sum-ext (λ i. on (class f D i) (f .size i - s .carried i)) (λ i. on (class f D i) (tail f 0 i)) (f .N)
-        (λ i h. ap (λ c. on (class f D i) (f .size i - c)) (none i h)))
+      rw (
+        at,
+        sum-ext (λ i. on (class f D i) (f .size i - s .carried i)) (λ i. on (class f D i) (tail f 0 i)) (f .N)
+            (λ i h. ap (λ c. on (class f D i) (f .size i - c)) (none i h)),
+      )
       (floor-tail f good 0 D (omega arith))
 
   pub begins-on-pace : s .t ≡ f .b 0 → ((i : ℕ) → i < f .N → s .carried i ≡ 0) → 0 < f .K → OnPace f s 0
   unfolding sum
   begins-on-pace at none k =
-      record
-        { inside = (k, omega arith, omega (arith, good .rise 0 k));
-          least = λ i h. omega arith;
-          most = λ i h. omega (arith, none i h);
-          rest =
+      record {
+        inside = (k, omega arith, omega (arith, good .rise 0 k));
+        least = λ i h. omega arith;
+        most = λ i h. omega (arith, none i h);
+        rest =
             rw (at, sum-ext (λ i. before f i 1 - s .carried i) (λ i. f .x i 0) (f .N) (λ i h. omega (arith, none i h)))
-            (good .within 0 k) }
+            (good .within 0 k);
+      }

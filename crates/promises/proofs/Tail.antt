@@ -92,8 +92,8 @@ module _ (f : Facts) (good : Good f) where
   pub tail-ended : (i l : ℕ) → i < f .N → l ≤ f .K → f .dl i ≤ f .b l → tail f l i ≡ 0
   tail-ended i l h e m =
       let none : sum (λ j. f .x i (l + j)) (f .K - l) ≡ 0
-            = sum-none (λ j. f .x i (l + j)) (f .K - l)
-              (λ j q. good .late i (l + j) h (omega arith) (omega (arith, rises-strictly l (suc (l + j)) (omega arith) (omega arith)))) in
+      = sum-none (λ j. f .x i (l + j)) (f .K - l)
+      (λ j q. good .late i (l + j) h (omega arith) (omega (arith, rises-strictly l (suc (l + j)) (omega arith) (omega arith)))) in
       omega (arith, before-size i l h e)
 
   -- A job of a class has its deadline in time.
@@ -107,7 +107,7 @@ module _ (f : Facts) (good : Good f) where
       let term : ℕ → ℕ = λ j. on (leb l j && leb (f .b (suc j)) (f .b m)) (f .x i j) in
       let low : sum term l ≡ 0 = sum-none term l (λ j o. rw (lt-leb l j o) refl) in
       let high : sum (λ j. term (l + j)) (f .K - l) ≡ sum (λ j. f .x i (l + j)) (f .K - l)
-            = sum-ext _ _ (f .K - l) (λ j o. rw (le-leb l (l + j) (omega arith)) (kept (l + j) (omega arith))) in
+      = sum-ext _ _ (f .K - l) (λ j o. rw (le-leb l (l + j) (omega arith)) (kept (l + j) (omega arith))) in
       omega (arith, ap (sum term) whole, sum-split term l (f .K - l), low, high, before-size i l h e)
     where
       kept : (j : ℕ) → j < f .K → on (leb (f .b (suc j)) (f .b m)) (f .x i j) ≡ f .x i j
@@ -129,8 +129,11 @@ module _ (f : Facts) (good : Good f) where
   -- The floor tail: from every interval on, the HI jobs due by any time have at most what the floor carries until then.
   pub floor-tail : (l D : ℕ) → l ≤ f .K → sum (λ i. on (class f D i) (tail f l i)) (f .N) ≤ f .d * (D - f .b l)
   floor-tail l zero e =
-      omega (arith, sum-none (λ i. on (class f 0 i) (tail f l i)) (f .N)
-      (λ i h. on-none (class f 0 i) (tail f l i) (λ c. tail-ended i l h e (omega (arith, in-class 0 i c)))))
+      omega (
+        arith,
+        sum-none (λ i. on (class f 0 i) (tail f l i)) (f .N)
+            (λ i h. on-none (class f 0 i) (tail f l i) (λ c. tail-ended i l h e (omega (arith, in-class 0 i c)))),
+      )
   floor-tail l (suc D) e = ⊎-elim at-deadline (between-deadlines (floor-tail l D e)) (due-at (suc D) (f .N))
     where
       S : ℕ → ℕ
@@ -144,11 +147,14 @@ module _ (f : Facts) (good : Good f) where
               let is : f .b (g .0) ≡ suc D = g .2 ∙ w .2 in
               if-less l (g .0)
               (λ o. rw (← is)
-                (rw (sum-ext _ _ (f .N) (λ i h. on-ext (class f (f .b (g .0)) i) _ _ (λ c. tail-between i l (g .0) h e (in-class (f .b (g .0)) i c))))
-                at (good .floor l (g .0) o (g .1))))
-              (λ o. omega (arith, sum-none (λ i. on (class f (suc D) i) (tail f l i)) (f .N)
-                (λ i h. on-none (class f (suc D) i) (tail f l i)
-                  (λ c. tail-ended i l h e (omega (arith, in-class (suc D) i c, rises (g .0) l o e))))))
+              (rw (sum-ext _ _ (f .N) (λ i h. on-ext (class f (f .b (g .0)) i) _ _ (λ c. tail-between i l (g .0) h e (in-class (f .b (g .0)) i c))))
+              at (good .floor l (g .0) o (g .1))))
+              (λ o. omega (
+                arith,
+                sum-none (λ i. on (class f (suc D) i) (tail f l i)) (f .N)
+                    (λ i h. on-none (class f (suc D) i) (tail f l i)
+                    (λ c. tail-ended i l h e (omega (arith, in-class (suc D) i c, rises (g .0) l o e)))),
+              ))
 
       between-deadlines : S D ≤ f .d * (D - f .b l) → ((i : ℕ) → i < f .N → f .dl i ≢ suc D) → S (suc D) ≤ f .d * (suc D - f .b l)
       between-deadlines so-far none =
