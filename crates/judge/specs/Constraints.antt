@@ -2,22 +2,31 @@
 use mathlib.Core.Path.{_≡_}
 use mathlib.Core.Bool.{Bool, false, _&&_}
 use mathlib.Core.List.{List}
-use Prim.Native.Nat.{ℕ, suc, _+_, _*_, _-_, _≤_, _<_}
+use Prim.Native.Nat.{ℕ, suc, _*_, _-_, _≤_, _<_}
 use lib.Dec.{leb}
+use lib.ListN.{getD}
 use Rattle.sums.specs.Sum.{sum, on}
 use Rattle.plan.specs.Edition.{mostIntervals}
 use Rattle.plan.specs.Rules.{counted, release, size, deadline, isHi}
-use Rattle.plan.specs.Boundaries.{boundary, intervals}
+use Rattle.plan.specs.Boundaries.{boundaries, boundary, intervals}
 use Rattle.plan.specs.Table.{allotment}
 use Rattle.plan.specs.declared.kinds.Plan.{Plan}
+
+-- The most that a place of the table can hold, in its 32 bits.
+abbrev pub mostAtPlace : ℕ
+mostAtPlace = 4_294_967_295
 
 -- The units of job i in interval j.
 abbrev pub units : List ℕ → ℕ → ℕ → ℕ
 units table i j = allotment mostIntervals table i j
 
+-- Interval j, of some boundaries, lies inside a window.
+abbrev pub within : List ℕ → ℕ → ℕ → ℕ → Bool
+within times from to j = leb from (getD times j 0) && leb (getD times (suc j) 0) to
+
 -- Interval j lies inside the window of job i.
 abbrev pub inWindow : Plan → ℕ → ℕ → Bool
-inWindow p i j = leb (release p i) (boundary p j) && leb (boundary p (suc j)) (deadline p i)
+inWindow p i j = within (boundaries p) (release p i) (deadline p i) j
 
 -- The length of interval j, in slots.
 abbrev pub span : Plan → ℕ → ℕ

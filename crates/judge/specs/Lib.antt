@@ -1,3 +1,4 @@
 pub mod Constraints
 pub mod Verdict
 pub mod Slack
+pub mod Answers

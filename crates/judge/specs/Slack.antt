@@ -1,5 +1,5 @@
 -- The slack figure: by how much the floor carries more than is asked of it, at the tightest pair.
-use mathlib.Core.Bool.{Bool, true, false, cond, _&&_}
+use mathlib.Core.Bool.{Bool, true, false, cond}
 use mathlib.Core.List.{List, [], _∷_}
 use Prim.Native.Nat.{ℕ, zero, suc}
 use lib.Dec.{ltb}
@@ -7,7 +7,7 @@ use lib.IntN.{ℤ, pos, negsuc, subℕ}
 use Rattle.plan.specs.Boundaries.{boundary, intervals}
 use Rattle.plan.specs.declared.kinds.Plan.{Plan}
 use Rattle.judge.specs.Constraints.{demand, floorCarries}
-use Rattle.judge.specs.Verdict.{Report, orElse, handFault, outsideFault, totalFault, capacityFault, isHiDeadline}
+use Rattle.judge.specs.Verdict.{Report, orElse, handFault, constraintFault, isPair}
 
 -- The slack of interval l and deadline D: what the floor carries less the demand, below zero where the plan falls short.
 abbrev pub slackOf : Plan → List ℕ → ℕ → ℕ → ℤ
@@ -37,17 +37,13 @@ unfoldable pub through : {A : Type 0} → (ℕ → A → A) → ℕ → A → A
 through step zero a = a
 through step (suc n) a = step n (through step n a)
 
+-- The figure so far, with interval l and boundary m taken in where they are a pair.
+abbrev pub taken : Plan → List ℕ → ℕ → ℕ → Figure → Figure
+taken p table l m so-far = cond (isPair p l m) (lesser so-far (slackOf p table l (boundary p m)) l (boundary p m)) so-far
+
 -- The least slack over all intervals and later HI deadlines, with its first pair.
 unfoldable pub leastSlack : Plan → List ℕ → Figure
-leastSlack p table =
-    through
-    (λ l.
-      through
-      (λ m so-far.
-        cond (ltb l m && isHiDeadline p (boundary p m)) (lesser so-far (slackOf p table l (boundary p m)) l (boundary p m)) so-far)
-      (suc (intervals p)))
-    (intervals p)
-    noneEssential
+leastSlack p table = through (λ l. through (taken p table l) (suc (intervals p))) (intervals p) noneEssential
 
 -- A figure only where nothing is to be refused.
 abbrev pub unless : Report → Figure → Figure
@@ -56,6 +52,4 @@ unless (number ∷ places) figure = refused (number ∷ places)
 
 -- The slack figure: refused as by the judge, except that 18 isn't given.
 unfoldable pub slackFigure : Plan → List ℕ → Figure
-slackFigure p table =
-    unless (orElse (handFault p table) (orElse (outsideFault p table) (orElse (totalFault p table) (capacityFault p table))))
-    (leastSlack p table)
+slackFigure p table = unless (orElse (handFault p table) (constraintFault p table)) (leastSlack p table)

@@ -1,0 +1,88 @@
+-- The laws of reports: what a first report says of the tests before it.
+use mathlib.Core.Path.{_≡_, refl, sym, _∙_, ap, ap₂}
+use mathlib.Core.Bool.{Bool, true, false, not, _&&_, true≢false, false≢true}
+use mathlib.Core.List.{[], _∷_}
+use Prim.Native.Nat.{ℕ, zero, suc, _+_, _<_}
+use native.Mathlib.Numerals.{add-one}
+use native.Mathlib.Omega.{arith}
+use borrow.Author.Tests.{not-true, not-false}
+use Rattle.sums.proofs.Laws.{below-or-last}
+use Rattle.plan.specs.Below.{every}
+use Rattle.plan.proofs.Below.{every-ext}
+use Rattle.judge.specs.Verdict.{Report, orElse, fault, isNone, first}
+
+-- An empty report is none, and the other way round.
+pub none-empty : (a : Report) → isNone a ≡ true → a ≡ []
+none-empty [] h = refl
+none-empty (number ∷ places) h = absurd (false≢true h)
+
+pub empty-none : (a : Report) → a ≡ [] → isNone a ≡ true
+empty-none a h = ap isNone h
+
+-- One report or else another: the first where there is one, the second where the first is none, none where both are.
+pub or-some : (a b : Report) → isNone a ≡ false → orElse a b ≡ a
+or-some [] b h = absurd (true≢false h)
+or-some (number ∷ places) b h = refl
+
+pub or-none : (a b : Report) → a ≡ [] → orElse a b ≡ b
+or-none a b h = ap (λ r. orElse r b) h
+
+-- A report that was asked for: it decides where it is one, and else the next does.
+pub stops : (v a b : Report) (t : Bool) → v ≡ a → t ≡ isNone v → not t ≡ true → v ≡ orElse a b
+stops v a b t e n h = e ∙ sym (or-some a b (ap isNone (sym e) ∙ sym n ∙ not-true t h))
+
+pub passes : (v a : Report) (t : Bool) → v ≡ a → t ≡ isNone v → not t ≡ false → a ≡ []
+passes v a t e n h = sym e ∙ none-empty v (sym n ∙ not-false t h)
+
+pub none-or : (a b : Report) → isNone (orElse a b) ≡ (isNone a && isNone b)
+none-or [] b = refl
+none-or (number ∷ places) b = refl
+
+-- The report of a fault is none exactly where it is no fault.
+pub none-fault : (t : Bool) (number : ℕ) (places : Report) → isNone (fault (not t) (number ∷ places)) ≡ t
+none-fault true number places = refl
+none-fault false number places = refl
+
+pub fault-none : (t : Bool) (number : ℕ) (places : Report) → isNone (fault t (number ∷ places)) ≡ true → t ≡ false
+fault-none true number places h = sym h
+fault-none false number places h = refl
+
+-- No report among those below 0, nor below the next length where the last is none too: as a loop finds it.
+pub first-start : (f : ℕ → Report) → first f 0 ≡ []
+unfolding first
+first-start f = refl
+
+pub first-next : (f : ℕ → Report) (k : ℕ) → first f k ≡ [] → f k ≡ [] → first f (k + 1) ≡ []
+unfolding first
+first-next f k h e = rw (add-one, h, e) refl
+
+-- There is a first report exactly where some number has one.
+pub none-first : (f : ℕ → Report) (n : ℕ) → isNone (first f n) ≡ every (λ k. isNone (f k)) n
+unfolding first every
+none-first f zero = refl
+none-first f (suc n) = none-or (first f n) (f n) ∙ ap (λ b. b && isNone (f n)) (none-first f n)
+
+-- A first report of faults is none exactly where no test fails.
+pub none-faults : (test : ℕ → Bool) (number : ℕ) (places : ℕ → Report) (n : ℕ)
+    → isNone (first (λ k. fault (not (test k)) (number ∷ places k)) n) ≡ every test n
+none-faults test number places n =
+    none-first (λ k. fault (not (test k)) (number ∷ places k)) n
+    ∙ every-ext _ _ n (λ k l. none-fault (test k) number (places k))
+
+-- The first report is the one of the first number that has one.
+pub first-found : (f : ℕ → Report) (k n : ℕ) → first f k ≡ [] → k < n → isNone (f k) ≡ false → first f n ≡ f k
+unfolding first
+first-found f k (suc n) h l e =
+    below-or-last k n l
+    (λ m. or-some (first f n) (f n) (ap isNone (first-found f k n h m e) ∙ e) ∙ first-found f k n h m e)
+    (λ q. ap (λ m. orElse (first f m) (f m)) (sym q) ∙ or-none (first f k) (f k) h)
+
+pub found-here : (f : ℕ → Report) (k n number : ℕ) (places : Report) → first f k ≡ [] → k < n → f k ≡ number ∷ places
+    → number ∷ places ≡ first f n
+found-here f k n number places h l e = sym (first-found f k n h l (ap isNone e) ∙ e)
+
+-- Reports that agree below a length have the same first.
+pub first-ext : (f g : ℕ → Report) (n : ℕ) → ((k : ℕ) → k < n → f k ≡ g k) → first f n ≡ first g n
+unfolding first
+first-ext f g zero h = refl
+first-ext f g (suc n) h = ap₂ orElse (first-ext f g n (λ k l. h k (omega arith))) (h n (omega arith))

@@ -1,0 +1,62 @@
+-- What a plan in hand has that is refused neither by 22 nor by 21: a long enough table, rules that hold, and boundaries.
+use mathlib.Core.Path.{_≡_, sym, _∙_}
+use mathlib.Core.Bool.{true, not, _&&_}
+use mathlib.Core.List.{List, [], _∷_}
+use Prim.Native.Nat.{ℕ, suc, _≤_}
+use native.Mathlib.Omega.{arith}
+use borrow.Author.Tests.{ltb-false, leb-true, not-false}
+use lib.Dec.{leb, ltb}
+use lib.ListN.{length, take}
+use Rattle.plan.specs.Edition.{mostJobs, mostIntervals, places}
+use Rattle.plan.specs.Refusal.{unsound, bufferTooShort}
+use Rattle.plan.specs.Rules.{counted, countHolds, ratesHold, namesHold, namesDiffer, gradesHold, boundsHold, rulesHold, deadline}
+use Rattle.plan.specs.Boundaries.{insert, boundariesTo, intervals, inRoom}
+use Rattle.plan.specs.Table.{sound, noStray}
+use Rattle.plan.specs.declared.kinds.Plan.{Plan}
+use Rattle.plan.proofs.Rising.{insert-grows, room-take}
+use Rattle.judge.specs.Verdict.{fault, isNone, handFault}
+use Rattle.judge.proofs.Tests.{both}
+use Rattle.judge.proofs.First.{empty-none, none-or, fault-none}
+
+-- Neither 22 nor 21: the table is long enough, and the plan is sound.
+pub hand-none : (p : Plan) (table : List ℕ) → handFault p table ≡ [] → (places ≤ length table) × (sound p table ≡ true)
+hand-none p table h =
+    let short = fault (ltb (length table) places) (bufferTooShort ∷ []) in
+    let bad = fault (not (sound p table)) (unsound ∷ []) in
+    let both-none = both (isNone short) (isNone bad) (sym (none-or short bad) ∙ empty-none (handFault p table) h) in (
+      ltb-false (length table) places (fault-none (ltb (length table) places) bufferTooShort [] (both-none .0)),
+      not-false (sound p table) (fault-none (not (sound p table)) unsound [] (both-none .1)),
+    )
+
+-- A sound plan has a job.
+pub sound-rules : (p : Plan) (table : List ℕ) → sound p table ≡ true → rulesHold p ≡ true
+unfolding sound
+sound-rules p table h = both (rulesHold p) (noStray mostIntervals (counted p) (intervals p) 0 (take places table)) h .0
+
+pub rules-bounds : (p : Plan) → rulesHold p ≡ true → boundsHold p ≡ true
+unfolding rulesHold
+rules-bounds p h = both (ratesHold p && countHolds p && namesHold p && namesDiffer p && gradesHold p) (boundsHold p) h .1
+
+pub rules-count : (p : Plan) → rulesHold p ≡ true → 1 ≤ counted p
+unfolding rulesHold
+rules-count p h =
+    let first-five = both (ratesHold p && countHolds p && namesHold p && namesDiffer p && gradesHold p) (boundsHold p) h .0 in
+    let first-four = both (ratesHold p && countHolds p && namesHold p && namesDiffer p) (gradesHold p) first-five .0 in
+    let first-three = both (ratesHold p && countHolds p && namesHold p) (namesDiffer p) first-four .0 in
+    let first-two = both (ratesHold p && countHolds p) (namesHold p) first-three .0 in
+    let count = both (ratesHold p) (countHolds p) first-two .1 in
+    omega (arith, leb-true 1 (p .count) (both (leb 1 (p .count)) (leb (p .count) mostJobs) count .0))
+
+-- So it has boundaries.
+insert-some : (x : ℕ) (l : List ℕ) → 1 ≤ length (insert x l)
+unfolding insert
+insert-some x [] = omega arith
+insert-some x (y ∷ l) = omega (arith, insert-grows x (y ∷ l))
+
+pub boundaries-some : (p : Plan) (n : ℕ) → 1 ≤ n → 1 ≤ length (boundariesTo p n)
+unfolding boundariesTo
+boundaries-some p (suc n) h = insert-some (deadline p n) _
+
+-- The boundaries are what the room shows of its first places.
+pub shown : (times : List ℕ) (count : ℕ) (l : List ℕ) → times ≡ inRoom l → count ≡ length l → take count times ≡ l
+shown times count l t e = rw (t, e) (room-take l)

@@ -1,0 +1,6 @@
+pub mod Tests
+pub mod First
+pub mod Running
+pub mod Times
+pub mod Demand
+pub mod Hand

@@ -1,0 +1,32 @@
+-- The laws of rising times: their order, and how many have come by one of them.
+use mathlib.Core.Path.{_≡_, sym, _∙_, ap}
+use mathlib.Core.List.{List, _∷_}
+use Prim.Native.Nat.{ℕ, zero, suc, _≤_, _<_}
+use native.Mathlib.Decide.{decLt}
+use native.Mathlib.Omega.{arith}
+use borrow.Author.Tests.{lt-ltb, le-ltb, le-leb, lt-leb}
+use lib.Dec.{leb, ltb}
+use lib.ListN.{length, getD}
+use Rattle.plan.specs.Boundaries.{Rising}
+
+-- No time of rising times is below the least one.
+rising-low : (low k : ℕ) (l : List ℕ) → Rising low l → k < length l → low ≤ getD l k 0
+rising-low low zero (x ∷ l) r h = r .0
+rising-low low (suc k) (x ∷ l) r h = omega (arith, rising-low (suc x) k l (r .1) (omega arith), r .0)
+
+-- Earlier is less.
+pub rising-less : (low j k : ℕ) (l : List ℕ) → Rising low l → j < k → k < length l → getD l j 0 < getD l k 0
+rising-less low zero (suc k) (x ∷ l) r h e = rising-low (suc x) k l (r .1) (omega arith)
+rising-less low (suc j) (suc k) (x ∷ l) r h e = rising-less (suc x) j k l (r .1) (omega arith) (omega arith)
+
+-- Interval j ends by time m exactly when it comes before it.
+pub ends-by : (low j m : ℕ) (l : List ℕ) → Rising low l → suc j < length l → m < length l
+    → leb (getD l (suc j) 0) (getD l m 0) ≡ ltb j m
+ends-by low j m l r h e = go (decLt j m) (decLt (suc j) m)
+  where
+    go : Dec (j < m) → Dec (suc j < m) → leb (getD l (suc j) 0) (getD l m 0) ≡ ltb j m
+    go (no p) d = lt-leb _ _ (rising-less low m (suc j) l r (omega arith) h) ∙ sym (le-ltb j m (omega arith))
+    go (yes p) (yes q) = le-leb (getD l (suc j) 0) (getD l m 0) (omega (arith, rising-less low (suc j) m l r q e)) ∙ sym (lt-ltb j m p)
+    go (yes p) (no q) =
+        let same : suc j ≡ m = omega arith in
+        le-leb (getD l (suc j) 0) (getD l m 0) (omega (arith, ap (λ k. getD l k 0) same)) ∙ sym (lt-ltb j m p)

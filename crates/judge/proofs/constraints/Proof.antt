@@ -1,0 +1,60 @@
+-- `judge::constraints` meets its contract: each rule answers only where those before it have nothing.
+use mathlib.Core.Path.{refl, sym, _∙_}
+use native.Mathlib.Omega.{arith}
+use borrow.Author.Needs.{needs}
+use Rattle.judge.specs.Verdict.{capacityFault}
+use Rattle.judge.proofs.First.{or-none}
+use Rattle.judge.proofs.First.{stops, passes}
+use Rattle.judge.proofs.constraints.Statement.{statement}
+use Rattle.judge.proofs.constraints.Tie as tie
+
+outside-window-requires : tie.Need-outside-window-requires
+outside-window-requires c κs = search needs
+
+is-accepted-requires : tie.Need-is-accepted-requires
+is-accepted-requires c κs = search needs
+
+returns : tie.Need-returns
+returns c =
+    stops _ _ _ _ (c .before .before .outside-window .ensures) (c .before .is-accepted .ensures) (c .if1 .taken)
+
+wrong-total-requires : tie.Need-wrong-total-requires
+wrong-total-requires c κs = search needs
+
+is-accepted-requires-2 : tie.Need-is-accepted-requires-2
+is-accepted-requires-2 c κs = search needs
+
+returns-2 : tie.Need-returns-2
+returns-2 c =
+    let a = c .before .before .before .before .before .before .before .before .args in
+    stops _ _ (capacityFault (a .p) (a .table .now)) _ (c .before .before .wrong-total .ensures) (c .before .is-accepted2 .ensures) (c .if2 .taken)
+    ∙ sym (or-none _ _ (passes _ _ _ (c .before .before .before .before .before .outside-window .ensures) (c .before .before .before .before .is-accepted .ensures) (c .before .before .before .if1 .left)))
+
+counted-of-requires : tie.Need-counted-of-requires
+counted-of-requires c κs = search needs
+
+over-capacity-requires : tie.Need-over-capacity-requires
+over-capacity-requires c κs =
+    (omega arith, c .before .before .before .before .before .before .before .before .before .pre .2)
+
+returns-3 : tie.Need-returns-3
+unfolding capacityFault
+returns-3 c =
+    let a = c .before .before .before .before .before .before .before .before .before .before .args in
+    c .over-capacity .ensures ∙ rw (c .before .counted-of .ensures, c .before .before .before .before .before .before .before .before .before .before .pre .0, c .before .before .before .before .before .before .before .before .before .before .pre .1) refl
+    ∙ sym (or-none _ _ (passes _ _ _ (c .before .before .before .before .before .before .before .outside-window .ensures) (c .before .before .before .before .before .before .is-accepted .ensures) (c .before .before .before .before .before .if1 .left))
+    ∙ or-none _ _ (passes _ _ _ (c .before .before .before .before .wrong-total .ensures) (c .before .before .before .is-accepted2 .ensures) (c .before .before .if2 .left)))
+
+pub constraints-spec : {M : Type 1} → statement M
+constraints-spec =
+    tie.close
+    (tie.spec
+    outside-window-requires
+    is-accepted-requires
+    returns
+    wrong-total-requires
+    is-accepted-requires-2
+    returns-2
+    counted-of-requires
+    over-capacity-requires
+    returns-3)

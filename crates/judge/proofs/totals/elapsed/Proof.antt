@@ -1,0 +1,18 @@
+-- `judge::totals::elapsed` meets its contract.
+use mathlib.Core.Path.{_≡_}
+use Prim.Native.Nat.{_-_}
+use native.Mathlib.Omega.{arith}
+use borrow.Author.Needs.{needs}
+use Rattle.judge.proofs.totals.elapsed.Statement.{statement}
+use Rattle.judge.proofs.totals.elapsed.Tie as tie
+
+returns : tie.Need-returns
+returns c = search needs
+
+returns-2 : tie.Need-returns-2
+returns-2 c =
+    let none : 0 ≡ c .before .args .to - c .before .args .from = omega arith in
+    λ t. record { 0 = none t }
+
+pub elapsed-spec : {M : Type 1} → statement M
+elapsed-spec = tie.close (tie.spec returns returns-2)

@@ -1,0 +1,86 @@
+-- `judge::totals::over_capacity` meets its contract: the first j intervals are within the normal rate.
+use mathlib.Core.Path.{sym, _∙_, ap, _≡_}
+use mathlib.Core.List.{[], _∷_}
+use Prim.Native.Nat.{suc, _*_, _-_, _≤_}
+use native.Mathlib.Numerals.{add-one}
+use native.Mathlib.Omega.{arith}
+use borrow.Author.Needs.{needs}
+use lib.Dec.{ltb}
+use lib.ListN.{getD}
+use Rattle.plan.specs.Refusal.{overCapacity}
+use Rattle.sums.specs.Sum.{sum}
+use Rattle.judge.specs.Verdict.{first, fault}
+use Rattle.judge.specs.Constraints.{units}
+use Rattle.judge.proofs.First.{first-start, first-next, found-here}
+use Rattle.judge.proofs.totals.over_capacity.Statement.{statement}
+use Rattle.judge.proofs.totals.over_capacity.Tie as tie
+
+abbrev Inv-loop : tie.InvT-loop
+Inv-loop n jobs table times spans j₀ j =
+    (j ≤ spans) × (first (λ k. fault (ltb (n .0 * (getD times (suc k) 0 - getD times k 0)) (sum (λ i. units table i k) jobs)) (overCapacity ∷ k ∷ [])) j ≡ [])
+
+abbrev μ-loop : tie.MeasureT-loop
+μ-loop n jobs table times spans j₀ j = spans - j
+
+loop-holds : tie.Need-loop-holds Inv-loop μ-loop
+loop-holds c = (omega arith, first-start _)
+
+mul-is-over : tie.Need-mul-is-over Inv-loop μ-loop
+mul-is-over c = search needs
+
+shared-slice-read-is-over : tie.Need-shared-slice-read-is-over Inv-loop μ-loop
+shared-slice-read-is-over c = search needs
+
+add-is-over : tie.Need-add-is-over Inv-loop μ-loop
+add-is-over c = search needs
+
+mul-is-over-2 : tie.Need-mul-is-over-2 Inv-loop μ-loop
+mul-is-over-2 c = search needs
+
+shared-slice-read-is-over-2 : tie.Need-shared-slice-read-is-over-2 Inv-loop μ-loop
+shared-slice-read-is-over-2 c = search needs
+
+is-over-requires : tie.Need-is-over-requires Inv-loop μ-loop
+is-over-requires c κs = search needs
+
+returns : tie.Need-returns Inv-loop μ-loop
+returns c =
+    found-here _ _ _ _ _ (c .before .before .before .before .before .loop .inv .1) (omega arith)
+    (ap (λ b. fault b (overCapacity ∷ c .before .before .before .before .before .loop .j ∷ [])) (sym (rw add-one at (c .before .is-over .ensures)) ∙ c .if1 .taken))
+
+add-j : tie.Need-add-j Inv-loop μ-loop
+add-j c = search needs
+
+loop-less : tie.Need-loop-less Inv-loop μ-loop
+loop-less c = search needs
+
+loop-again : tie.Need-loop-again Inv-loop μ-loop
+loop-again c = (
+  omega arith,
+  first-next _ (c .before .before .before .before .before .loop .j) (c .before .before .before .before .before .loop .inv .1)
+      (ap (λ b. fault b (overCapacity ∷ c .before .before .before .before .before .loop .j ∷ [])) (sym (rw add-one at (c .before .is-over .ensures)) ∙ c .if1 .left)),
+)
+
+returns-2 : tie.Need-returns-2 Inv-loop μ-loop
+returns-2 c =
+    let end : c .before .loop .j ≡ c .before .before .before .before .args .spans = omega arith in
+    sym (rw end at (c .before .loop .inv .1))
+
+pub over-capacity-spec : {M : Type 1} → statement M
+over-capacity-spec =
+    tie.close
+    (tie.spec
+    Inv-loop
+    μ-loop
+    loop-holds
+    mul-is-over
+    shared-slice-read-is-over
+    add-is-over
+    mul-is-over-2
+    shared-slice-read-is-over-2
+    is-over-requires
+    returns
+    add-j
+    loop-less
+    loop-again
+    returns-2)

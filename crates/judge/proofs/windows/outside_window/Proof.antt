@@ -1,0 +1,102 @@
+-- `judge::windows::outside_window` meets its contract: the first i rows have nothing outside.
+use mathlib.Core.Path.{refl, sym, _∙_, _≡_}
+use mathlib.Core.Bool.{_||_, Bool}
+use mathlib.Core.List.{[], _∷_, List}
+use Prim.Native.Nat.{_-_, _≤_, ℕ}
+use native.Mathlib.Omega.{arith}
+use borrow.Author.Needs.{needs}
+use borrow.Author.Tests.{not-true, not-false}
+use lib.Dec.{eqb}
+use Rattle.plan.specs.Refusal.{outsideWindow}
+use Rattle.plan.specs.Rules.{counted, release, deadline}
+use Rattle.plan.specs.Boundaries.{intervals, boundaries}
+use Rattle.plan.proofs.Rising.{boundaries-few}
+use Rattle.plan.specs.Below.{every}
+use Rattle.plan.specs.declared.kinds.Plan.{Plan}
+use Rattle.judge.specs.Verdict.{first, fault, isStray, outsideFault, isNone}
+use Rattle.judge.specs.Constraints.{within, units, inWindow}
+use Rattle.judge.proofs.First.{first-start, first-next, first-found, none-empty, none-faults}
+use Rattle.judge.proofs.windows.outside_window.Statement.{statement}
+use Rattle.judge.proofs.windows.outside_window.Tie as tie
+
+-- A row has no report exactly where all of it is inside.
+row-none : (p : Plan) (table times : List ℕ) (spans i : ℕ) {inside : Bool} → times ≡ boundaries p → spans ≡ intervals p
+    → inside ≡ every (λ j. within times (release p i) (deadline p i) j || eqb (units table i j) 0) spans
+    → isNone (first (λ j. fault (isStray p table i j) (outsideWindow ∷ i ∷ j ∷ [])) (intervals p)) ≡ inside
+row-none p table times spans i t s e =
+    none-faults (λ j. inWindow p i j || eqb (units table i j) 0) outsideWindow (λ j. i ∷ j ∷ []) (intervals p) ∙ sym (e ∙ rw (t, s) refl)
+
+abbrev Inv-loop : tie.InvT-loop
+Inv-loop table times spans p jobs i₀ i =
+    (i ≤ jobs) × (first (λ k. first (λ j. fault (isStray p table k j) (outsideWindow ∷ k ∷ j ∷ [])) (intervals p)) i ≡ [])
+
+abbrev μ-loop : tie.MeasureT-loop
+μ-loop table times spans p jobs i₀ i = jobs - i
+
+counted-of-requires : tie.Need-counted-of-requires Inv-loop μ-loop
+counted-of-requires c κs = search needs
+
+loop-holds : tie.Need-loop-holds Inv-loop μ-loop
+loop-holds c = (omega arith, first-start _)
+
+mul-job : tie.Need-mul-job Inv-loop μ-loop
+mul-job c = search needs
+
+element-copy-out-job : tie.Need-element-copy-out-job Inv-loop μ-loop
+element-copy-out-job c = search needs
+
+mul-start : tie.Need-mul-start Inv-loop μ-loop
+mul-start c = search needs
+
+row-inside-requires : tie.Need-row-inside-requires Inv-loop μ-loop
+row-inside-requires c κs =
+    (c .before .before .before .before .before .before .before .before .pre .2, omega (arith, boundaries-few (c .before .before .before .before .before .before .before .before .args .t1) (counted (c .before .before .before .before .before .before .before .before .args .t1)), c .before .before .before .before .before .before .before .before .pre))
+
+outside-in-row-requires : tie.Need-outside-in-row-requires Inv-loop μ-loop
+outside-in-row-requires c κs =
+    (c .before .before .before .before .before .before .before .before .before .before .pre .2, omega (arith, boundaries-few (c .before .before .before .before .before .before .before .before .before .before .args .t1) (counted (c .before .before .before .before .before .before .before .before .before .before .args .t1)), c .before .before .before .before .before .before .before .before .before .before .pre))
+
+returns : tie.Need-returns Inv-loop μ-loop
+unfolding outsideFault
+returns c =
+    let row = row-none (c .before .before .before .before .before .before .before .before .before .before .before .args .t1) (c .before .before .before .before .before .before .before .before .before .before .before .args .table .now) (c .before .before .before .before .before .before .before .before .before .before .before .args .times .now) (c .before .before .before .before .before .before .before .before .before .before .before .args .spans) (c .before .before .before .before .before .before .before .loop .i) (c .before .before .before .before .before .before .before .before .before .before .before .pre .0) (c .before .before .before .before .before .before .before .before .before .before .before .pre .1) (c .before .before .row-inside .ensures) in
+    c .outside-in-row .ensures ∙ rw (c .before .before .before .before .before .before .before .before .before .before .before .pre .0, c .before .before .before .before .before .before .before .before .before .before .before .pre .1) refl
+    ∙ sym (first-found _ _ _ (c .before .before .before .before .before .before .before .loop .inv .1) (omega arith) (row ∙ not-true _ (c .before .if1 .taken)))
+
+add-i : tie.Need-add-i Inv-loop μ-loop
+add-i c = search needs
+
+loop-less : tie.Need-loop-less Inv-loop μ-loop
+loop-less c = search needs
+
+loop-again : tie.Need-loop-again Inv-loop μ-loop
+loop-again c = (
+  omega arith,
+  first-next _ (c .before .before .before .before .before .before .loop .i) (c .before .before .before .before .before .before .loop .inv .1)
+      (none-empty _ (row-none (c .before .before .before .before .before .before .before .before .before .before .args .t1) (c .before .before .before .before .before .before .before .before .before .before .args .table .now) (c .before .before .before .before .before .before .before .before .before .before .args .times .now) (c .before .before .before .before .before .before .before .before .before .before .args .spans) (c .before .before .before .before .before .before .loop .i) (c .before .before .before .before .before .before .before .before .before .before .pre .0) (c .before .before .before .before .before .before .before .before .before .before .pre .1) (c .before .row-inside .ensures) ∙ not-false _ (c .if1 .left))),
+)
+
+returns-2 : tie.Need-returns-2 Inv-loop μ-loop
+unfolding outsideFault
+returns-2 c =
+    let end : c .before .loop .i ≡ counted (c .before .before .before .before .before .args .t1) = omega arith in
+    sym (rw end at (c .before .loop .inv .1))
+
+pub outside-window-spec : {M : Type 1} → statement M
+outside-window-spec =
+    tie.close
+    (tie.spec
+    Inv-loop
+    μ-loop
+    counted-of-requires
+    loop-holds
+    mul-job
+    element-copy-out-job
+    mul-start
+    row-inside-requires
+    outside-in-row-requires
+    returns
+    add-i
+    loop-less
+    loop-again
+    returns-2)

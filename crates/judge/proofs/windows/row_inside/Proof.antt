@@ -1,0 +1,88 @@
+-- `judge::windows::row_inside` meets its contract: after j intervals the units of the first j are inside.
+use mathlib.Core.Path.{sym, _∙_, ap, _≡_}
+use mathlib.Core.Bool.{_||_}
+use Prim.Native.Nat.{_+_, _-_, _≤_}
+use native.Mathlib.Numerals.{add-one}
+use native.Mathlib.Omega.{arith}
+use borrow.Author.Needs.{needs}
+use lib.Dec.{eqb}
+use lib.ListN.{getD}
+use Rattle.plan.specs.Below.{every}
+use Rattle.plan.specs.Rules.{release, deadline}
+use Rattle.plan.proofs.Below.{every-start, every-next}
+use Rattle.judge.specs.Constraints.{within}
+use Rattle.judge.proofs.windows.row_inside.Statement.{statement}
+use Rattle.judge.proofs.windows.row_inside.Tie as tie
+
+abbrev Inv-loop : tie.InvT-loop
+Inv-loop table start times spans release deadline inside₀ j₀ inside j =
+    (j ≤ spans) × (inside ≡ every (λ k. within times release deadline k || eqb (getD table (start + k) 0) 0) j)
+
+abbrev μ-loop : tie.MeasureT-loop
+μ-loop table start times spans release deadline inside₀ j₀ inside j = spans - j
+
+loop-holds : tie.Need-loop-holds Inv-loop μ-loop
+loop-holds c = (omega arith, sym (every-start _))
+
+mul-place-inside : tie.Need-mul-place-inside Inv-loop μ-loop
+mul-place-inside c = search needs
+
+shared-slice-read-place-inside : tie.Need-shared-slice-read-place-inside Inv-loop μ-loop
+shared-slice-read-place-inside c = search needs
+
+add-place-inside : tie.Need-add-place-inside Inv-loop μ-loop
+add-place-inside c = search needs
+
+mul-place-inside-2 : tie.Need-mul-place-inside-2 Inv-loop μ-loop
+mul-place-inside-2 c = search needs
+
+shared-slice-read-place-inside-2 : tie.Need-shared-slice-read-place-inside-2 Inv-loop μ-loop
+shared-slice-read-place-inside-2 c = search needs
+
+add-place-inside-2 : tie.Need-add-place-inside-2 Inv-loop μ-loop
+add-place-inside-2 c = search needs
+
+mul-place-inside-3 : tie.Need-mul-place-inside-3 Inv-loop μ-loop
+mul-place-inside-3 c = search needs
+
+shared-slice-read-place-inside-3 : tie.Need-shared-slice-read-place-inside-3 Inv-loop μ-loop
+shared-slice-read-place-inside-3 c = search needs
+
+place-inside-requires : tie.Need-place-inside-requires Inv-loop μ-loop
+place-inside-requires c κs = search needs
+
+add-j : tie.Need-add-j Inv-loop μ-loop
+add-j c = search needs
+
+loop-less : tie.Need-loop-less Inv-loop μ-loop
+loop-less c = search needs
+
+loop-again : tie.Need-loop-again Inv-loop μ-loop
+loop-again c =
+    (omega arith, every-next _ (c .before .before .before .before .before .loop .j) (c .before .before .before .before .before .loop .inv .1) (rw add-one at (c .place-inside .ensures)))
+
+returns : tie.Need-returns Inv-loop μ-loop
+returns c =
+    let end : c .before .loop .j ≡ c .before .before .before .before .args .spans = omega arith in
+    c .before .loop .inv .1 ∙ ap (every _) end
+
+pub row-inside-spec : {M : Type 1} → statement M
+row-inside-spec =
+    tie.close
+    (tie.spec
+    Inv-loop
+    μ-loop
+    loop-holds
+    mul-place-inside
+    shared-slice-read-place-inside
+    add-place-inside
+    mul-place-inside-2
+    shared-slice-read-place-inside-2
+    add-place-inside-2
+    mul-place-inside-3
+    shared-slice-read-place-inside-3
+    place-inside-requires
+    add-j
+    loop-less
+    loop-again
+    returns)

@@ -1,0 +1,76 @@
+// Rules 16 and 17: each job has its size exactly, and no interval holds more than the normal rate carries in it.
+use crate::answers::Verdict;
+use plan::edition::Edition;
+use plan::kinds::Plan;
+use plan::kinds::Rate;
+use plan::kinds::Slots;
+use plan::rules::counted_of;
+use sums::sum_of;
+ghost use mathlib.Core.Path.{_≡_};
+ghost use mathlib.Core.List.{[], _∷_};
+ghost use Prim.Native.Nat.{suc, _*_, _-_, _≤_, _<_};
+ghost use lib.Dec.{ltb};
+ghost use lib.ListN.{length, getD};
+ghost use Rattle.sums.specs.Sum.{sum};
+ghost use Rattle.plan.specs.Edition.{mostJobs};
+ghost use Rattle.plan.specs.Refusal.{overCapacity};
+ghost use Rattle.plan.specs.Boundaries.{intervals};
+ghost use Rattle.judge.specs.Constraints.{units};
+ghost use Rattle.judge.specs.Verdict.{first, fault, totalFault};
+ghost use Rattle.judge.specs.Answers.{report};
+
+// The time from one boundary to another, none where the other comes before.
+pub fn elapsed(from: u32, to: u32) -> Slots
+    ensures { λ r. ⌜ r ≡ record { 0 = to - from } ⌝ }
+{
+    if from <= to {
+        Slots(to - from)
+    } else {
+        Slots(0)
+    }
+}
+
+// Rule 16 over all jobs.
+pub fn wrong_total(p: Plan, table: &[u32], spans: usize) -> Verdict
+    requires { ⌜ spans ≡ intervals p ⌝ }
+    ensures { λ r. ⌜ report r ≡ totalFault p (now (table .entry)) ⌝ }
+{
+    let jobs = counted_of(p);
+    let mut i = 0;
+    while i < jobs {
+        let job = p.jobs[i];
+        let size = job.size;
+        let total = sum_of(table, Edition::MOST_INTERVALS * i, 1, spans as u32);
+        if total != size.0 {
+            return Verdict::WrongTotal(i);
+        }
+        i += 1;
+    }
+    Verdict::Accepted
+}
+
+// Whether the units of the first jobs in interval j are more than a rate carries from one time to another.
+fn is_over(n: Rate, jobs: usize, table: &[u32], from: u32, to: u32, j: usize) -> bool
+    requires { ⌜ jobs ≤ mostJobs ⌝ }
+    ensures { λ r. ⌜ r ≡ ltb (n .0 * (to - from)) (sum (λ i. units (now (table .entry)) i j) jobs) ⌝ }
+{
+    let most = n.over(elapsed(from, to));
+    let load = sum_of(table, j, Edition::MOST_INTERVALS, jobs as u32);
+    most.0 < load
+}
+
+// Rule 17 over all intervals.
+pub fn over_capacity(n: Rate, jobs: usize, table: &[u32], times: &[u32], spans: usize) -> Verdict
+    requires { ⌜ (jobs ≤ mostJobs) × (spans < length (now times)) ⌝ }
+    ensures { λ r. ⌜ report r ≡ first (λ j. fault (ltb (n .0 * (getD (now (times .entry)) (suc j) 0 - getD (now (times .entry)) j 0)) (sum (λ i. units (now (table .entry)) i j) jobs)) (overCapacity ∷ j ∷ [])) spans ⌝ }
+{
+    let mut j = 0;
+    while j < spans {
+        let over = is_over(n, jobs, table, times[j], times[j + 1], j);
+        if over {
+            return Verdict::OverCapacity(j);
+        }
+        j += 1;
+    }
+    Verdict::Accepted
+}

@@ -1,0 +1,91 @@
+// Rule 15: no allotment lies outside its job's window.
+use crate::answers::Verdict;
+use plan::edition::Edition;
+use plan::kinds::Plan;
+use plan::rules::counted_of;
+ghost use mathlib.Core.Path.{_≡_};
+ghost use mathlib.Core.Bool.{not, _&&_, _||_};
+ghost use mathlib.Core.List.{[], _∷_};
+ghost use Prim.Native.Nat.{_+_, _≤_, _<_};
+ghost use lib.Dec.{leb, eqb};
+ghost use lib.ListN.{length, getD};
+ghost use Rattle.plan.specs.Edition.{places};
+ghost use Rattle.plan.specs.Refusal.{outsideWindow};
+ghost use Rattle.plan.specs.Below.{every};
+ghost use Rattle.plan.specs.Boundaries.{boundaries, intervals};
+ghost use Rattle.judge.specs.Constraints.{within};
+ghost use Rattle.judge.specs.Verdict.{first, fault, outsideFault};
+ghost use Rattle.judge.specs.Answers.{report};
+
+// Whether the units of one interval, from one time to another, are inside a window or none.
+fn place_inside(from: u32, to: u32, units: u32, release: u32, deadline: u32) -> bool
+    ensures { λ r. ⌜ r ≡ (leb release from && leb to deadline || eqb units 0) ⌝ }
+{
+    (release <= from) & (to <= deadline) | (units == 0)
+}
+
+// Whether the units of a row stand inside a window only. It looks at all of them, which is faster than to stop early.
+fn row_inside(
+    table: &[u32],
+    start: usize,
+    times: &[u32],
+    spans: usize,
+    release: u32,
+    deadline: u32,
+) -> bool
+    requires { ⌜ (spans < length (now times)) × (start + spans ≤ length (now table)) ⌝ }
+    ensures { λ r. ⌜ r ≡ every (λ j. within (now (times .entry)) release deadline j || eqb (getD (now (table .entry)) (start + j) 0) 0) spans ⌝ }
+{
+    let mut inside = true;
+    let mut j = 0;
+    while j < spans {
+        inside = inside & place_inside(times[j], times[j + 1], table[start + j], release, deadline);
+        j += 1;
+    }
+    inside
+}
+
+// The first interval of job i's row with units outside a window.
+fn outside_in_row(
+    table: &[u32],
+    start: usize,
+    times: &[u32],
+    spans: usize,
+    release: u32,
+    deadline: u32,
+    i: usize,
+) -> Verdict
+    requires { ⌜ (spans < length (now times)) × (start + spans ≤ length (now table)) ⌝ }
+    ensures { λ r. ⌜ report r ≡ first (λ j. fault (not (within (now (times .entry)) release deadline j || eqb (getD (now (table .entry)) (start + j) 0) 0)) (outsideWindow ∷ i ∷ j ∷ [])) spans ⌝ }
+{
+    let mut j = 0;
+    while j < spans {
+        let inside = place_inside(times[j], times[j + 1], table[start + j], release, deadline);
+        if !inside {
+            return Verdict::OutsideWindow(i, j);
+        }
+        j += 1;
+    }
+    Verdict::Accepted
+}
+
+// Rule 15 over all jobs: a row is searched for its place only where the whole row says that it has one.
+pub fn outside_window(p: Plan, table: &[u32], times: &[u32], spans: usize) -> Verdict
+    requires { ⌜ (now times ≡ boundaries p) × (spans ≡ intervals p) × (spans < length (now times)) × (places ≤ length (now table)) ⌝ }
+    ensures { λ r. ⌜ report r ≡ outsideFault p (now (table .entry)) ⌝ }
+{
+    let jobs = counted_of(p);
+    let mut i = 0;
+    while i < jobs {
+        let job = p.jobs[i];
+        let release = job.release;
+        let deadline = job.deadline;
+        let start = Edition::MOST_INTERVALS * i;
+        let inside = row_inside(table, start, times, spans, release.0, deadline.0);
+        if !inside {
+            return outside_in_row(table, start, times, spans, release.0, deadline.0, i);
+        }
+        i += 1;
+    }
+    Verdict::Accepted
+}
