@@ -1,6 +1,6 @@
 -- The laws of tests and extremes below a length.
 use mathlib.Core.Path.{_≡_, refl, sym, _∙_, ap, ap₂}
-use mathlib.Core.Bool.{Bool, true, _&&_, and-true, and-assoc}
+use mathlib.Core.Bool.{Bool, true, false, true≢false, _&&_, and-true, and-assoc}
 use Prim.Native.Nat.{ℕ, zero, suc, _+_, _≤_, _<_, min, max}
 use native.Mathlib.Numerals.{add-one}
 use native.Mathlib.Decide.{decLt}
@@ -85,3 +85,30 @@ greatest-attained f (suc (suc n)) h = go (decLt (greatest f (suc n)) (f (suc n))
         → (i : ℕ) × (i < suc (suc n)) × (f i ≡ max (greatest f (suc n)) (f (suc n)))
     go (yes l) w = (suc n, omega arith, omega arith)
     go (no l) w = (w .0, omega (arith, w .1), omega (arith, w .2))
+
+-- Two tests that hold together hold each.
+pub and-left : (a b : Bool) → (a && b) ≡ true → a ≡ true
+and-left true b e = refl
+and-left false b e = e
+
+pub and-right : (a b : Bool) → (a && b) ≡ true → b ≡ true
+and-right true b e = e
+and-right false b e = absurd (true≢false (sym e))
+
+-- What holds at every number below a length holds at each.
+pub every-at : (test : ℕ → Bool) (n k : ℕ) → every test n ≡ true → k < n → test k ≡ true
+unfolding every
+every-at test (suc n) k e h =
+    below-or-last k n h (λ l. every-at test n k (and-left (every test n) (test n) e) l) (λ q. rw q (and-right (every test n) (test n) e))
+
+-- The extremes of functions that agree below a length are equal.
+pub least-ext : (f g : ℕ → ℕ) (n : ℕ) → ((k : ℕ) → k < n → f k ≡ g k) → least f n ≡ least g n
+unfolding least
+least-ext f g zero h = refl
+least-ext f g (suc zero) h = h 0 (omega arith)
+least-ext f g (suc (suc n)) h = ap₂ min (least-ext f g (suc n) (λ k l. h k (omega arith))) (h (suc n) (omega arith))
+
+pub greatest-ext : (f g : ℕ → ℕ) (n : ℕ) → ((k : ℕ) → k < n → f k ≡ g k) → greatest f n ≡ greatest g n
+unfolding greatest
+greatest-ext f g zero h = refl
+greatest-ext f g (suc n) h = ap₂ max (greatest-ext f g n (λ k l. h k (omega arith))) (h n (omega arith))

@@ -4,3 +4,4 @@ pub mod Below
 pub mod Rules
 pub mod Boundaries
 pub mod Table
+pub mod Same

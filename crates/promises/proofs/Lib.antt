@@ -1,2 +1,4 @@
 pub mod Tail
 pub mod Keep
+pub mod Sound
+pub mod Same

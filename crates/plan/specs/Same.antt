@@ -1,0 +1,16 @@
+-- When two plans in hand, each with its table, are the same.
+use mathlib.Core.Path.{_≡_}
+use mathlib.Core.List.{List}
+use Prim.Native.Nat.{ℕ, _<_}
+use lib.ListN.{take}
+use Rattle.plan.specs.Edition.{places}
+use Rattle.plan.specs.Rules.{counted, jobOf}
+use Rattle.plan.specs.declared.kinds.Plan.{Plan}
+
+-- Rates, count, the counted records and the table's own places are equal; nothing else of a plan in hand is looked at.
+pub record Same (p : Plan) (table : List ℕ) (q : Plan) (other : List ℕ) : Type 0 where
+  pub n : p .n ≡ q .n
+  pub d : p .d ≡ q .d
+  pub count : p .count ≡ q .count
+  pub jobs : (i : ℕ) → i < counted p → jobOf p i ≡ jobOf q i
+  pub cells : take places table ≡ take places other

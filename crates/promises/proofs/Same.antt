@@ -1,0 +1,218 @@
+-- Plans that are the same get the same from a slot's call.
+use mathlib.Core.Path.{_≡_, refl, sym, _∙_, ap, ap₂}
+use mathlib.Core.Bool.{Bool, true, false, not, _&&_, _||_}
+use mathlib.Core.List.{List, [], _∷_, _++_}
+use Prim.Native.Nat.{ℕ, suc, _+_, _*_, _-_, _≤_, _<_, min}
+use native.Mathlib.Omega.{arith}
+use borrow.Author.Tests.{ltb-true, ltb-false, leb-true, eqb-false, not-false, lt-ltb, le-ltb}
+use lib.Dec.{leb, ltb, eqb}
+use lib.ListN.{length, getD, take, drop, replicate, length-take}
+use lib.Seq.{getD-take}
+use Rattle.sums.specs.Sum.{sum}
+use Rattle.sums.proofs.Laws.{sum-ext}
+use Rattle.plan.specs.Edition.{mostJobs, mostIntervals, places}
+use Rattle.plan.specs.Refusal.{unsound, bufferTooShort, clockAtEnd, speedAboveNormal}
+use Rattle.plan.specs.Below.{every, least, greatest}
+use Rattle.plan.specs.Rules.{counted, jobOf, release, deadline, size, hi, isHi, ratesAllowed, countAllowed, gradeAllowed, windowAllowed, sizeAllowed, gradesHold, boundsHold}
+use Rattle.plan.specs.Boundaries.{boundariesTo, boundaries, intervals, come, present, firstRelease, lastDeadline}
+use Rattle.plan.specs.Table.{allotment}
+use Rattle.plan.specs.Same.{Same}
+use Rattle.plan.specs.declared.kinds.Job.{Job}
+use Rattle.plan.specs.declared.kinds.Rate.{Rate}
+use Rattle.plan.specs.declared.kinds.Plan.{Plan}
+use Rattle.plan.proofs.Below.{every-ext, least-ext, greatest-ext, and-left}
+use Rattle.plan.proofs.Rising.{boundaries-ext}
+use Rattle.plan.proofs.Timeline.{present-inside}
+use Rattle.judge.specs.Verdict.{Report, orElse, fault}
+use Rattle.dispatch.specs.declared.Run.{Run}
+use Rattle.dispatch.specs.Dues.{carriedOf, live, slowAfter, belowAfter, goal, due}
+use Rattle.dispatch.specs.Turns.{line, order, serve}
+use Rattle.dispatch.specs.Step.{slotSound, slotFault, granted, added, advanced, Slot, slotBy, stepped}
+use Rattle.dispatch.proofs.Line.{stands, if-less, neither, line-ext, serve-ext, stands-both, stands-below}
+use Rattle.promises.proofs.Sound.{SlotSound, slot-sound}
+
+-- Where nothing is refused, neither the first fault nor any later one is there.
+pub clear : (b : Bool) (number : ℕ) (rest : List ℕ) (next : Report) → orElse (fault b (number ∷ rest)) next ≡ [] → (b ≡ false) × (next ≡ [])
+clear true number rest next e = let z : _≡_ {A = ℕ} 0 1 = cc in absurd (omega arith)
+clear false number rest next e = (refl, e)
+
+-- A done call: what its tests have found.
+pub record Done (p : Plan) (table : List ℕ) (run : Run) (v : ℕ) (grants : List ℕ) : Type 0 where
+  pub sound : SlotSound p run
+  pub table-long : places ≤ length table
+  pub grants-long : counted p ≤ length grants
+  pub before-end : run .clock .0 < lastDeadline p
+  pub speed : v ≤ p .n .0
+
+pub done : (p : Plan) (table : List ℕ) (run : Run) (v : ℕ) (grants : List ℕ) → slotFault p table run v grants ≡ [] → Done p table run v grants
+unfolding slotFault
+done p table run v grants e =
+    let short : Bool = ltb (length table) places || ltb (length grants) (counted p) in
+    let ends : Bool = eqb (run .clock .0) (lastDeadline p) in
+    let fast : Bool = ltb (p .n .0) v in
+    let e1 = clear (not (slotSound p run)) unsound []
+          (orElse (fault short (bufferTooShort ∷ [])) (orElse (fault ends (clockAtEnd ∷ [])) (fault fast (speedAboveNormal ∷ [])))) e in
+    let e2 = clear short bufferTooShort [] (orElse (fault ends (clockAtEnd ∷ [])) (fault fast (speedAboveNormal ∷ []))) (e1 .1) in
+    let e3 = clear ends clockAtEnd [] (fault fast (speedAboveNormal ∷ [])) (e2 .1) in
+    let sound = slot-sound p run (not-false (slotSound p run) (e1 .0)) in
+    let long = neither (ltb (length table) places) (ltb (length grants) (counted p)) (e2 .0) in
+    record
+      { sound = sound;
+        table-long = ltb-false (length table) places (long .0);
+        grants-long = ltb-false (length grants) (counted p) (long .1);
+        before-end = early (sound .not-over) (eqb-false (run .clock .0) (lastDeadline p) (e3 .0));
+        speed = ltb-false (p .n .0) v (last fast (e3 .1)) }
+  where
+    early : run .clock .0 ≤ lastDeadline p → (run .clock .0 ≡ lastDeadline p → ⊥) → run .clock .0 < lastDeadline p
+    early h n = omega arith
+
+    last : (b : Bool) → fault b (speedAboveNormal ∷ []) ≡ [] → b ≡ false
+    last true e′ = let z : _≡_ {A = ℕ} 0 1 = cc in absurd (omega arith)
+    last false e′ = refl
+
+module _ (p : Plan) (table : List ℕ) (q : Plan) (other : List ℕ) (same : Same p table q other) where
+  counted-same : counted p ≡ counted q
+  counted-same = ap (λ c. min c mostJobs) (same .count)
+
+  release-same : (i : ℕ) → i < counted p → release p i ≡ release q i
+  release-same i h = ap (λ j. j .release .0) (same .jobs i h)
+
+  deadline-same : (i : ℕ) → i < counted p → deadline p i ≡ deadline q i
+  deadline-same i h = ap (λ j. j .deadline .0) (same .jobs i h)
+
+  size-same : (i : ℕ) → i < counted p → size p i ≡ size q i
+  size-same i h = ap (λ j. j .size .0) (same .jobs i h)
+
+  hi-same : (i : ℕ) → i < counted p → isHi p i ≡ isHi q i
+  hi-same i h = ap (λ j. eqb (j .grade) hi) (same .jobs i h)
+
+  boundaries-same : boundaries p ≡ boundaries q
+  boundaries-same = boundaries-ext p q (counted p) release-same deadline-same ∙ ap (boundariesTo q) counted-same
+
+  first-same : firstRelease p ≡ firstRelease q
+  first-same = least-ext (release p) (release q) (counted p) release-same ∙ ap (least (release q)) counted-same
+
+  last-same : lastDeadline p ≡ lastDeadline q
+  last-same = greatest-ext (deadline p) (deadline q) (counted p) deadline-same ∙ ap (greatest (deadline q)) counted-same
+
+  -- Rules that test each counted record hold of both.
+  every-same : (test : Job → Bool) → every (λ i. test (jobOf p i)) (counted p) ≡ every (λ i. test (jobOf q i)) (counted q)
+  every-same test =
+      every-ext (λ i. test (jobOf p i)) (λ i. test (jobOf q i)) (counted p) (λ i h. ap test (same .jobs i h))
+      ∙ ap (every (λ i. test (jobOf q i))) counted-same
+
+  sound-same : (run : Run) → slotSound p run ≡ slotSound q run
+  unfolding slotSound gradesHold boundsHold
+  sound-same run =
+      ap₂ _&&_
+      (ap₂ _&&_
+        (ap₂ _&&_
+          (ap₂ _&&_
+            (ap₂ _&&_
+              (ap₂ _&&_ (ap₂ (λ (n : Rate) (d : Rate). ratesAllowed (n .0) (d .0)) (same .n) (same .d)) (ap countAllowed (same .count)))
+              (every-same (λ j. gradeAllowed (j .grade))))
+            (every-same (λ j. windowAllowed (j .release .0) (j .deadline .0) && sizeAllowed (j .size .0))))
+          (ap (λ t. leb t (run .clock .0)) first-same))
+        (ap (λ t. leb (run .clock .0) t) last-same))
+      (every-ext _ _ (counted p) (λ i h. ap (leb (carriedOf run i)) (size-same i h)) ∙ ap (every _) counted-same)
+
+  -- A table of the same places is long enough or not alike.
+  long-same : ltb (length table) places ≡ ltb (length other) places
+  long-same =
+      let lengths : min places (length table) ≡ min places (length other)
+            = sym (length-take places table) ∙ ap length (same .cells) ∙ length-take places other in
+      if-less (length table) places
+      (λ l. lt-ltb (length table) places l ∙ sym (lt-ltb (length other) places (omega arith)))
+      (λ l. le-ltb (length table) places l ∙ sym (le-ltb (length other) places (omega arith)))
+
+  fault-same : (run : Run) (v : ℕ) (grants : List ℕ) → slotFault p table run v grants ≡ slotFault q other run v grants
+  unfolding slotFault
+  fault-same run v grants = rw (sound-same run, long-same, last-same, counted-same, same .n) refl
+
+  slow-same : (run : Run) (v : ℕ) → slowAfter p run v ≡ slowAfter q run v
+  slow-same run v = ap (λ r. run .slow || ltb v (r .0)) (same .n)
+
+  live-same : (t i : ℕ) → i < counted p → live p t i ≡ live q t i
+  live-same t i h = ap₂ (λ a b. leb a t && ltb t b) (release-same i h) (deadline-same i h)
+
+  order-same : (t : ℕ) (slow : Bool) → order p t slow ≡ order q t slow
+  unfolding order
+  order-same t slow =
+      ap₂ _++_
+      (line-ext _ _ _ _ (counted p) (λ k h. ap₂ _&&_ (live-same t k h) (hi-same k h)) deadline-same ∙ ap (line _ _) counted-same)
+      (line-ext _ _ _ _ (counted p) (λ k h. ap₂ (λ a b. a && not b && not slow) (live-same t k h) (hi-same k h)) deadline-same
+      ∙ ap (line _ _) counted-same)
+
+  order-below : (t : ℕ) (slow : Bool) (k : ℕ) → stands k (order p t slow) ≡ true → k < counted p
+  unfolding order
+  order-below t slow k e = go (stands k hiLine) refl (sym (stands-both k hiLine loLine) ∙ e)
+    where
+      hiLine : List ℕ
+      hiLine = line (λ i. live p t i && isHi p i) (deadline p) (counted p)
+
+      loLine : List ℕ
+      loLine = line (λ i. live p t i && not (isHi p i) && not slow) (deadline p) (counted p)
+
+      go : (b : Bool) → stands k hiLine ≡ b → (stands k hiLine || stands k loLine) ≡ true → k < counted p
+      go true is e′ = stands-below _ (deadline p) k (counted p) is
+      go false is e′ = stands-below _ (deadline p) k (counted p) (rw is at e′)
+
+  -- In a done call the dues rest on the table's own places alone.
+  due-same : (run : Run) (v : ℕ) (grants : List ℕ) → Done p table run v grants → (slow : Bool) (i : ℕ) → i < counted p
+      → due p table run slow i ≡ due q other run slow i
+  due-same run v grants d slow i h = ap (λ x. x - carriedOf run i) (goal-same slow)
+    where
+      t : ℕ
+      t = run .clock .0
+
+      present-same : present p t ≡ present q t
+      present-same = ap (λ l. come t l - 1) boundaries-same
+
+      here : present p t < intervals p
+      here = present-inside p (d .sound .rules .some) (d .sound .rules .windows) t (d .sound .begun) (d .before-end) .0
+
+      allotted-same : sum (allotment mostIntervals table i) (suc (present p t)) ≡ sum (allotment mostIntervals other i) (suc (present q t))
+      allotted-same =
+          sum-ext _ _ (suc (present p t))
+          (λ j l.
+            let inside : mostIntervals * i + j < places = omega (arith, here, d .sound .rules .spans, d .sound .rules .few) in
+            sym (getD-take places table (mostIntervals * i + j) 0 inside) ∙ ap (λ c. getD c (mostIntervals * i + j) 0) (same .cells)
+            ∙ getD-take places other (mostIntervals * i + j) 0 inside)
+          ∙ ap (λ k. sum (allotment mostIntervals other i) (suc k)) present-same
+
+      goal-same : (slow : Bool) → goal p table t slow i ≡ goal q other t slow i
+      goal-same true = size-same i h
+      goal-same false = ap₂ min (size-same i h) allotted-same
+
+  granted-same : (run : Run) (v : ℕ) (grants : List ℕ) → Done p table run v grants → granted p table run v grants ≡ granted q other run v grants
+  unfolding granted
+  granted-same run v grants d =
+      serve-ext _ (due q other run (slowAfter p run v)) v _ _
+        (λ k s. due-same run v grants d (slowAfter p run v) k (order-below (run .clock .0) (slowAfter p run v) k s))
+      ∙ rw (order-same (run .clock .0) (slowAfter p run v), counted-same, slow-same run v) refl
+
+  advanced-same : (run : Run) (v : ℕ) (grants : List ℕ) → granted p table run v grants ≡ granted q other run v grants
+      → advanced p table run v grants ≡ advanced q other run v grants
+  unfolding advanced
+  advanced-same run v grants g =
+      let below-same : belowAfter p run v ≡ belowAfter q run v = ap (λ r. run .below || ltb v (r .0)) (same .d) in
+      let carried-same : added (counted p) (run .carried) (granted p table run v grants) ≡ added (counted q) (run .carried) (granted q other run v grants)
+            = ap₂ (λ n l. added n (run .carried) l) counted-same g in
+      λ t. record
+        { clock = record { 0 = run .clock .0 + 1 };
+          slow = slow-same run v t;
+          below = below-same t;
+          carried = carried-same t }
+
+  -- Plans that are the same get the same answer, run and grants from a slot's call.
+  pub same-slot : (run : Run) (v : ℕ) (grants : List ℕ) → stepped p table run v grants ≡ stepped q other run v grants
+  unfolding stepped
+  same-slot run v grants =
+      go (slotFault p table run v grants) refl ∙ ap (λ r. slotBy r q other run v grants) (fault-same run v grants)
+    where
+      go : (r : Report) → slotFault p table run v grants ≡ r → slotBy r p table run v grants ≡ slotBy r q other run v grants
+      go [] e =
+          let g = granted-same run v grants (done p table run v grants e) in
+          let a = advanced-same run v grants g in
+          λ t. record { answer = []; run = a t; grants = g t }
+      go (number ∷ rest) e = refl

@@ -1,0 +1,67 @@
+-- What a plan and a run that are sound for a slot are known by.
+use mathlib.Core.Path.{_≡_, refl, sym, _∙_, ap}
+use mathlib.Core.Bool.{Bool, true, _&&_}
+use Prim.Native.Nat.{ℕ, _≤_, _<_}
+use native.Mathlib.Omega.{arith}
+use borrow.Author.Tests.{leb-true, ltb-true}
+use lib.Dec.{leb, ltb}
+use Rattle.plan.specs.Edition.{mostJobs, mostIntervals, mostDeadline, mostSize}
+use Rattle.plan.specs.Below.{every}
+use Rattle.plan.specs.Rules.{counted, release, deadline, size, ratesHold, countHolds, gradesHold, boundsHold, windowAllowed, sizeAllowed}
+use Rattle.plan.specs.Boundaries.{intervals, firstRelease, lastDeadline}
+use Rattle.plan.specs.declared.kinds.Plan.{Plan}
+use Rattle.plan.proofs.Below.{and-left, and-right, every-at}
+use Rattle.plan.proofs.Rising.{boundaries-few}
+use Rattle.dispatch.specs.declared.Run.{Run}
+use Rattle.dispatch.specs.Dues.{carriedOf}
+use Rattle.dispatch.specs.Step.{slotSound}
+
+-- The facts of rules 5 and 9, as numbers.
+pub record Ruled (p : Plan) : Type 0 where
+  pub some : 0 < counted p
+  pub count : counted p ≡ p .count
+  pub few : counted p ≤ mostJobs
+  pub windows : (i : ℕ) → i < counted p → release p i < deadline p i
+  pub spans : intervals p ≤ mostIntervals
+
+pub ruled : (p : Plan) → countHolds p ≡ true → boundsHold p ≡ true → Ruled p
+unfolding boundsHold
+ruled p c b =
+    let one = leb-true 1 (p .count) (and-left (leb 1 (p .count)) (leb (p .count) mostJobs) c) in
+    let most = leb-true (p .count) mostJobs (and-right (leb 1 (p .count)) (leb (p .count) mostJobs) c) in
+    record
+      { some = omega arith;
+        count = omega arith;
+        few = omega arith;
+        windows = λ i h.
+          ltb-true (release p i) (deadline p i)
+          (and-left (ltb (release p i) (deadline p i)) (leb (deadline p i) mostDeadline)
+          (and-left (windowAllowed (release p i) (deadline p i)) (sizeAllowed (size p i)) (every-at _ (counted p) i b h)));
+        spans = omega (arith, boundaries-few p (counted p)) }
+
+-- The facts of a slot's soundness.
+pub record SlotSound (p : Plan) (run : Run) : Type 0 where
+  pub rules : Ruled p
+  pub begun : firstRelease p ≤ run .clock .0
+  pub not-over : run .clock .0 ≤ lastDeadline p
+  pub carried : (i : ℕ) → i < counted p → carriedOf run i ≤ size p i
+
+pub slot-sound : (p : Plan) (run : Run) → slotSound p run ≡ true → SlotSound p run
+unfolding slotSound
+slot-sound p run e =
+    let r2 : Bool = ratesHold p && countHolds p in
+    let r3 : Bool = r2 && gradesHold p in
+    let r4 : Bool = r3 && boundsHold p in
+    let from : Bool = leb (firstRelease p) (run .clock .0) in
+    let to : Bool = leb (run .clock .0) (lastDeadline p) in
+    let carry : Bool = every (λ i. leb (carriedOf run i) (size p i)) (counted p) in
+    let e6 : (r4 && from && to) ≡ true = and-left (r4 && from && to) carry e in
+    let e5 : (r4 && from) ≡ true = and-left (r4 && from) to e6 in
+    let e4 : r4 ≡ true = and-left r4 from e5 in
+    record
+      { rules =
+          ruled p (and-right (ratesHold p) (countHolds p) (and-left r2 (gradesHold p) (and-left r3 (boundsHold p) e4)))
+          (and-right r3 (boundsHold p) e4);
+        begun = leb-true (firstRelease p) (run .clock .0) (and-right r4 from e5);
+        not-over = leb-true (run .clock .0) (lastDeadline p) (and-right (r4 && from) to e6);
+        carried = λ i h. leb-true (carriedOf run i) (size p i) (every-at _ (counted p) i (and-right (r4 && from && to) carry e) h) }

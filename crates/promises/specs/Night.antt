@@ -1,0 +1,101 @@
+-- A night: calls of the step one after the other, what each transfer has had of them, and what was promised.
+use mathlib.Core.Path.{_≡_}
+use mathlib.Core.Logic.{_⊎_}
+use mathlib.Core.Bool.{Bool, true, false, not, _&&_, _||_}
+use mathlib.Core.List.{List, [], _∷_}
+use Prim.Native.Nat.{ℕ, _+_, _≤_, _<_}
+use lib.Dec.{ltb}
+use lib.ListN.{getD}
+use Rattle.sums.specs.Sum.{sum, on}
+use Rattle.plan.specs.Rules.{counted, size, deadline, isHi}
+use Rattle.plan.specs.Same.{Same}
+use Rattle.plan.specs.declared.kinds.Plan.{Plan}
+use Rattle.judge.specs.Verdict.{Report}
+use Rattle.dispatch.specs.declared.Run.{Run}
+use Rattle.dispatch.specs.Dues.{live}
+use Rattle.dispatch.specs.Step.{Slot, started, stepped}
+
+-- A call of the step: any plan, table, speed and grant row. The run is as the last call left it.
+pub record Call : Type 0 where
+  pub plan : Plan
+  pub table : List ℕ
+  pub speed : ℕ
+  pub row : List ℕ
+
+-- A night is a list of calls, the latest first. The run after it, begun from plan p.
+unfoldable pub runAfter : Plan → List Call → Run
+runAfter p [] = started p
+runAfter p (c ∷ earlier) = stepped (c .plan) (c .table) (runAfter p earlier) (c .speed) (c .row) .run
+
+-- What the latest call left: its answer, the run and the grant row.
+abbrev pub latest : Plan → Call → List Call → Slot
+latest p c earlier = stepped (c .plan) (c .table) (runAfter p earlier) (c .speed) (c .row)
+
+-- A call is done when it is refused by nothing.
+abbrev pub isDone : Report → Bool
+isDone [] = true
+isDone (number ∷ places) = false
+
+-- The clock before the latest call.
+abbrev pub clockAt : Plan → List Call → ℕ
+clockAt p earlier = runAfter p earlier .clock .0
+
+-- What the latest call gave to job i: the number that a done call leaves at its place of the grant row.
+abbrev pub given : Plan → Call → List Call → ℕ → ℕ
+given p c earlier i = on (isDone (latest p c earlier .answer)) (getD (latest p c earlier .grants) i 0)
+
+-- What job i has had: the sum of what the calls gave it.
+unfoldable pub had : Plan → List Call → ℕ → ℕ
+had p [] i = 0
+had p (c ∷ earlier) i = had p earlier i + given p c earlier i
+
+-- What it has had in slots inside its window.
+unfoldable pub hadInWindow : Plan → List Call → ℕ → ℕ
+hadInWindow p [] i = 0
+hadInWindow p (c ∷ earlier) i = hadInWindow p earlier i + on (live p (clockAt p earlier) i) (given p c earlier i)
+
+-- A slow slot is a done call with a speed below n.
+abbrev pub isSlow : Plan → Call → List Call → Bool
+isSlow p c earlier = isDone (latest p c earlier .answer) && ltb (c .speed) (p .n .0)
+
+-- Some slot was slow.
+unfoldable pub slowed : Plan → List Call → Bool
+slowed p [] = false
+slowed p (c ∷ earlier) = slowed p earlier || isSlow p c earlier
+
+-- Some slow slot began before time D. (If none did, no slot was slow, or D is no later than the start of the first slow one.)
+unfoldable pub slowedBefore : Plan → ℕ → List Call → Bool
+slowedBefore p D [] = false
+slowedBefore p D (c ∷ earlier) = slowedBefore p D earlier || isSlow p c earlier && ltb (clockAt p earlier) D
+
+-- What job i has had from the first slow slot on.
+unfoldable pub hadSinceSlow : Plan → List Call → ℕ → ℕ
+hadSinceSlow p [] i = 0
+hadSinceSlow p (c ∷ earlier) i = hadSinceSlow p earlier i + on (slowed p (c ∷ earlier)) (given p c earlier i)
+
+-- The premise on a night: each call was refused, or its plan and table are the accepted ones, unchanged, and its speed lies from floor to normal.
+unfoldable pub Allowed : Plan → List ℕ → List Call → Type 0
+Allowed p table [] = Unit {0}
+Allowed p table (c ∷ earlier) =
+    Allowed p table earlier
+    × ((isDone (latest p c earlier .answer) ≡ false)
+      ⊎ (Same p table (c .plan) (c .table) × (p .d .0 ≤ c .speed) × (c .speed ≤ p .n .0)))
+
+-- No slot of a night gave more than its speed.
+unfoldable pub WithinSpeeds : Plan → List Call → Type 0
+WithinSpeeds p [] = Unit {0}
+WithinSpeeds p (c ∷ earlier) = WithinSpeeds p earlier × (sum (given p c earlier) (counted p) ≤ c .speed)
+
+-- What is promised to depositors, at every point of a night.
+pub record Kept (p : Plan) (night : List Call) : Type 0 where
+  -- An essential transfer whose deadline the clock has reached has had exactly its size, all of it inside its window.
+  pub essential : (i : ℕ) → i < counted p → isHi p i ≡ true → deadline p i ≤ runAfter p night .clock .0
+      → (had p night i ≡ size p i) × (hadInWindow p night i ≡ size p i)
+  -- So has every other whose deadline the clock has reached, if no slow slot began before that deadline.
+  pub others : (i : ℕ) → i < counted p → deadline p i ≤ runAfter p night .clock .0 → slowedBefore p (deadline p i) night ≡ false
+      → (had p night i ≡ size p i) × (hadInWindow p night i ≡ size p i)
+  -- From the first slow slot on no other transfer gets anything.
+  pub discarded : (i : ℕ) → i < counted p → isHi p i ≡ false → hadSinceSlow p night i ≡ 0
+  -- No transfer ever has more than its size, and no slot gives more than its speed.
+  pub no-more : (i : ℕ) → i < counted p → had p night i ≤ size p i
+  pub speeds : WithinSpeeds p night
