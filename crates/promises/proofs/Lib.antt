@@ -2,3 +2,4 @@ pub mod Tail
 pub mod Keep
 pub mod Sound
 pub mod Same
+pub mod Slots
