@@ -39,7 +39,7 @@ before-lo false false slow true x = refl
 before-lo false false slow false x = refl
 
 -- What nothing is let through of is nothing.
-on-nothing : (b : Bool) → on b 0 ≡ 0
+pub on-nothing : (b : Bool) → on b 0 ≡ 0
 on-nothing true = refl
 on-nothing false = refl
 

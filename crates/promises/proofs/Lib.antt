@@ -3,3 +3,4 @@ pub mod Keep
 pub mod Sound
 pub mod Same
 pub mod Slots
+pub mod Demand3

@@ -51,17 +51,18 @@ done p table run v grants e =
     let ends : Bool = eqb (run .clock .0) (lastDeadline p) in
     let fast : Bool = ltb (p .n .0) v in
     let e1 = clear (not (slotSound p run)) unsound []
-          (orElse (fault short (bufferTooShort ∷ [])) (orElse (fault ends (clockAtEnd ∷ [])) (fault fast (speedAboveNormal ∷ [])))) e in
+    (orElse (fault short (bufferTooShort ∷ [])) (orElse (fault ends (clockAtEnd ∷ [])) (fault fast (speedAboveNormal ∷ [])))) e in
     let e2 = clear short bufferTooShort [] (orElse (fault ends (clockAtEnd ∷ [])) (fault fast (speedAboveNormal ∷ []))) (e1 .1) in
     let e3 = clear ends clockAtEnd [] (fault fast (speedAboveNormal ∷ [])) (e2 .1) in
     let sound = slot-sound p run (not-false (slotSound p run) (e1 .0)) in
     let long = neither (ltb (length table) places) (ltb (length grants) (counted p)) (e2 .0) in
-    record
-      { sound = sound;
-        table-long = ltb-false (length table) places (long .0);
-        grants-long = ltb-false (length grants) (counted p) (long .1);
-        before-end = early (sound .not-over) (eqb-false (run .clock .0) (lastDeadline p) (e3 .0));
-        speed = ltb-false (p .n .0) v (last fast (e3 .1)) }
+    record {
+      sound = sound;
+      table-long = ltb-false (length table) places (long .0);
+      grants-long = ltb-false (length grants) (counted p) (long .1);
+      before-end = early (sound .not-over) (eqb-false (run .clock .0) (lastDeadline p) (e3 .0));
+      speed = ltb-false (p .n .0) v (last fast (e3 .1));
+    }
   where
     early : run .clock .0 ≤ lastDeadline p → (run .clock .0 ≡ lastDeadline p → ⊥) → run .clock .0 < lastDeadline p
     early h n = omega arith
@@ -106,21 +107,21 @@ module _ (p : Plan) (table : List ℕ) (q : Plan) (other : List ℕ) (same : Sam
   sound-same run =
       ap₂ _&&_
       (ap₂ _&&_
-        (ap₂ _&&_
-          (ap₂ _&&_
-            (ap₂ _&&_
-              (ap₂ _&&_ (ap₂ (λ (n : Rate) (d : Rate). ratesAllowed (n .0) (d .0)) (same .n) (same .d)) (ap countAllowed (same .count)))
-              (every-same (λ j. gradeAllowed (j .grade))))
-            (every-same (λ j. windowAllowed (j .release .0) (j .deadline .0) && sizeAllowed (j .size .0))))
-          (ap (λ t. leb t (run .clock .0)) first-same))
-        (ap (λ t. leb (run .clock .0) t) last-same))
+      (ap₂ _&&_
+      (ap₂ _&&_
+      (ap₂ _&&_
+      (ap₂ _&&_ (ap₂ (λ (n : Rate) (d : Rate). ratesAllowed (n .0) (d .0)) (same .n) (same .d)) (ap countAllowed (same .count)))
+      (every-same (λ j. gradeAllowed (j .grade))))
+      (every-same (λ j. windowAllowed (j .release .0) (j .deadline .0) && sizeAllowed (j .size .0))))
+      (ap (λ t. leb t (run .clock .0)) first-same))
+      (ap (λ t. leb (run .clock .0) t) last-same))
       (every-ext _ _ (counted p) (λ i h. ap (leb (carriedOf run i)) (size-same i h)) ∙ ap (every _) counted-same)
 
   -- A table of the same places is long enough or not alike.
   long-same : ltb (length table) places ≡ ltb (length other) places
   long-same =
       let lengths : min places (length table) ≡ min places (length other)
-            = sym (length-take places table) ∙ ap length (same .cells) ∙ length-take places other in
+      = sym (length-take places table) ∙ ap length (same .cells) ∙ length-take places other in
       if-less (length table) places
       (λ l. lt-ltb (length table) places l ∙ sym (lt-ltb (length other) places (omega arith)))
       (λ l. le-ltb (length table) places l ∙ sym (le-ltb (length other) places (omega arith)))
@@ -175,9 +176,9 @@ module _ (p : Plan) (table : List ℕ) (q : Plan) (other : List ℕ) (same : Sam
       allotted-same =
           sum-ext _ _ (suc (present p t))
           (λ j l.
-            let inside : mostIntervals * i + j < places = omega (arith, here, d .sound .rules .spans, d .sound .rules .few) in
-            sym (getD-take places table (mostIntervals * i + j) 0 inside) ∙ ap (λ c. getD c (mostIntervals * i + j) 0) (same .cells)
-            ∙ getD-take places other (mostIntervals * i + j) 0 inside)
+          let inside : mostIntervals * i + j < places = omega (arith, here, d .sound .rules .spans, d .sound .rules .few) in
+          sym (getD-take places table (mostIntervals * i + j) 0 inside) ∙ ap (λ c. getD c (mostIntervals * i + j) 0) (same .cells)
+          ∙ getD-take places other (mostIntervals * i + j) 0 inside)
           ∙ ap (λ k. sum (allotment mostIntervals other i) (suc k)) present-same
 
       goal-same : (slow : Bool) → goal p table t slow i ≡ goal q other t slow i
@@ -188,7 +189,7 @@ module _ (p : Plan) (table : List ℕ) (q : Plan) (other : List ℕ) (same : Sam
   unfolding granted
   granted-same run v grants d =
       serve-ext _ (due q other run (slowAfter p run v)) v _ _
-        (λ k s. due-same run v grants d (slowAfter p run v) k (order-below (run .clock .0) (slowAfter p run v) k s))
+      (λ k s. due-same run v grants d (slowAfter p run v) k (order-below (run .clock .0) (slowAfter p run v) k s))
       ∙ rw (order-same (run .clock .0) (slowAfter p run v), counted-same, slow-same run v) refl
 
   advanced-same : (run : Run) (v : ℕ) (grants : List ℕ) → granted p table run v grants ≡ granted q other run v grants
@@ -197,12 +198,13 @@ module _ (p : Plan) (table : List ℕ) (q : Plan) (other : List ℕ) (same : Sam
   advanced-same run v grants g =
       let below-same : belowAfter p run v ≡ belowAfter q run v = ap (λ r. run .below || ltb v (r .0)) (same .d) in
       let carried-same : added (counted p) (run .carried) (granted p table run v grants) ≡ added (counted q) (run .carried) (granted q other run v grants)
-            = ap₂ (λ n l. added n (run .carried) l) counted-same g in
-      λ t. record
-        { clock = record { 0 = run .clock .0 + 1 };
-          slow = slow-same run v t;
-          below = below-same t;
-          carried = carried-same t }
+      = ap₂ (λ n l. added n (run .carried) l) counted-same g in
+      λ t. record {
+        clock = record { 0 = run .clock .0 + 1 };
+        slow = slow-same run v t;
+        below = below-same t;
+        carried = carried-same t;
+      }
 
   -- Plans that are the same get the same answer, run and grants from a slot's call.
   pub same-slot : (run : Run) (v : ℕ) (grants : List ℕ) → stepped p table run v grants ≡ stepped q other run v grants

@@ -32,17 +32,18 @@ use Rattle.promises.proofs.Same.{Done}
 -- The facts of a plan and its table.
 abbrev pub factsOf : Plan → List ℕ → Facts
 factsOf p table =
-    record
-      { N = counted p;
-        K = intervals p;
-        rel = release p;
-        size = size p;
-        dl = deadline p;
-        hi = isHi p;
-        x = units table;
-        b = boundary p;
-        n = p .n .0;
-        d = p .d .0 }
+    record {
+      N = counted p;
+      K = intervals p;
+      rel = release p;
+      size = size p;
+      dl = deadline p;
+      hi = isHi p;
+      x = units table;
+      b = boundary p;
+      n = p .n .0;
+      d = p .d .0;
+    }
 
 -- The state of a run.
 abbrev pub stateOf : Run → State
@@ -51,16 +52,17 @@ stateOf run = record { t = run .clock .0; slow = run .slow; carried = carriedOf 
 -- An accepted plan has what the laws of slots ask.
 pub good-plan : (p : Plan) (table : List ℕ) → Accepted p table → Good (factsOf p table)
 good-plan p table a =
-    record
-      { rise = boundary-rises p;
-        starts = release-is-boundary p;
-        ends = deadline-is-boundary p;
-        early = λ i j h k e. a .inside i j h k (rw (lt-leb (release p i) (boundary p j) e) refl);
-        late = λ i j h k e.
+    record {
+      rise = boundary-rises p;
+      starts = release-is-boundary p;
+      ends = deadline-is-boundary p;
+      early = λ i j h k e. a .inside i j h k (rw (lt-leb (release p i) (boundary p j) e) refl);
+      late = λ i j h k e.
           a .inside i j h k (rw (lt-leb (boundary p (suc j)) (deadline p i) e, and-false (leb (release p i) (boundary p j))) refl);
-        exact = a .exact;
-        within = a .within;
-        floor = a .floor }
+      exact = a .exact;
+      within = a .within;
+      floor = a .floor;
+    }
 
 -- What stands in a list after an addition.
 added-at : (n i : ℕ) (l grants : List ℕ) → i < n → i < length l → i < length grants → getD (added n l grants) i 0 ≡ getD l i 0 + getD grants i 0
@@ -80,9 +82,12 @@ added-length (suc n) (x ∷ l) (y ∷ grants) = ap suc (added-length n l grants)
 granted-long : (p : Plan) (table : List ℕ) (run : Run) (v : ℕ) (grants : List ℕ) (i : ℕ) → i < counted p → i < length (granted p table run v grants)
 unfolding granted
 granted-long p table run v grants i h =
-    rw (serve-length (Dues.due p table run (slowAfter p run v)) v (order p (run .clock .0) (slowAfter p run v))
-        (replicate (counted p) 0 ++ drop (counted p) grants),
-      length-append (replicate (counted p) 0) (drop (counted p) grants), length-replicate {A = ℕ} (counted p) 0)
+    rw (
+      serve-length (Dues.due p table run (slowAfter p run v)) v (order p (run .clock .0) (slowAfter p run v))
+          (replicate (counted p) 0 ++ drop (counted p) grants),
+      length-append (replicate (counted p) 0) (drop (counted p) grants),
+      length-replicate {A = ℕ} (counted p) 0,
+    )
     (omega arith)
 
 module _ (p : Plan) (table : List ℕ) (run : Run) (v : ℕ) (row : List ℕ) (d : Done p table run v row) (long : length (run .carried) ≡ mostJobs) where
@@ -100,14 +105,15 @@ module _ (p : Plan) (table : List ℕ) (run : Run) (v : ℕ) (row : List ℕ) (d
   pub slot-of : Slot (factsOf p table) (stateOf run) (stateOf (advanced p table run v row)) here v (λ i. getD (granted p table run v row) i 0)
   unfolding advanced
   slot-of =
-      record
-        { inside = present-inside p (d .sound .rules .some) (d .sound .rules .windows) (run .clock .0) (d .sound .begun) (d .before-end);
-          mark = refl;
-          clock = add-one (run .clock .0);
-          adds = λ i h.
+      record {
+        inside = present-inside p (d .sound .rules .some) (d .sound .rules .windows) (run .clock .0) (d .sound .begun) (d .before-end);
+        mark = refl;
+        clock = add-one (run .clock .0);
+        adds = λ i h.
             added-at (counted p) i (run .carried) (granted p table run v row) h (omega (arith, d .sound .rules .few)) (granted-long p table run v row i h);
-          within = λ i h. rw (← (claim-is i)) (within-claim p table run v row i h);
-          first = λ D.
+        within = λ i h. rw (← (claim-is i)) (within-claim p table run v row i h);
+        first = λ D.
             first-served p table run v row D
             ∙ ap (min v) (sum-ext _ _ (counted p) (λ i h. ap (on (class (factsOf p table) D i)) (claim-is i)));
-          all = all-served p table run v row ∙ ap (min v) (sum-ext _ _ (counted p) (λ i h. claim-is i)) }
+        all = all-served p table run v row ∙ ap (min v) (sum-ext _ _ (counted p) (λ i h. claim-is i));
+      }

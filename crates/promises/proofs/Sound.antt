@@ -29,15 +29,16 @@ unfolding boundsHold
 ruled p c b =
     let one = leb-true 1 (p .count) (and-left (leb 1 (p .count)) (leb (p .count) mostJobs) c) in
     let most = leb-true (p .count) mostJobs (and-right (leb 1 (p .count)) (leb (p .count) mostJobs) c) in
-    record
-      { some = omega arith;
-        count = omega arith;
-        few = omega arith;
-        windows = λ i h.
+    record {
+      some = omega arith;
+      count = omega arith;
+      few = omega arith;
+      windows = λ i h.
           ltb-true (release p i) (deadline p i)
           (and-left (ltb (release p i) (deadline p i)) (leb (deadline p i) mostDeadline)
           (and-left (windowAllowed (release p i) (deadline p i)) (sizeAllowed (size p i)) (every-at _ (counted p) i b h)));
-        spans = omega (arith, boundaries-few p (counted p)) }
+      spans = omega (arith, boundaries-few p (counted p));
+    }
 
 -- The facts of a slot's soundness.
 pub record SlotSound (p : Plan) (run : Run) : Type 0 where
@@ -58,10 +59,11 @@ slot-sound p run e =
     let e6 : (r4 && from && to) ≡ true = and-left (r4 && from && to) carry e in
     let e5 : (r4 && from) ≡ true = and-left (r4 && from) to e6 in
     let e4 : r4 ≡ true = and-left r4 from e5 in
-    record
-      { rules =
+    record {
+      rules =
           ruled p (and-right (ratesHold p) (countHolds p) (and-left r2 (gradesHold p) (and-left r3 (boundsHold p) e4)))
           (and-right r3 (boundsHold p) e4);
-        begun = leb-true (firstRelease p) (run .clock .0) (and-right r4 from e5);
-        not-over = leb-true (run .clock .0) (lastDeadline p) (and-right (r4 && from) to e6);
-        carried = λ i h. leb-true (carriedOf run i) (size p i) (every-at _ (counted p) i (and-right (r4 && from && to) carry e) h) }
+      begun = leb-true (firstRelease p) (run .clock .0) (and-right r4 from e5);
+      not-over = leb-true (run .clock .0) (lastDeadline p) (and-right (r4 && from) to e6);
+      carried = λ i h. leb-true (carriedOf run i) (size p i) (every-at _ (counted p) i (and-right (r4 && from && to) carry e) h);
+    }

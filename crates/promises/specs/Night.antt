@@ -79,7 +79,7 @@ Allowed p table [] = Unit {0}
 Allowed p table (c ∷ earlier) =
     Allowed p table earlier
     × ((isDone (latest p c earlier .answer) ≡ false)
-      ⊎ (Same p table (c .plan) (c .table) × (p .d .0 ≤ c .speed) × (c .speed ≤ p .n .0)))
+    ⊎ (Same p table (c .plan) (c .table) × (p .d .0 ≤ c .speed) × (c .speed ≤ p .n .0)))
 
 -- No slot of a night gave more than its speed.
 unfoldable pub WithinSpeeds : Plan → List Call → Type 0
