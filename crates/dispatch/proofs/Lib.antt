@@ -1,2 +1,4 @@
 pub mod Line
 pub mod Shares
+pub mod Sound
+pub mod Fills

@@ -92,7 +92,7 @@ module _ (p : Plan) (table : List ℕ) (run : Run) (v : ℕ) (grants : List ℕ)
   grant i = getD (granted p table run v grants) i 0
 
   -- The grants, as the two lines' turns.
-  two-lines : granted p table run v grants ≡ serve dues (v - over dues hiLine) loLine (serve dues v hiLine blank)
+  pub two-lines : granted p table run v grants ≡ serve dues (v - over dues hiLine) loLine (serve dues v hiLine blank)
   unfolding granted order
   two-lines = serve-both dues v hiLine loLine blank
 

@@ -1,12 +1,12 @@
 -- What each job is due in a slot.
-use mathlib.Core.Bool.{Bool, true, false, not, _&&_, _||_}
+use mathlib.Core.Bool.{Bool, cond, _&&_, _||_}
 use mathlib.Core.List.{List}
 use Prim.Native.Nat.{ℕ, suc, _-_, min}
 use lib.Dec.{leb, ltb}
 use lib.ListN.{getD}
-use Rattle.sums.specs.Sum.{sum, on}
+use Rattle.sums.specs.Sum.{sum}
 use Rattle.plan.specs.Edition.{mostIntervals}
-use Rattle.plan.specs.Rules.{release, size, deadline, isHi}
+use Rattle.plan.specs.Rules.{release, size, deadline}
 use Rattle.plan.specs.Boundaries.{present}
 use Rattle.plan.specs.Table.{allotment}
 use Rattle.plan.specs.declared.kinds.Plan.{Plan}
@@ -34,8 +34,7 @@ belowAfter p run v = run .below || ltb v (p .d .0)
 
 -- What a job may have in all by this slot: its size under the slow mark; while it is clear, no more than is allotted so far.
 abbrev pub goal : Plan → List ℕ → ℕ → Bool → ℕ → ℕ
-goal p table t true i = size p i
-goal p table t false i = min (size p i) (allottedBy p table t i)
+goal p table t slow i = cond slow (size p i) (min (size p i) (allottedBy p table t i))
 
 -- What job i is due: its goal less what is carried.
 abbrev pub due : Plan → List ℕ → Run → Bool → ℕ → ℕ

@@ -2,3 +2,4 @@ pub mod Dues
 pub mod Turns
 pub mod Shares
 pub mod Step
+pub mod Answers

@@ -2,9 +2,11 @@
 -- grants that the jobs get turn by turn.)
 use mathlib.Core.Bool.{Bool, true, false, not, cond, _&&_, _||_}
 use mathlib.Core.List.{List}
-use Prim.Native.Nat.{ℕ, _-_, min}
+use Prim.Native.Nat.{ℕ, zero, suc, _+_, _*_, _-_, min}
 use lib.Dec.{ltb, eqb}
+use lib.ListN.{getD, set}
 use Rattle.sums.specs.Sum.{sum, on}
+use Rattle.plan.specs.Edition.{mostJobs, mostDeadline}
 use Rattle.plan.specs.Rules.{counted, deadline, isHi}
 use Rattle.plan.specs.declared.kinds.Plan.{Plan}
 use Rattle.dispatch.specs.declared.Run.{Run}
@@ -31,3 +33,24 @@ unfoldable pub share : Plan → List ℕ → Run → ℕ → ℕ → ℕ
 share p table run v i =
     let claims = claim p table run (slowAfter p run v) in
     min (claims i) (v - sum (λ k. on (before p k i) (claims k)) (counted p))
+
+-- A claim as the code holds it: no job can take more than the speed. (proofs/Fills: this changes no share.)
+abbrev pub capped : Plan → List ℕ → Run → Bool → ℕ → ℕ → ℕ
+capped p table run slow v i = min (claim p table run slow i) v
+
+-- The order of service as a number: HI below every LO, then by deadline, then by position. (proofs/Fills: the lesser turn is served before.)
+abbrev pub turnAt : Bool → ℕ → ℕ → ℕ
+turnAt isHi deadline i = (on (not isHi) (mostDeadline + 1) + deadline) * mostJobs + i
+
+abbrev pub turn : Plan → ℕ → ℕ
+turn p i = turnAt (isHi p i) (deadline p i) i
+
+-- The share of job i as the code finds it, from a row of turns and a row of capped claims.
+abbrev pub rowShare : List ℕ → List ℕ → ℕ → ℕ → ℕ → ℕ
+rowShare turns claims jobs v i =
+    min (getD claims i 0) (v - sum (λ k. on (ltb (getD turns k 0) (getD turns i 0)) (getD claims k 0)) jobs)
+
+-- A list whose first n places hold f; the rest stays.
+unfoldable pub filled : (ℕ → ℕ) → ℕ → List ℕ → List ℕ
+filled f zero l = l
+filled f (suc n) l = set (filled f n l) n (f n)

@@ -1,4 +1,13 @@
 // One slot, one run: the run record, its start, a slot's grants, and how each transfer ended.
+pub mod answers;
+mod choice;
+mod claims;
+pub mod outcome;
+mod slot;
+pub mod soundness;
+pub mod step;
+mod turns;
+
 use plan::edition::Edition;
 use plan::kinds::Slots;
 

@@ -1,0 +1,90 @@
+-- `dispatch::outcome::outcome` meets its contract: each test in its turn.
+use mathlib.Core.Path.{_≡_, refl, sym, _∙_}
+use Prim.Native.Nat.{_≤_}
+use mathlib.Core.Bool.{true, false}
+use native.Mathlib.Omega.{arith}
+use borrow.Author.Tests.{not-true, not-false, lt-ltb, le-ltb, eq-eqb, ne-eqb, le-leb, lt-leb}
+use borrow.Author.Needs.{needs}
+use Rattle.plan.specs.Edition.{mostJobs}
+use Rattle.dispatch.specs.Step
+use Rattle.dispatch.specs.Step.{slotSound}
+use Rattle.dispatch.proofs.Sound.{sound-parts}
+use Rattle.dispatch.proofs.outcome.outcome.Statement.{statement}
+use Rattle.dispatch.proofs.outcome.outcome.Tie as tie
+
+-- Past the first test the plan and the run are sound, so the jobs are few.
+sound : (c : tie.Else1) → slotSound (c .before .before .args .t1) (c .before .before .args .t2) ≡ true
+sound c = sym (c .before .slot-sound .ensures) ∙ not-false (c .before .slot-sound .result) (c .if1 .left)
+
+few : (c : tie.Else1) → c .before .before .args .t1 .count ≤ mostJobs
+few c = sound-parts (c .before .before .args .t1) (c .before .before .args .t2) (sound c) .few
+
+slot-sound-requires : tie.Need-slot-sound-requires
+slot-sound-requires c κs = search needs
+
+returns : tie.Need-returns
+unfolding Step.outcome
+returns c =
+    rw (sym (c .before .slot-sound .ensures) ∙ not-true (c .before .slot-sound .result) (c .if1 .taken)) refl
+
+returns-2 : tie.Need-returns-2
+unfolding Step.outcome
+returns-2 c =
+    let a = c .before .before .before .args in
+    rw (sound (c .before), le-ltb (a .position) (a .t1 .count) (c .if2 .taken)) refl
+
+mul-job : tie.Need-mul-job
+mul-job c = omega (arith, few (c .before))
+
+element-copy-out-job : tie.Need-element-copy-out-job
+element-copy-out-job c = omega (arith, few (c .before))
+
+mul-t15 : tie.Need-mul-t15
+mul-t15 c = omega (arith, few (c .before .before .before .before .before))
+
+element-copy-out-t21 : tie.Need-element-copy-out-t21
+element-copy-out-t21 c = omega (arith, few (c .before .before .before .before .before))
+
+cast-t22 : tie.Need-cast-t22
+cast-t22 c = search needs
+
+returns-3 : tie.Need-returns-3
+unfolding Step.outcome
+returns-3 c =
+    let a = c .before .before .before .before .before .before .before .before .before .before .before .args in
+    rw (sound (c .before .before .before .before .before .before .before .before .before), lt-ltb (a .position) (a .t1 .count) (c .before .before .before .before .before .before .before .before .if2 .left), eq-eqb _ _ (c .if3 .taken)) refl
+
+returns-4 : tie.Need-returns-4
+unfolding Step.outcome
+returns-4 c =
+    let a = c .before .before .before .before .before .before .before .before .before .before .before .before .before .args in
+    rw (sound (c .before .before .before .before .before .before .before .before .before .before .before), lt-ltb (a .position) (a .t1 .count) (c .before .before .before .before .before .before .before .before .before .before .if2 .left), ne-eqb _ _ (c .before .before .if3 .left), c .if4 .taken) refl
+
+returns-5 : tie.Need-returns-5
+unfolding Step.outcome
+returns-5 c =
+    let a = c .before .before .before .before .before .before .before .before .before .before .before .before .before .before .before .before .args in
+    rw (sound (c .before .before .before .before .before .before .before .before .before .before .before .before .before .before), lt-ltb (a .position) (a .t1 .count) (c .before .before .before .before .before .before .before .before .before .before .before .before .before .if2 .left), ne-eqb _ _ (c .before .before .before .before .before .if3 .left), c .before .before .before .if4 .left, le-leb _ _ (c .if5 .taken)) refl
+
+returns-6 : tie.Need-returns-6
+unfolding Step.outcome
+returns-6 c =
+    let a = c .before .before .before .before .before .before .before .before .before .before .before .before .before .before .before .before .args in
+    rw (sound (c .before .before .before .before .before .before .before .before .before .before .before .before .before .before), lt-ltb (a .position) (a .t1 .count) (c .before .before .before .before .before .before .before .before .before .before .before .before .before .if2 .left), ne-eqb _ _ (c .before .before .before .before .before .if3 .left), c .before .before .before .if4 .left, lt-leb _ _ (c .if5 .left)) refl
+
+pub outcome-spec : {M : Type 1} → statement M
+outcome-spec =
+    tie.close
+    (tie.spec
+    slot-sound-requires
+    returns
+    returns-2
+    mul-job
+    element-copy-out-job
+    mul-t15
+    element-copy-out-t21
+    cast-t22
+    returns-3
+    returns-4
+    returns-5
+    returns-6)

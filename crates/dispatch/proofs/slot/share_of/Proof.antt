@@ -1,0 +1,98 @@
+-- `dispatch::slot::share_of` meets its contract: after k jobs, the claims of those of the first k whose turn comes before.
+use mathlib.Core.Path.{_≡_, sym, _∙_, ap, ap₂}
+use Prim.Native.Nat.{ℕ, _+_, _*_, _-_, _≤_, min}
+use native.Mathlib.Omega.{arith}
+use borrow.Author.Needs.{needs}
+use lib.Dec.{ltb}
+use lib.ListN.{getD}
+use Rattle.sums.specs.Sum.{sum, on}
+use Rattle.sums.proofs.Laws.{sum-start, sum-step}
+use Rattle.dispatch.proofs.slot.share_of.Statement.{statement}
+use Rattle.dispatch.proofs.slot.share_of.Tie as tie
+
+abbrev Inv-loop : tie.InvT-loop
+Inv-loop turns claims jobs v i turn earlier₀ k₀ earlier k =
+    (k ≤ jobs) × (earlier ≡ sum (λ m. on (ltb (getD turns m 0) (getD turns i 0)) (getD claims m 0)) k) × (earlier ≤ 65535 * k)
+
+abbrev μ-loop : tie.MeasureT-loop
+μ-loop turns claims jobs v i turn earlier₀ k₀ earlier k = jobs - k
+
+mul-turn : tie.Need-mul-turn Inv-loop μ-loop
+mul-turn c = search needs
+
+element-copy-out-turn : tie.Need-element-copy-out-turn Inv-loop μ-loop
+element-copy-out-turn c = search needs
+
+loop-holds : tie.Need-loop-holds Inv-loop μ-loop
+loop-holds c = (omega arith, sym (sum-start _), omega arith)
+
+mul-pick : tie.Need-mul-pick Inv-loop μ-loop
+mul-pick c = search needs
+
+element-copy-out-pick : tie.Need-element-copy-out-pick Inv-loop μ-loop
+element-copy-out-pick c = search needs
+
+mul-pick-2 : tie.Need-mul-pick-2 Inv-loop μ-loop
+mul-pick-2 c = search needs
+
+element-copy-out-pick-2 : tie.Need-element-copy-out-pick-2 Inv-loop μ-loop
+element-copy-out-pick-2 c = search needs
+
+pick-requires : tie.Need-pick-requires Inv-loop μ-loop
+pick-requires c κs = search needs
+
+add-earlier : tie.Need-add-earlier Inv-loop μ-loop
+add-earlier c = omega (arith, c .before .before .before .before .before .before .pre .2 (c .before .before .before .before .loop .k) (omega arith))
+
+add-k : tie.Need-add-k Inv-loop μ-loop
+add-k c = search needs
+
+loop-less : tie.Need-loop-less Inv-loop μ-loop
+loop-less c = search needs
+
+loop-again : tie.Need-loop-again Inv-loop μ-loop
+loop-again c =
+    let a = c .before .before .before .before .before .before .args in
+    let here = c .before .before .before .before .loop in (
+      omega arith,
+      ap₂ _+_ (here .inv .1) (c .pick .ensures .0) ∙ sym (sum-step (λ m. on (ltb (getD (a .turns .now) m 0) (getD (a .turns .now) (a .i) 0)) (getD (a .claims .now) m 0)) (here .k)),
+      omega (arith, c .before .before .before .before .before .before .pre .2 (here .k) (omega arith)),
+    )
+
+mul-rest-of : tie.Need-mul-rest-of Inv-loop μ-loop
+mul-rest-of c = search needs
+
+element-copy-out-rest-of : tie.Need-element-copy-out-rest-of Inv-loop μ-loop
+element-copy-out-rest-of c = search needs
+
+rest-of-requires : tie.Need-rest-of-requires Inv-loop μ-loop
+rest-of-requires c κs = search needs
+
+returns : tie.Need-returns Inv-loop μ-loop
+returns c =
+    let a = c .before .before .before .before .before .args in
+    let whole : c .before .before .before .loop .k ≡ a .jobs = omega arith in
+    c .rest-of .ensures ∙ ap (λ s. min (getD (a .claims .now) (a .i) 0) (a .v - s)) (c .before .before .before .loop .inv .1 ∙ ap (sum (λ m. on (ltb (getD (a .turns .now) m 0) (getD (a .turns .now) (a .i) 0)) (getD (a .claims .now) m 0))) whole)
+
+pub share-of-spec : {M : Type 1} → statement M
+share-of-spec =
+    tie.close
+    (tie.spec
+    Inv-loop
+    μ-loop
+    mul-turn
+    element-copy-out-turn
+    loop-holds
+    mul-pick
+    element-copy-out-pick
+    mul-pick-2
+    element-copy-out-pick-2
+    pick-requires
+    add-earlier
+    add-k
+    loop-less
+    loop-again
+    mul-rest-of
+    element-copy-out-rest-of
+    rest-of-requires
+    returns)

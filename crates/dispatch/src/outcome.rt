@@ -1,0 +1,38 @@
+// How a transfer ended.
+use crate::Run;
+use crate::answers::Outcome;
+use crate::soundness::slot_sound;
+use plan::kinds::HI;
+use plan::kinds::Plan;
+use plan::kinds::Units;
+use plan::refusal::UNSOUND;
+ghost use mathlib.Core.Path.{_≡_};
+ghost use Rattle.dispatch.specs.Step;
+ghost use Rattle.dispatch.specs.Answers.{ending};
+
+// The outcome of the job at a position.
+pub fn outcome(p: Plan, run: Run, position: usize) -> Outcome
+    ensures { λ r. ⌜ ending r ≡ Step.outcome p run position ⌝ }
+{
+    if !slot_sound(p, run) {
+        return Outcome::Refused(UNSOUND);
+    }
+    if p.count <= position {
+        return Outcome::Refused(UNSOUND);
+    }
+    let job = p.jobs[position];
+    let size = job.size;
+    let deadline = job.deadline;
+    let clock = run.clock;
+    let carried = Units(run.carried[position] as u64);
+    if carried.0 == size.0 {
+        return Outcome::Met;
+    }
+    if (job.grade != HI) & run.slow {
+        return Outcome::Discarded;
+    }
+    if deadline.0 <= clock.0 {
+        return Outcome::Missed;
+    }
+    Outcome::Open
+}
