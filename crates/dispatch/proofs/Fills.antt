@@ -204,13 +204,18 @@ module _ (p : Plan) (table : List ℕ) (run : Run) (v : ℕ) where
         is-filled (share p table run v) jobs grants (granted p table run v grants) (granted-length room)
         (λ k inside below. granted-is-share p table run v grants k below) granted-rest
 
-    -- What the code stores: the grant row, and what is carried with it.
-    module _ (bounds : boundsHold p ≡ true) (room : jobs ≤ length grants) where
-      pub stored-grants : filled (rowShare turnRow cappedRow jobs v) jobs grants ≡ granted p table run v grants
-      stored-grants = filled-ext _ (share p table run v) jobs grants (share-from-rows bounds) ∙ shares-are-granted room
+    -- What the code stores from its rows: the grant row, and what is carried with it.
+    module _ (bounds : boundsHold p ≡ true) (room : jobs ≤ length grants) {turns rows : List ℕ} {n : ℕ} (by-turns : turns ≡ turnRow)
+        (by-rows : rows ≡ cappedRow) (by-count : n ≡ jobs) where
+      pub stored-grants : {stored : List ℕ} → stored ≡ filled (rowShare turns rows n v) n grants → stored ≡ granted p table run v grants
+      stored-grants is =
+          is ∙ rw (by-turns, by-rows, by-count)
+          (filled-ext (rowShare turnRow cappedRow jobs v) (share p table run v) jobs grants (share-from-rows bounds) ∙ shares-are-granted room)
 
-      pub stored-carried : filled (λ k. carriedOf run k + rowShare turnRow cappedRow jobs v k) jobs (run .carried)
-          ≡ added jobs (run .carried) (granted p table run v grants)
-      stored-carried =
-          filled-is-added _ jobs (run .carried) (granted p table run v grants) (rw (granted-length room) room)
-          (λ k l. ap (λ g. carriedOf run k + g) (share-from-rows bounds k l ∙ sym (granted-is-share p table run v grants k l)))
+      pub stored-carried : {stored : List ℕ} → stored ≡ filled (λ k. carriedOf run k + rowShare turns rows n v k) n (run .carried)
+          → stored ≡ added jobs (run .carried) (granted p table run v grants)
+      stored-carried is =
+          is ∙ rw (by-turns, by-rows, by-count)
+          (filled-is-added (λ k. carriedOf run k + rowShare turnRow cappedRow jobs v k) jobs (run .carried) (granted p table run v grants)
+          (rw (granted-length room) room)
+          (λ k l. ap (λ g. carriedOf run k + g) (share-from-rows bounds k l ∙ sym (granted-is-share p table run v grants k l))))

@@ -5,6 +5,7 @@ mod claims;
 pub mod outcome;
 mod slot;
 pub mod soundness;
+pub mod start;
 pub mod step;
 mod turns;
 

@@ -1,6 +1,6 @@
 -- `dispatch::claims::claims_of` meets its contract: after i jobs the first i places are filled.
-use mathlib.Core.Path.{_≡_, sym, _∙_, ap, ap₂}
-use mathlib.Core.Bool.{cond}
+use mathlib.Core.Path.{_≡_, refl, sym, _∙_, ap}
+use mathlib.Core.Bool.{Bool, cond}
 use mathlib.Core.List.{List}
 use Prim.Native.Nat.{ℕ, suc, _+_, _*_, _-_, _≤_, min}
 use native.Mathlib.Omega.{arith}
@@ -18,7 +18,9 @@ use Rattle.plan.specs.declared.kinds.Plan.{Plan}
 use Rattle.plan.specs.declared.kinds.Units.{Units}
 use Rattle.plan.proofs.Rising.{boundaries-few}
 use Rattle.plan.proofs.Come.{come-few}
-use Rattle.dispatch.specs.Shares.{capped, filled}
+use Rattle.dispatch.specs.declared.Run.{Run}
+use Rattle.dispatch.specs.Dues.{carriedOf}
+use Rattle.dispatch.specs.Shares.{served, capped, filled}
 use Rattle.dispatch.proofs.Fills.{filled-start, filled-next, filled-length}
 use Rattle.dispatch.proofs.claims.claims_of.Statement.{statement}
 use Rattle.dispatch.proofs.claims.claims_of.Tie as tie
@@ -30,6 +32,18 @@ allotted table i spans =
     rw (add-one spans)
     (sum-ext (strided table (mostIntervals * i) 1) (allotment mostIntervals table i) (suc spans)
     (λ k l. ap (λ x. getD table (mostIntervals * i + x) 0) (one-mul k)))
+
+-- The claim that a turn of the loop finds, from what each call in it gives.
+one-claim : (p : Plan) (table : List ℕ) (run : Run) (slow : Bool) (v i : ℕ) {claim total spans : ℕ} {b : Bool} {goal carried : Units}
+    → claim ≡ min (on b (goal .0 - carried .0)) v
+    → b ≡ served p (run .clock .0) slow i
+    → goal ≡ record { 0 = cond slow (size p i) (min (size p i) total) }
+    → carried ≡ record { 0 = carriedOf run i }
+    → total ≡ sum (strided table (mostIntervals * i) 1) (spans + 1)
+    → spans ≡ present p (run .clock .0)
+    → claim ≡ capped p table run slow v i
+one-claim p table run slow v i is by-test by-goal by-units by-sum by-present =
+    is ∙ rw (by-test, by-goal, by-units, by-sum, by-present, allotted table i (present p (run .clock .0))) refl
 
 -- There are few intervals.
 few : (p : Plan) (t : ℕ) → present p t ≤ 2 * mostJobs
@@ -106,15 +120,11 @@ loop-less c = search needs
 loop-again : tie.Need-loop-again Inv-loop μ-loop
 loop-again c =
     let a = c .before .before .before .before .before .before .before .before .before .before .before .before .before .args in
-    let i = c .before .before .before .before .before .before .before .before .loop .i in
-    let units = size (a .t1) i in
-    let row : c .before .before .before .before .before .sum-of .result ≡ sum (allotment mostIntervals (a .table .now) i) (suc (present (a .t1) (a .t3 .clock .0)))
-    = c .before .before .before .before .before .sum-of .ensures ∙ ap (λ n. sum (strided (a .table .now) (mostIntervals * i) 1) (n + 1)) (c .before .before .before .before .before .before .before .before .before .present-of .ensures)
-    ∙ allotted (a .table .now) i (present (a .t1) (a .t3 .clock .0)) in
-    let goal = ap (λ (u : Units). u .0) (c .before .before .before .before .goal-of .ensures) ∙ ap (λ s. cond (a .slow) units (min units s)) row in (
+    let i = c .before .before .before .before .before .before .before .before .loop .i in (
       omega arith,
       filled-next (capped (a .t1) (a .table .now) (a .t3) (a .slow) (a .v)) i (replicate mostJobs 0) (c .before .before .before .before .before .before .before .before .loop .inv .1)
-          (c .claim-of .ensures ∙ ap₂ (λ b x. min (on b x) (a .v)) (c .before .is-served .ensures) (ap₂ _-_ goal (ap (λ (u : Units). u .0) (c .before .before .units .ensures)))),
+          (one-claim (a .t1) (a .table .now) (a .t3) (a .slow) (a .v) i
+          (c .claim-of .ensures) (c .before .is-served .ensures) (c .before .before .before .before .goal-of .ensures) (c .before .before .units .ensures) (c .before .before .before .before .before .sum-of .ensures) (c .before .before .before .before .before .before .before .before .before .present-of .ensures)),
     )
 
 returns : tie.Need-returns Inv-loop μ-loop

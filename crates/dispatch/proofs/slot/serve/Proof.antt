@@ -1,10 +1,9 @@
 -- `dispatch::slot::serve` meets its contract: the rows that it makes give the shares.
-use mathlib.Core.Path.{_≡_, sym, _∙_, ap}
+use mathlib.Core.Path.{_≡_}
 use native.Mathlib.Omega.{arith}
 use borrow.Author.Needs.{needs}
 use Prim.Native.Nat.{_+_}
-use Rattle.dispatch.specs.Dues.{carriedOf, slowAfter, belowAfter}
-use Rattle.dispatch.specs.Shares.{rowShare, filled}
+use Rattle.dispatch.specs.Dues.{slowAfter, belowAfter}
 use Rattle.dispatch.specs.Step.{advanced}
 use Rattle.dispatch.proofs.Sound.{sound-parts, size-small, last-small}
 use Rattle.dispatch.proofs.Fills.{capped-small, stored-grants, stored-carried}
@@ -45,19 +44,18 @@ unfolding advanced
 returns c =
     let a = c .before .before .before .before .before .before .before .before .before .before .before .before .before .before .before .before .before .before .before .before .args in
     let parts = sound-parts (a .p) (a .run) (c .before .before .before .before .before .before .before .before .before .before .before .before .before .before .before .before .before .before .before .before .pre .0) in
-    let carried = c .before .before .before .grant-all .ensures .0
-    ∙ (λ t. filled (λ k. carriedOf (a .run) k + rowShare (c .before .before .before .before .before .before .before .before .before .before .turns-of .ensures t) (c .before .before .before .before .before .before .before .before .before .claims-of .ensures t) (c .before .before .before .before .before .counted-of .ensures t) (a .v) k) (c .before .before .before .before .before .counted-of .ensures t) (a .run .carried))
-    ∙ stored-carried (a .p) (a .table .now) (a .run) (a .v) (a .grants .now) (parts .bounds) (c .before .before .before .before .before .before .before .before .before .before .before .before .before .before .before .before .before .before .before .before .pre .1) in
-    let grants = c .before .before .before .grant-all .ensures .1
-    ∙ (λ t. filled (rowShare (c .before .before .before .before .before .before .before .before .before .before .turns-of .ensures t) (c .before .before .before .before .before .before .before .before .before .claims-of .ensures t) (c .before .before .before .before .before .counted-of .ensures t) (a .v)) (c .before .before .before .before .before .counted-of .ensures t) (a .grants .now))
-    ∙ stored-grants (a .p) (a .table .now) (a .run) (a .v) (a .grants .now) (parts .bounds) (c .before .before .before .before .before .before .before .before .before .before .before .before .before .before .before .before .before .before .before .before .pre .1) in (
+    let turns = c .before .before .before .before .before .before .before .before .before .before .turns-of .ensures in
+    let claims = c .before .before .before .before .before .before .before .before .before .claims-of .ensures in
+    let count = c .before .before .before .before .before .counted-of .ensures in
+    let stored = c .before .before .before .grant-all .ensures in
+    let carried = stored-carried (a .p) (a .table .now) (a .run) (a .v) (a .grants .now) (parts .bounds) (c .before .before .before .before .before .before .before .before .before .before .before .before .before .before .before .before .before .before .before .before .pre .1) turns claims count (stored .0) in (
       λ t. record {
         clock = record { 0 = a .run .clock .0 + 1 };
         slow = slowAfter (a .p) (a .run) (a .v);
         below = belowAfter (a .p) (a .run) (a .v);
         carried = carried t;
       },
-      grants,
+      stored-grants (a .p) (a .table .now) (a .run) (a .v) (a .grants .now) (parts .bounds) (c .before .before .before .before .before .before .before .before .before .before .before .before .before .before .before .before .before .before .before .before .pre .1) turns claims count (stored .1),
     )
 
 pub serve-spec : {M : Type 1} → statement M

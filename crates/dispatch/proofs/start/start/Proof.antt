@@ -1,0 +1,67 @@
+-- `dispatch::start::start` meets its contract: the verdict tells whether there is a run.
+use mathlib.Core.Path.{_≡_, refl, sym, _∙_, ap}
+use mathlib.Core.Bool.{false, true≢false}
+use mathlib.Core.List.{[], _∷_}
+use borrow.Author.Tests.{not-true}
+use borrow.Author.Needs.{needs}
+use lib.ListN.{replicate}
+use Rattle.plan.specs.Edition.{mostJobs}
+use Rattle.plan.specs.declared.kinds.Slots.{Slots}
+use Rattle.judge.specs.Verdict.{Report, isNone, judged}
+use Rattle.judge.specs.Answers.{report}
+use Rattle.judge.proofs.First.{passes}
+use Rattle.dispatch.specs.declared.Run.{Run}
+use Rattle.dispatch.specs.Step.{started, noRun, startFrom}
+use Rattle.dispatch.proofs.start.start.Statement.{statement}
+use Rattle.dispatch.proofs.start.start.Tie as tie
+
+-- After a refusal the record is what was there.
+stays : (r : Report) (run was : Run) → isNone r ≡ false → startFrom r run was ≡ was
+stays [] run was e = absurd (true≢false e)
+stays (number ∷ places) run was e = refl
+
+-- A run at a clock with nothing carried and both marks clear.
+abbrev fresh : Slots → Run
+fresh clock = record { clock = clock; slow = false; below = false; carried = replicate mostJobs 0 }
+
+judge-requires : tie.Need-judge-requires
+judge-requires c κs = search needs
+
+is-accepted-requires : tie.Need-is-accepted-requires
+is-accepted-requires c κs = search needs
+
+fresh-requires : tie.Need-fresh-requires
+fresh-requires c κs = search needs
+
+returns : tie.Need-returns
+returns c =
+    let a = c .before .before .before .before .before .args in
+    let refused = ap isNone (sym (c .before .before .before .judge .ensures)) ∙ sym (c .before .before .is-accepted .ensures) ∙ not-true (c .before .before .is-accepted .result) (c .before .if1 .taken) in
+    (c .before .before .before .judge .ensures, c .fresh .ensures ∙ sym (stays (judged (a .p) (a .table .now)) (started (a .p)) noRun refused))
+
+first-release-requires : tie.Need-first-release-requires
+first-release-requires c κs = search needs
+
+fresh-requires-2 : tie.Need-fresh-requires-2
+fresh-requires-2 c κs = search needs
+
+returns-2 : tie.Need-returns-2
+unfolding started
+returns-2 c =
+    let a = c .before .before .before .before .before .before .args in
+    let none = passes (report (c .before .before .before .before .judge .result)) (judged (a .p) (a .table .now)) (c .before .before .before .is-accepted .result) (c .before .before .before .before .judge .ensures) (c .before .before .before .is-accepted .ensures) (c .before .before .if1 .left) in (
+      c .before .before .before .before .judge .ensures,
+      c .fresh2 .ensures ∙ ap fresh (c .before .first-release .ensures) ∙ ap (λ r. startFrom r (started (a .p)) noRun) (sym none),
+    )
+
+pub start-spec : {M : Type 1} → statement M
+start-spec =
+    tie.close
+    (tie.spec
+    judge-requires
+    is-accepted-requires
+    fresh-requires
+    returns
+    first-release-requires
+    fresh-requires-2
+    returns-2)

@@ -1,0 +1,48 @@
+// The start of a run, by value: the judge's verdict beside the run.
+use crate::Run;
+use judge::answers::Verdict;
+use judge::answers::is_accepted;
+use judge::judge;
+use plan::boundaries::first_release;
+use plan::edition::Edition;
+use plan::kinds::Plan;
+use plan::kinds::Slots;
+ghost use mathlib.Core.Path.{_≡_};
+ghost use mathlib.Core.Bool.{false};
+ghost use lib.ListN.{replicate};
+ghost use Rattle.plan.specs.Edition.{mostJobs};
+ghost use Rattle.judge.specs.Verdict.{judged};
+ghost use Rattle.judge.specs.Answers.{report};
+ghost use Rattle.dispatch.specs.Step.{started, noRun, startFrom};
+
+// What a start hands back; beside a refusal stands no run, which is all zeros.
+pub struct Started {
+    pub verdict: Verdict,
+    pub run: Run,
+}
+
+// A run at a clock with nothing carried and both marks clear.
+fn fresh(clock: Slots) -> Run
+    ensures { λ r. ⌜ r ≡ record { clock = clock; slow = false; below = false; carried = replicate mostJobs 0 } ⌝ }
+{
+    let carried = [0u32; Edition::MOST_JOBS];
+    Run {
+        clock,
+        slow: false,
+        below: false,
+        carried,
+    }
+}
+
+// Judges a plan, and starts its run if it is accepted.
+pub fn start(p: Plan, table: &[u32]) -> Started
+    ensures { λ r. ⌜ (report (r .verdict) ≡ judged p (now (table .entry))) × (r .run ≡ startFrom (judged p (now (table .entry))) (started p) noRun) ⌝ }
+{
+    let verdict = judge(p, table);
+    if !is_accepted(verdict) {
+        let none = fresh(Slots(0));
+        return Started { verdict, run: none };
+    }
+    let run = fresh(first_release(p));
+    Started { verdict, run }
+}
