@@ -72,10 +72,10 @@ seen c =
     record { verdict = judged p table; slack = slackFigure p table; slots = night p table (started p) (c .speeds) }
 
 -- Names: those of plan E, which differ in one letter's case only, and others for the cases that name no jobs.
-abbrev capitalMirror : ℕ
+abbrev pub capitalMirror : ℕ
 capitalMirror = 0x4D69_7272_6F72_2D41
 
-abbrev smallMirror : ℕ
+abbrev pub smallMirror : ℕ
 smallMirror = 0x6D69_7272_6F72_2D41
 
 abbrev jobA : ℕ
@@ -120,39 +120,39 @@ slotsOfE speeds slots =
       must = record { verdict = []; slack = least (pos 1) 1 10; slots = slots };
     }
 
-abbrev P1 : Case
+abbrev pub P1 : Case
 P1 = judging jobsOfE rowsOfE [] (least (pos 1) 1 10)
 
-abbrev P2 : Case
+abbrev pub P2 : Case
 P2 = judging jobsOfE (withSecondRow (0 ∷ 3 ∷ 5 ∷ [])) [] (least (pos 0) 2 10)
 
-abbrev P3 : Case
+abbrev pub P3 : Case
 P3 = judging jobsOfE (withSecondRow (0 ∷ 2 ∷ 6 ∷ [])) (belowFloorRule ∷ 2 ∷ 10 ∷ []) (least (negsuc 0) 2 10)
 
-abbrev P4 : Case
+abbrev pub P4 : Case
 P4 = judging jobsOfE (withSecondRow (0 ∷ 4 ∷ 3 ∷ [])) (wrongTotal ∷ 1 ∷ []) (refused (wrongTotal ∷ 1 ∷ []))
 
 -- Their example 2, doubled.
-abbrev P5 : Case
+abbrev pub P5 : Case
 P5 =
     judging (job jobA hi 0 8 10 ∷ job jobB hi 0 4 16 ∷ job jobC lo 0 6 4 ∷ job jobD lo 0 10 12 ∷ [])
     ((2 ∷ 6 ∷ 0 ∷ 0 ∷ []) ∷ (0 ∷ 0 ∷ 0 ∷ 4 ∷ []) ∷ (6 ∷ 0 ∷ 0 ∷ 0 ∷ []) ∷ (0 ∷ 6 ∷ 4 ∷ 0 ∷ []) ∷ [])
     []
     (least (pos 0) 1 10)
 
-abbrev P6 : Case
+abbrev pub P6 : Case
 P6 =
     judging jobsOfP6 ((4 ∷ 0 ∷ []) ∷ (0 ∷ 2 ∷ []) ∷ (0 ∷ 2 ∷ []) ∷ []) (belowFloorRule ∷ 1 ∷ 4 ∷ []) (least (negsuc 1) 1 4)
 
-abbrev P7 : Case
+abbrev pub P7 : Case
 P7 = judging jobsOfP6 ((4 ∷ 0 ∷ []) ∷ (2 ∷ 0 ∷ []) ∷ (0 ∷ 2 ∷ []) ∷ []) (overCapacity ∷ 0 ∷ []) (refused (overCapacity ∷ 0 ∷ []))
 
-abbrev P8 : Case
+abbrev pub P8 : Case
 P8 =
     judging jobsOfE ((2 ∷ 3 ∷ 1 ∷ []) ∷ (0 ∷ 4 ∷ 4 ∷ []) ∷ []) (outsideWindow ∷ 0 ∷ 2 ∷ []) (refused (outsideWindow ∷ 0 ∷ 2 ∷ []))
 
 -- Position 0 is B, position 1 is A: at speeds 2 and 1, A gets 2, and then B gets 1.
-abbrev P9 : Case
+abbrev pub P9 : Case
 P9 =
     record {
       jobs = job jobB hi 0 2 4 ∷ job jobA hi 0 2 2 ∷ [];
@@ -161,13 +161,13 @@ P9 =
       must = record { verdict = []; slack = least (pos 0) 0 2; slots = (0 ∷ 0 ∷ 2 ∷ []) ∷ (1 ∷ 1 ∷ 0 ∷ []) ∷ [] };
     }
 
-abbrev P10 : Case
+abbrev pub P10 : Case
 P10 = slotsOfE (2 ∷ 2 ∷ []) ((0 ∷ 2 ∷ 0 ∷ []) ∷ (0 ∷ 0 ∷ 2 ∷ []) ∷ [])
 
-abbrev P11 : Case
+abbrev pub P11 : Case
 P11 = slotsOfE (1 ∷ []) ((1 ∷ 0 ∷ 0 ∷ []) ∷ [])
 
-abbrev P12 : Case
+abbrev pub P12 : Case
 P12 = slotsOfE (3 ∷ []) ((speedAboveNormal ∷ 0 ∷ 0 ∷ 0 ∷ []) ∷ [])
 
 abbrev pub cases : List Case
