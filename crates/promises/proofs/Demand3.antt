@@ -220,7 +220,7 @@ module _ (p : Plan) (table : List ℕ) (rules : Ruled p) (accepted : Accepted p 
           go [] e = holds-done c earlier h f is e
           go (number ∷ rest) e = holds-refused c earlier (ap (λ s. isDone (s .answer)) (is ∙ ap (λ r. slotBy r p table (runAfter p earlier) (c .speed) (c .row)) e)) h
 
-  kept : (night : List Call) → Allowed p table night → Kept p night
+  pub kept : (night : List Call) → Allowed p table night → Kept p night
   kept night a =
       let h = holds night a in
       let run = runAfter p night in

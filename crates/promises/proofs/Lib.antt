@@ -4,3 +4,4 @@ pub mod Sound
 pub mod Same
 pub mod Slots
 pub mod Demand3
+pub mod Strategy

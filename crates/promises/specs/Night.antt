@@ -5,7 +5,7 @@ use mathlib.Core.Bool.{Bool, true, false, not, _&&_, _||_}
 use mathlib.Core.List.{List, [], _∷_}
 use Prim.Native.Nat.{ℕ, _+_, _≤_, _<_}
 use lib.Dec.{ltb}
-use lib.ListN.{getD}
+use lib.ListN.{getD, replicate}
 use Rattle.sums.specs.Sum.{sum, on}
 use Rattle.plan.specs.Rules.{counted, size, deadline, isHi}
 use Rattle.plan.specs.Same.{Same}
@@ -99,3 +99,21 @@ pub record Kept (p : Plan) (night : List Call) : Type 0 where
   -- No transfer ever has more than its size, and no slot gives more than its speed.
   pub no-more : (i : ℕ) → i < counted p → had p night i ≤ size p i
   pub speeds : WithinSpeeds p night
+
+-- A night of one plan and table at some speeds, the latest first, with a grant row of zeros lent to each call.
+abbrev pub nightAt : Plan → List ℕ → List ℕ → List Call
+nightAt p table [] = []
+nightAt p table (v ∷ speeds) = record { plan = p; table = table; speed = v; row = replicate (p .count) 0 } ∷ nightAt p table speeds
+
+-- All speeds lie from one to another.
+abbrev pub Between : ℕ → ℕ → List ℕ → Type 0
+Between low high [] = Unit {0}
+Between low high (v ∷ speeds) = (low ≤ v) × (v ≤ high) × Between low high speeds
+
+-- A correct scheduling strategy for a plan, as Baruah and Guo define it (definition 1): at the normal rate throughout, every job has its
+-- size by its deadline; at the floor or above throughout, every HI job has.
+pub record CorrectStrategy (p : Plan) (table : List ℕ) : Type 0 where
+  pub normal : (speeds : List ℕ) → Between (p .n .0) (p .n .0) speeds → (i : ℕ) → i < counted p
+      → deadline p i ≤ runAfter p (nightAt p table speeds) .clock .0 → had p (nightAt p table speeds) i ≡ size p i
+  pub degraded : (speeds : List ℕ) → Between (p .d .0) (p .n .0) speeds → (i : ℕ) → i < counted p → isHi p i ≡ true
+      → deadline p i ≤ runAfter p (nightAt p table speeds) .clock .0 → had p (nightAt p table speeds) i ≡ size p i

@@ -30,13 +30,14 @@ Dues = Plan → List ℕ → Run → Bool → ℕ → ℕ
 -- A slot and a night as such a dispatcher has them.
 abbrev pub slotBy : Order → Dues → Plan → List ℕ → Run → ℕ → Run
 slotBy order dues p table run v =
-    record
-      { clock = record { 0 = run .clock .0 + 1 };
-        slow = slowAfter p run v;
-        below = belowAfter p run v;
-        carried =
+    record {
+      clock = record { 0 = run .clock .0 + 1 };
+      slow = slowAfter p run v;
+      below = belowAfter p run v;
+      carried =
           added (counted p) (run .carried)
-          (serve (dues p table run (slowAfter p run v)) v (order p (run .clock .0) (slowAfter p run v)) (replicate (counted p) 0)) }
+          (serve (dues p table run (slowAfter p run v)) v (order p (run .clock .0) (slowAfter p run v)) (replicate (counted p) 0));
+    }
 
 unfoldable pub nightBy : Order → Dues → Plan → List ℕ → Run → List ℕ → Run
 nightBy order dues p table run [] = run
@@ -80,11 +81,11 @@ judgedAtStart p table =
     (orElse (totalFault p table)
     (orElse (capacityFault p table)
     (first
-      (λ m.
-        fault
-        (ltb 0 m && isHiDeadline p (boundary p m) && ltb (floorCarries p 0 (boundary p m)) (demand p table 0 (boundary p m)))
-        (0 ∷ []))
-      (suc (intervals p)))))
+    (λ m.
+    fault
+    (ltb 0 m && isHiDeadline p (boundary p m) && ltb (floorCarries p 0 (boundary p m)) (demand p table 0 (boundary p m)))
+    (0 ∷ []))
+    (suc (intervals p)))))
 
 -- It passes P3, and the right dispatcher then loses mirror-A when the link drops at the start of interval 2.
 pub at-start-passes : judgedAtStart (planOf (P3 .jobs)) (tableOf (P3 .rows)) ≡ []
