@@ -28,7 +28,6 @@ onward (got a next) rest file = rest a file next
 onward (no number) rest file = no number
 
 infixl 10 _>>=_ _>>_
-
 abbrev pub _>>=_ : {A B : Type 0} → Reading A → (A → Reading B) → Reading B
 _>>=_ read rest file at = onward (read file at) rest file
 
@@ -89,12 +88,13 @@ oneJob earlier = do
   deadline ← field 4
   test (windowAllowed release deadline && sizeAllowed size) wrongJobBounds
   done
-    (record
-      { name = record { 0 = name };
+      (record {
+        name = record { 0 = name };
         grade = grade;
         release = record { 0 = release };
         size = record { 0 = size };
-        deadline = record { 0 = deadline } })
+        deadline = record { 0 = deadline };
+      })
 
 -- The names of some jobs.
 abbrev pub namesOf : List Job → List ℕ
@@ -150,11 +150,12 @@ pub record Held : Type 0 where
 -- The plan of a head and its jobs; records from the count on are zero.
 abbrev pub planOf : Head → List Job → Plan
 planOf h jobs =
-    record
-      { n = record { 0 = h .n };
-        d = record { 0 = h .d };
-        count = h .count;
-        jobs = jobs ++ replicate (mostJobs - length jobs) noJob }
+    record {
+      n = record { 0 = h .n };
+      d = record { 0 = h .d };
+      count = h .count;
+      jobs = jobs ++ replicate (mostJobs - length jobs) noJob;
+    }
 
 -- A plan file.
 unfoldable pub planFile : Reading Held
