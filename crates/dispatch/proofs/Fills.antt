@@ -19,7 +19,7 @@ use Rattle.plan.proofs.Rising.{by-order}
 use Rattle.dispatch.specs.declared.Run.{Run}
 use Rattle.dispatch.specs.Dues.{carriedOf, slowAfter}
 use Rattle.dispatch.specs.Turns.{line}
-use Rattle.dispatch.specs.Shares.{claim, ahead, before, share, capped, turnAt, turn, rowShare, filled}
+use Rattle.dispatch.specs.Shares.{claim, before, share, capped, turnAt, turn, rowShare, filled}
 use Rattle.dispatch.specs.Step.{granted, added}
 use Rattle.dispatch.proofs.Line.{if-less, stands, line-stands, serve-absent, serve-length}
 use Rattle.dispatch.proofs.Shares.{two-lines, granted-is-share}

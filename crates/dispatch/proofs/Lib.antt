@@ -2,3 +2,5 @@ pub mod Line
 pub mod Shares
 pub mod Sound
 pub mod Fills
+pub mod Told
+pub mod Never

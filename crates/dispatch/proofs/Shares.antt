@@ -5,7 +5,7 @@ use mathlib.Core.List.{List, _++_}
 use Prim.Native.Nat.{ℕ, _+_, _-_, _≤_, _<_, min}
 use native.Mathlib.Omega.{arith}
 use borrow.Author.Tests.{lt-ltb}
-use lib.Dec.{leb, ltb}
+use lib.Dec.{leb}
 use lib.ListN.{length, getD, drop, replicate, length-append, length-replicate, getD-replicate, List·getD-append}
 use Rattle.sums.specs.Sum.{sum, on}
 use Rattle.sums.proofs.Laws.{sum-ext, sum-add}
@@ -14,7 +14,7 @@ use Rattle.plan.specs.declared.kinds.Plan.{Plan}
 use Rattle.dispatch.specs.declared.Run.{Run}
 use Rattle.dispatch.specs.Dues.{live, slowAfter, due}
 use Rattle.dispatch.specs.Turns.{line, order, serve}
-use Rattle.dispatch.specs.Shares.{served, claim, ahead, before, share}
+use Rattle.dispatch.specs.Shares.{served, claim, ahead, share}
 use Rattle.dispatch.specs.Step.{granted}
 use Rattle.dispatch.proofs.Line.{over, front, stands, gets, if-true, line-in-order, line-stands, line-once, over-line, front-line, serve-absent, serve-gets, gets-share, serve-both, serve-length, first-get, all-get}
 

@@ -1,6 +1,6 @@
 -- One slot in closed form: what is left of the speed after the claims of all that are served before. (proofs/Shares: these are the
 -- grants that the jobs get turn by turn.)
-use mathlib.Core.Bool.{Bool, true, false, not, cond, _&&_, _||_}
+use mathlib.Core.Bool.{Bool, not, cond, _&&_, _||_}
 use mathlib.Core.List.{List}
 use Prim.Native.Nat.{ℕ, zero, suc, _+_, _*_, _-_, min}
 use lib.Dec.{ltb, eqb}

@@ -1,5 +1,4 @@
 -- `dispatch::slot::serve` meets its contract: the rows that it makes give the shares.
-use mathlib.Core.Path.{_≡_}
 use native.Mathlib.Omega.{arith}
 use borrow.Author.Needs.{needs}
 use Prim.Native.Nat.{_+_}

@@ -1,5 +1,5 @@
 -- `dispatch::soundness::slot_sound` meets its contract: each part's answer is that part of soundness.
-use mathlib.Core.Path.{_≡_, refl, ap}
+use mathlib.Core.Path.{refl}
 use borrow.Author.Needs.{needs}
 use Rattle.dispatch.specs.Step.{slotSound}
 use Rattle.dispatch.proofs.soundness.slot_sound.Statement.{statement}

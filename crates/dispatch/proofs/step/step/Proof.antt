@@ -2,7 +2,6 @@
 use mathlib.Core.Path.{_≡_, refl, sym, _∙_, ap}
 use mathlib.Core.Bool.{true, false, _||_}
 use mathlib.Core.List.{[]}
-use native.Mathlib.Omega.{arith}
 use borrow.Author.Tests.{not-true, not-false, lt-ltb, le-ltb, eq-eqb, ne-eqb, ltb-false}
 use borrow.Author.Needs.{needs}
 use lib.Dec.{ltb, eqb}
@@ -11,7 +10,7 @@ use Rattle.plan.specs.Edition.{places}
 use Rattle.plan.specs.Rules.{counted}
 use Rattle.plan.specs.Boundaries.{lastDeadline}
 use Rattle.plan.specs.declared.kinds.Slots.{Slots}
-use Rattle.dispatch.specs.Step.{Slot, slotSound, slotFault, stepped}
+use Rattle.dispatch.specs.Step.{slotSound, slotFault, stepped}
 use Rattle.dispatch.proofs.Line.{neither}
 use Rattle.dispatch.proofs.step.step.Statement.{statement}
 use Rattle.dispatch.proofs.step.step.Tie as tie

@@ -1,0 +1,114 @@
+-- What a slot's call never does, whatever the plan, the table, the run and the speed.
+use mathlib.Core.Path.{_≡_, refl, ap}
+use mathlib.Core.Bool.{Bool, true, false}
+use mathlib.Core.List.{List, [], _∷_}
+use Prim.Native.Nat.{ℕ, _≤_, _<_}
+use native.Mathlib.Omega.{arith}
+use lib.ListN.{getD}
+use Rattle.sums.specs.Sum.{sum, on}
+use Rattle.plan.specs.Rules.{counted}
+use Rattle.plan.specs.declared.kinds.Plan.{Plan}
+use Rattle.judge.specs.Verdict.{Report, judged}
+use Rattle.dispatch.specs.declared.Run.{Run}
+use Rattle.dispatch.specs.Dues.{live, slowAfter, due}
+use Rattle.dispatch.specs.Shares.{served, claim}
+use Rattle.dispatch.specs.Step.{startFrom, startIn, slotFault, granted, advanced, slotBy, stepped, started}
+use Rattle.dispatch.proofs.Shares.{within-claim, all-served}
+
+-- What is let through is no more than there is.
+on-less : (b : Bool) (x : ℕ) → on b x ≤ x
+on-less true x = omega arith
+on-less false x = omega arith
+
+module _ (p : Plan) (table : List ℕ) (run : Run) (v : ℕ) (grants : List ℕ) where
+  abbrev grant : ℕ → ℕ
+  grant i = getD (granted p table run v grants) i 0
+
+  -- A slot never grants more than its speed in all.
+  pub never-above-speed : sum grant (counted p) ≤ v
+  never-above-speed = rw (all-served p table run v grants) (omega arith)
+
+  -- It never grants a job more than its due.
+  pub never-above-due : (i : ℕ) → i < counted p → grant i ≤ due p table run (slowAfter p run v) i
+  never-above-due i l =
+      omega (
+        arith,
+        within-claim p table run v grants i l,
+        on-less (served p (run .clock .0) (slowAfter p run v) i) (due p table run (slowAfter p run v) i),
+      )
+
+  -- It never grants anything to a job that is not live.
+  pub never-unless-live : (i : ℕ) → i < counted p → live p (run .clock .0) i ≡ false → grant i ≡ 0
+  never-unless-live i l dead =
+      let nothing : claim p table run (slowAfter p run v) i ≡ 0 = rw dead refl in
+      omega (arith, within-claim p table run v grants i l)
+
+  -- A call that is done leaves the slot's run and its grants.
+  pub done-leaves : stepped p table run v grants .answer ≡ []
+      → (stepped p table run v grants .run ≡ advanced p table run v grants) × (stepped p table run v grants .grants ≡ granted p table run v grants)
+  unfolding stepped
+  done-leaves e = by-fault (slotFault p table run v grants) e
+    where
+      by-fault : (f : Report) → slotBy f p table run v grants .answer ≡ []
+          → (slotBy f p table run v grants .run ≡ advanced p table run v grants) × (slotBy f p table run v grants .grants ≡ granted p table run v grants)
+      by-fault [] e = (refl, refl)
+      by-fault (number ∷ rest) e = absurd (let z : _≡_ {A = ℕ} 0 1 = cc in omega arith)
+
+  -- A refused call changes nothing.
+  pub refused-changes-nothing : (number : ℕ) (rest : Report) → stepped p table run v grants .answer ≡ number ∷ rest
+      → (stepped p table run v grants .run ≡ run) × (stepped p table run v grants .grants ≡ grants)
+  unfolding stepped
+  refused-changes-nothing number rest e = by-fault (slotFault p table run v grants) e
+    where
+      by-fault : (f : Report) → slotBy f p table run v grants .answer ≡ number ∷ rest
+          → (slotBy f p table run v grants .run ≡ run) × (slotBy f p table run v grants .grants ≡ grants)
+      by-fault [] e = absurd (let z : _≡_ {A = ℕ} 0 1 = cc in omega arith)
+      by-fault (n ∷ more) e = (refl, refl)
+
+  -- A mark that is set stays set through a call.
+  slow-kept : run .slow ≡ true → stepped p table run v grants .run .slow ≡ true
+  unfolding stepped advanced
+  slow-kept e = by-fault (slotFault p table run v grants)
+    where
+      by-fault : (f : Report) → slotBy f p table run v grants .run .slow ≡ true
+      by-fault [] = rw e refl
+      by-fault (n ∷ more) = e
+
+  below-kept : run .below ≡ true → stepped p table run v grants .run .below ≡ true
+  unfolding stepped advanced
+  below-kept e = by-fault (slotFault p table run v grants)
+    where
+      by-fault : (f : Report) → slotBy f p table run v grants .run .below ≡ true
+      by-fault [] = rw e refl
+      by-fault (n ∷ more) = e
+
+-- A refused start leaves a lent record as it was.
+pub refused-start-changes-nothing : (p : Plan) (table : List ℕ) (was : Run) (number : ℕ) (places : Report)
+    → judged p table ≡ number ∷ places → startIn p table was ≡ was
+unfolding startIn
+refused-start-changes-nothing p table was number places e = ap (λ r. startFrom r (started p) was) e
+
+-- A call: any plan, table, speed and grant row. The run after a list of calls, refused ones among them.
+pub record Call : Type 0 where
+  pub plan : Plan
+  pub table : List ℕ
+  pub speed : ℕ
+  pub grants : List ℕ
+
+abbrev pub runAfter : Run → List Call → Run
+runAfter run [] = run
+runAfter run (c ∷ later) = runAfter (stepped (c .plan) (c .table) run (c .speed) (c .grants) .run) later
+
+-- The slow mark, once set, stays through any list of calls.
+pub slow-for-good : (run : Run) (calls : List Call) → run .slow ≡ true → runAfter run calls .slow ≡ true
+slow-for-good run [] e = e
+slow-for-good run (c ∷ later) e =
+    slow-for-good (stepped (c .plan) (c .table) run (c .speed) (c .grants) .run) later
+    (slow-kept (c .plan) (c .table) run (c .speed) (c .grants) e)
+
+-- So does the below-floor mark.
+pub below-for-good : (run : Run) (calls : List Call) → run .below ≡ true → runAfter run calls .below ≡ true
+below-for-good run [] e = e
+below-for-good run (c ∷ later) e =
+    below-for-good (stepped (c .plan) (c .table) run (c .speed) (c .grants) .run) later
+    (below-kept (c .plan) (c .table) run (c .speed) (c .grants) e)
