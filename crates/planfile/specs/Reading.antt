@@ -47,6 +47,13 @@ test false number file at = no number
 unfoldable pub field : ℕ → Reading ℕ
 field w file at = cond (leb (at + w) (length file)) (got (value 0 (take w (drop at file))) (at + w)) (no wrongExtent)
 
+-- A field that is to pass a test.
+abbrev pub checked : ℕ → (ℕ → Bool) → ℕ → Reading ℕ
+checked w ok number = do
+  x ← field w
+  test (ok x) number
+  done x
+
 -- The version byte: no first byte, or another one, is refused alike.
 unfoldable pub version : Reading ℕ
 version file at = cond (ltb at (length file) && eqb (getD file at 0) 1) (got 1 (at + 1)) (no wrongVersion)
@@ -54,6 +61,12 @@ version file at = cond (ltb at (length file) && eqb (getD file at 0) 1) (got 1 (
 -- The length of all that follows it, compared as soon as it is read.
 unfoldable pub extent : Reading ℕ
 extent file at = onward (field 4 file at) (λ n rest next. cond (eqb (next + n) (length rest)) (got n next) (no wrongExtent)) file
+
+-- What a file opens with.
+unfoldable pub opening : Reading ℕ
+opening = do
+  version
+  extent
 
 -- What stands before the jobs.
 pub record Head : Type 0 where
@@ -64,25 +77,32 @@ pub record Head : Type 0 where
 -- Version, length, both rates and the job count.
 unfoldable pub head : ℕ → Reading Head
 head most = do
-  version
-  extent
+  opening
   n ← field 2
   d ← field 2
   test (ratesAllowed n d) wrongRates
-  count ← field 1
-  test (leb 1 count && leb count most) wrongJobCount
+  count ← checked 1 (λ c. leb 1 c && leb c most) wrongJobCount
   done (record { n = n; d = d; count = count })
+
+-- The name of a record, behind the length byte that says how long such a record is.
+unfoldable pub named : ℕ → Reading ℕ
+named long = do
+  checked 1 (λ x. eqb x long) wrongRecordLength
+  field 8
+
+-- The name of a job, behind jobs with the given names.
+unfoldable pub jobName : List ℕ → Reading ℕ
+jobName earlier = do
+  name ← named jobLength
+  test (nameAllowed name) wrongNameByte
+  test (isAbsent earlier name) nameTaken
+  done name
 
 -- One job, behind jobs with the given names.
 unfoldable pub oneJob : List ℕ → Reading Job
 oneJob earlier = do
-  long ← field 1
-  test (eqb long jobLength) wrongRecordLength
-  name ← field 8
-  test (nameAllowed name) wrongNameByte
-  test (isAbsent earlier name) nameTaken
-  grade ← field 1
-  test (gradeAllowed grade) wrongGrade
+  name ← jobName earlier
+  grade ← checked 1 gradeAllowed wrongGrade
   release ← field 4
   size ← field 4
   deadline ← field 4
@@ -120,14 +140,10 @@ pub record Row : Type 0 where
 -- One row of a plan with these names and this many intervals, whose place is to be no lower than a given one.
 unfoldable pub oneRow : ℕ → List ℕ → ℕ → ℕ → Reading Row
 oneRow width names spans low = do
-  long ← field 1
-  test (eqb long rowLength) wrongRecordLength
-  name ← field 8
+  name ← named rowLength
   test (ltb (position names name) (length names)) rowWithoutJob
-  interval ← field 2
-  test (ltb interval spans) rowWithoutInterval
-  units ← field 4
-  test (not (eqb units 0)) rowWithoutUnits
+  interval ← checked 2 (λ j. ltb j spans) rowWithoutInterval
+  units ← checked 4 (λ u. not (eqb u 0)) rowWithoutUnits
   test (leb low (place width (position names name) interval)) rowOutOfOrder
   done (record { at = place width (position names name) interval; units = units })
 
@@ -157,16 +173,27 @@ planOf h jobs =
       jobs = jobs ++ replicate (mostJobs - length jobs) noJob;
     }
 
+-- All that stands before the rows.
+pub record Front : Type 0 where
+  pub plan : Plan
+  pub names : List ℕ
+  pub rows : ℕ
+
+-- The header, the jobs and the row count.
+unfoldable pub front : Reading Front
+front = do
+  h ← head mostJobs
+  jobs ← allJobs (h .count) []
+  rows ← checked 2 (λ r. leb r mostRows) tooManyRows
+  done (record { plan = planOf h jobs; names = namesOf jobs; rows = rows })
+
 -- A plan file.
 unfoldable pub planFile : Reading Held
 planFile = do
-  h ← head mostJobs
-  jobs ← allJobs (h .count) []
-  rows ← field 2
-  test (leb rows mostRows) tooManyRows
-  table ← allRows rows mostIntervals (namesOf jobs) (intervals (planOf h jobs)) 0 (replicate places 0)
+  f ← front
+  table ← allRows (f .rows) mostIntervals (f .names) (intervals (f .plan)) 0 (replicate places 0)
   ended
-  done (record { plan = planOf h jobs; table = table })
+  done (record { plan = f .plan; table = table })
 
 -- What a whole file holds, or its refusal.
 abbrev pub readFile : List ℕ → Step Held

@@ -1,0 +1,10 @@
+pub mod Digits
+pub mod Steps
+pub mod Heads
+pub mod Search
+pub mod Roll
+pub mod Rows
+pub mod Apart
+pub mod Fronts
+pub mod Whole
+pub mod Extent

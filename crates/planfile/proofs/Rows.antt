@@ -1,0 +1,116 @@
+-- The laws of reading rows.
+use mathlib.Core.Path.{_≡_, refl, sym, _∙_, ap}
+use mathlib.Core.Bool.{Bool, true, false, not}
+use mathlib.Core.List.{List}
+use Prim.Native.Nat.{ℕ, zero, suc, _+_, _*_, _-_, _≤_, _<_}
+use native.Mathlib.Numerals.{add-one}
+use native.Mathlib.Omega.{arith}
+use borrow.Author.Tests.{ltb-true, le-leb, lt-leb}
+use lib.Dec.{leb, ltb, eqb}
+use lib.ListN.{length, set}
+use Rattle.plan.specs.Edition.{mostIntervals, rowLength}
+use Rattle.plan.specs.Refusal.{rowWithoutJob, rowWithoutInterval, rowWithoutUnits, rowOutOfOrder}
+use Rattle.plan.specs.Table.{place}
+use Rattle.planfile.specs.Reading.{Step, got, no, onward, checked, field, named, position, Row, oneRow, allRows}
+use Rattle.planfile.specs.Answers.{onlyPassed}
+use Rattle.planfile.proofs.Steps.{through, past, checked-is, same-value}
+
+-- One row, field by field: the first fault decides.
+module _ (width : ℕ) (names : List ℕ) (spans low : ℕ) (file : List ℕ) (at : ℕ) where
+  pub row-unnamed : {k : ℕ} → named rowLength file at ≡ no k → oneRow width names spans low file at ≡ no k
+  unfolding oneRow
+  row-unnamed e = rw e
+
+  module _ {name a₁ : ℕ} (e₁ : named rowLength file at ≡ got name a₁) where
+    pub row-jobless : ltb (position names name) (length names) ≡ false → oneRow width names spans low file at ≡ no rowWithoutJob
+    unfolding oneRow
+    row-jobless t = rw (e₁, t)
+
+    module _ (t : ltb (position names name) (length names) ≡ true) where
+      pub row-unplaced : {k : ℕ} → checked 2 (λ j. ltb j spans) rowWithoutInterval file a₁ ≡ no k → oneRow width names spans low file at ≡ no k
+      unfolding oneRow
+      row-unplaced e = rw (e₁, t, e)
+
+      module _ {interval a₂ : ℕ} (e₂ : checked 2 (λ j. ltb j spans) rowWithoutInterval file a₁ ≡ got interval a₂) where
+        pub row-empty : {k : ℕ} → checked 4 (λ u. not (eqb u 0)) rowWithoutUnits file a₂ ≡ no k → oneRow width names spans low file at ≡ no k
+        unfolding oneRow
+        row-empty e = rw (e₁, t, e₂, e)
+
+        module _ {units a₃ : ℕ} (e₃ : checked 4 (λ u. not (eqb u 0)) rowWithoutUnits file a₂ ≡ got units a₃) where
+          pub row-late : place width (position names name) interval < low → oneRow width names spans low file at ≡ no rowOutOfOrder
+          unfolding oneRow
+          row-late h = rw (e₁, t, e₂, e₃, lt-leb low (place width (position names name) interval) h)
+
+          pub row-whole : low ≤ place width (position names name) interval
+              → oneRow width names spans low file at ≡ got (record { at = place width (position names name) interval; units = units }) a₃
+          unfolding oneRow
+          row-whole h = rw (e₁, t, e₂, e₃, le-leb low (place width (position names name) interval) h)
+
+-- A row that is read has its place in the table.
+pub row-inside : (names : List ℕ) (spans low : ℕ) (file : List ℕ) (at : ℕ) {row : Row} {next : ℕ}
+    → oneRow mostIntervals names spans low file at ≡ got row next → spans ≤ mostIntervals → row .at < mostIntervals * length names
+unfolding oneRow
+row-inside names spans low file at e h =
+    let t₁ = through (named rowLength file at) e in
+    let t₂ = past (ltb (position names (t₁ .value)) (length names)) rowWithoutJob file (t₁ .next) (t₁ .on) in
+    let t₃ = through (checked 2 (λ j. ltb j spans) rowWithoutInterval file (t₁ .next)) (t₂ .on) in
+    let t₄ = through (checked 4 (λ u. not (eqb u 0)) rowWithoutUnits file (t₃ .next)) (t₃ .on) in
+    let t₅ = past (leb low (place mostIntervals (position names (t₁ .value)) (t₃ .value))) rowOutOfOrder file (t₄ .next) (t₄ .on) in
+    let i = ltb-true (position names (t₁ .value)) (length names) (t₂ .is) in
+    let j = ltb-true (t₃ .value) spans (checked-is 2 (λ j. ltb j spans) rowWithoutInterval file (t₁ .next) (t₃ .is) .1) in
+    let q = ap (λ (r : Row). r .at) (same-value (t₅ .on)) in
+    omega (arith, q)
+
+-- One turn of the rule.
+pub rows-step : (n width : ℕ) (names : List ℕ) (spans low : ℕ) (table file : List ℕ) (at : ℕ) {row : Row} {next : ℕ}
+    → oneRow width names spans low file at ≡ got row next
+    → allRows (suc n) width names spans low table file at ≡ allRows n width names spans (suc (row .at)) (set table (row .at) (row .units)) file next
+unfolding allRows
+rows-step n width names spans low table file at e = rw e
+
+pub rows-stop : (n width : ℕ) (names : List ℕ) (spans low : ℕ) (table file : List ℕ) (at : ℕ) {k : ℕ}
+    → oneRow width names spans low file at ≡ no k → allRows (suc n) width names spans low table file at ≡ no k
+unfolding allRows
+rows-stop n width names spans low table file at e = rw e
+
+pub rows-done : (width : ℕ) (names : List ℕ) (spans low : ℕ) (table file : List ℕ) (at : ℕ) → allRows zero width names spans low table file at ≡ got table at
+unfolding allRows
+rows-done width names spans low table file at = refl
+
+-- Whether rows pass does not depend on the table.
+pub rows-only : (n width : ℕ) (names : List ℕ) (spans low : ℕ) (t u file : List ℕ) (at : ℕ)
+    → onlyPassed (allRows n width names spans low t file at) ≡ onlyPassed (allRows n width names spans low u file at)
+unfolding allRows
+rows-only zero width names spans low t u file at = refl
+rows-only (suc n) width names spans low t u file at =
+    by (oneRow width names spans low file at) (λ row next. rows-only n width names spans (suc (row .at)) (set t (row .at) (row .units)) (set u (row .at) (row .units)) file next)
+  where
+    on : List ℕ → Row → List ℕ → ℕ → Step (List ℕ)
+    on l row = allRows n width names spans (suc (row .at)) (set l (row .at) (row .units))
+
+    by : (s : Step Row) → ((row : Row) (next : ℕ) → onlyPassed (on t row file next) ≡ onlyPassed (on u row file next))
+        → onlyPassed (onward s (on t) file) ≡ onlyPassed (onward s (on u) file)
+    by (got row next) h = h row next
+    by (no k) h = refl
+
+-- What is left after k rows gives the whole.
+module _ (rows k width : ℕ) (names : List ℕ) (spans low : ℕ) (table file : List ℕ) (at : ℕ) {whole : Step (List ℕ)}
+    (left : allRows (rows - k) width names spans low table file at ≡ whole) where
+  pub left-next : k < rows → {row : Row} {next : ℕ} → oneRow width names spans low file at ≡ got row next
+      → allRows (rows - (k + 1)) width names spans (row .at + 1) (set table (row .at) (row .units)) file next ≡ whole
+  left-next h {row} {next} e =
+      let n : rows - k ≡ suc (rows - (k + 1)) = omega arith in
+      rw (add-one (row .at))
+      (sym (rows-step (rows - (k + 1)) width names spans low table file at e)
+      ∙ ap (λ m. allRows m width names spans low table file at) (sym n) ∙ left)
+
+  pub left-stop : k < rows → {x : ℕ} → oneRow width names spans low file at ≡ no x → whole ≡ no x
+  left-stop h e =
+      let n : rows - k ≡ suc (rows - (k + 1)) = omega arith in
+      sym left ∙ ap (λ m. allRows m width names spans low table file at) n
+      ∙ rows-stop (rows - (k + 1)) width names spans low table file at e
+
+  pub left-done : k ≡ rows → whole ≡ got table at
+  left-done e =
+      let n : rows - k ≡ 0 = omega (arith, e) in
+      sym left ∙ ap (λ m. allRows m width names spans low table file at) n ∙ rows-done width names spans low table file at

@@ -1,0 +1,128 @@
+-- The laws of a whole file, part by part: the first fault decides.
+use mathlib.Core.Path.{_≡_, refl, sym, _∙_, ap}
+use mathlib.Core.List.{List, [], _∷_, _++_, append-nil}
+use Prim.Native.Nat.{ℕ, _≤_, _<_}
+use native.Mathlib.Omega.{arith}
+use borrow.Author.Tests.{lt-ltb, le-ltb}
+use lib.ListN.{length, take, drop, replicate, length-take}
+use lib.Seq.{take-at}
+use Rattle.plan.specs.Edition.{mostJobs, mostIntervals, places}
+use Rattle.plan.specs.Refusal.{bufferTooShort}
+use Rattle.plan.specs.Boundaries.{intervals}
+use Rattle.plan.specs.declared.kinds.Plan.{Plan}
+use Rattle.planfile.specs.Reading.{Step, got, no, Front, front, allRows, ended, Held, planFile, readFile, Left, noPlan, leaves, reader, nameAt, shownBy}
+use Rattle.planfile.specs.Answers.{Distinct, RowsAnswer, FillAnswer, onlyPassed, passedTold, answerTold, readTold, countOf}
+use Rattle.planfile.specs.declared.field.Passed.{Passed}
+use Rattle.planfile.specs.declared.field.Passed.the-variants as passed
+use Rattle.planfile.specs.declared.reader.Answer.the-variants as answer
+use Rattle.planfile.specs.declared.reader.Reading.{Reading}
+use Rattle.planfile.proofs.Fronts.{front-fine}
+
+-- What the answer of the rows tells of their reading.
+module _ (r : Passed) (left : List ℕ) where
+  pub rows-refused : (s : Step (List ℕ)) {k : ℕ} → RowsAnswer s r left → r ≡ passed.Refused k → s ≡ no k
+  rows-refused (got t next) a e = absurd (let z : _≡_ {A = ℕ} 0 1 = cc (a .0) in omega arith)
+  rows-refused (no number) a e = cc
+
+  pub rows-got : (s : Step (List ℕ)) {next : ℕ} → RowsAnswer s r left → r ≡ passed.Next next → s ≡ got left next
+  rows-got (got t next) a e = cc (a .0, a .1)
+  rows-got (no number) a e = absurd (let z : _≡_ {A = ℕ} 0 1 = cc in omega arith)
+
+-- The same without a table.
+pub only-refused : (s : Step (List ℕ)) {r : Passed} {k : ℕ} → passedTold r ≡ onlyPassed s → r ≡ passed.Refused k → s ≡ no k
+only-refused (got t next) a e = absurd (let z : _≡_ {A = ℕ} 0 1 = cc (ap passedTold e) in omega arith)
+only-refused (no number) a e = cc (ap passedTold e)
+
+pub only-got : (s : Step (List ℕ)) {r : Passed} {next : ℕ} → passedTold r ≡ onlyPassed s → r ≡ passed.Next next
+    → (t : List ℕ) × (s ≡ got t next)
+only-got (got t next) a e = (t, cc (ap passedTold e))
+only-got (no number) a e = absurd (let z : _≡_ {A = ℕ} 0 1 = cc (ap passedTold e) in omega arith)
+
+module _ (file : List ℕ) where
+  pub file-frontless : {k : ℕ} → front file 0 ≡ no k → readFile file ≡ no k
+  unfolding planFile
+  file-frontless e = rw e
+
+  module _ {f : Front} {at : ℕ} (e : front file 0 ≡ got f at) where
+    pub file-rowless : {k : ℕ} → allRows (f .rows) mostIntervals (f .names) (intervals (f .plan)) 0 (replicate places 0) file at ≡ no k
+        → readFile file ≡ no k
+    unfolding planFile
+    file-rowless e′ = rw (e, e′)
+
+    module _ {table : List ℕ} {last : ℕ}
+        (e′ : allRows (f .rows) mostIntervals (f .names) (intervals (f .plan)) 0 (replicate places 0) file at ≡ got table last) where
+      pub file-endless : {k : ℕ} → ended file last ≡ no k → readFile file ≡ no k
+      unfolding planFile
+      file-endless t = rw (e, e′, t)
+
+      pub file-whole : {u : Unit {0}} {end : ℕ} → ended file last ≡ got u end → readFile file ≡ got (record { plan = f .plan; table = table }) end
+      unfolding planFile
+      file-whole t = rw (e, e′, t)
+
+-- The rows are read behind the names and the intervals of the front.
+module _ (file : List ℕ) {f : Front} {at : ℕ} (e : front file 0 ≡ got f at) {rows : ℕ} (er : f .rows ≡ rows) {plan : Plan}
+    (ep : plan ≡ f .plan) {names : List ℕ} (first : List ℕ) (en : names ≡ f .names ++ drop (f .plan .count) first) where
+  pub names-taken : take (plan .count) names ≡ f .names
+  names-taken = rw (ep, en) (take-at (f .names) (drop (f .plan .count) first) (f .plan .count) (front-fine file e .many))
+
+  pub taken-length : length (take (plan .count) names) ≡ plan .count
+  taken-length = rw names-taken (front-fine file e .many ∙ ap (λ (p : Plan). p .count) (sym ep))
+
+  pub count-within : plan .count ≤ length names
+  count-within = omega (arith, taken-length, length-take (plan .count) names)
+
+  pub rows-asked : (spans : ℕ) → spans ≡ intervals plan
+      → Distinct (take (plan .count) names) × (length (take (plan .count) names) ≤ mostJobs) × (spans ≤ mostIntervals)
+  rows-asked spans s =
+      (rw names-taken (front-fine file e .differ), rw (taken-length, ep) (front-fine file e .few), rw (s, ep) (front-fine file e .spans))
+
+  pub rows-same : (spans : ℕ) → spans ≡ intervals plan → (table : List ℕ)
+      → allRows rows mostIntervals (take (plan .count) names) spans 0 table file at
+      ≡ allRows (f .rows) mostIntervals (f .names) (intervals (f .plan)) 0 table file at
+  rows-same spans s table = rw (names-taken, s, ep, er)
+
+-- What a reading leaves, by the reader's answer.
+pub whole-read : (s : Step Held) (r : Reading) (left : List ℕ) → FillAnswer s r left → r .answer ≡ answer.Read → readTold r left ≡ leaves s []
+whole-read (got held next) r left a e =
+    λ t. record { answer = (ap answerTold e) t; plan = (a .1) t; table = (a .2 ∙ sym (append-nil (held .table))) t }
+whole-read (no number) r left a e = absurd (let z : _≡_ {A = ℕ} 0 1 = cc in omega arith)
+
+pub whole-refused : (s : Step Held) (r : Reading) (left : List ℕ) → FillAnswer s r left → {k : ℕ} → r .answer ≡ answer.Refused k
+    → {plan : Plan} → plan ≡ noPlan → {zeros : List ℕ} → zeros ≡ replicate places 0
+    → readTold (record { answer = r .answer; plan = plan }) zeros ≡ leaves s []
+whole-refused (got held next) r left a e p z = absurd (let z : _≡_ {A = ℕ} 0 1 = cc (a .0) in omega arith)
+whole-refused (no number) r left a e p z =
+    λ t. record { answer = (ap answerTold a) t; plan = p t; table = (z ∙ sym (append-nil (replicate places 0))) t }
+
+pub whole-beyond : (s : Step Held) (r : Reading) (left table : List ℕ) → readTold r left ≡ leaves s []
+    → readTold r (left ++ drop places table) ≡ leaves s table
+whole-beyond (got held next) r left table e =
+    λ t. record {
+      answer = (ap (λ (l : Left). l .answer) e) t;
+      plan = (ap (λ (l : Left). l .plan) e) t;
+      table = (ap (λ l. l ++ drop places table) (ap (λ (l : Left). l .table) e ∙ append-nil (held .table))) t;
+    }
+whole-beyond (no number) r left table e =
+    λ t. record {
+      answer = (ap (λ (l : Left). l .answer) e) t;
+      plan = (ap (λ (l : Left). l .plan) e) t;
+      table = (ap (λ l. l ++ drop places table) (ap (λ (l : Left). l .table) e ∙ append-nil (replicate places 0))) t;
+    }
+
+pub reader-short : (file table : List ℕ) → length table < places → {plan : Plan} → plan ≡ noPlan
+    → _≡_ {A = Left} (record { answer = bufferTooShort ∷ []; plan = plan; table = table }) (reader file table)
+unfolding reader
+reader-short file table h p = rw (lt-ltb (length table) places h, p)
+
+pub reader-long : (file table : List ℕ) → places ≤ length table → leaves (readFile file) table ≡ reader file table
+unfolding reader
+reader-long file table h = rw (le-ltb (length table) places h)
+
+-- What the lookup shows, by the job count.
+pub shown-none : (s : Step Held) (file : List ℕ) (k : ℕ) → countOf s ≤ k → shownBy s file k ≡ []
+shown-none (got held next) file k h = rw (le-ltb k (held .plan .count) h)
+shown-none (no number) file k h = refl
+
+pub shown-part : (s : Step Held) (file : List ℕ) (k : ℕ) → k < countOf s → shownBy s file k ≡ take 8 (drop (nameAt k) file)
+shown-part (got held next) file k h = rw (lt-ltb k (held .plan .count) h)
+shown-part (no number) file k h = absurd (omega arith)

@@ -1,0 +1,99 @@
+-- `planfile::lookup::check_rows` meets its contract: after k rows, what is left gives the whole. A table without places stays so.
+use mathlib.Core.Path.{_≡_, refl, sym, _∙_, ap}
+use mathlib.Core.List.{List, []}
+use Prim.Native.Nat.{ℕ, _+_, _-_, _≤_, _<_}
+use native.Mathlib.Nat.{sub-zero}
+use native.Mathlib.Omega.{arith}
+use borrow.Author.Needs.{needs}
+use Rattle.plan.specs.Edition.{mostIntervals, places}
+use Rattle.planfile.specs.Reading.{Step, got, no, oneRow, allRows}
+use Rattle.planfile.specs.Answers.{rowTold, rowRefusal, onlyPassed}
+use Rattle.planfile.proofs.Steps.{so, refused}
+use Rattle.planfile.proofs.Rows.{row-inside, rows-only, left-next, left-stop, left-done}
+use Rattle.planfile.proofs.lookup.check_rows.Statement.{statement}
+use Rattle.planfile.proofs.lookup.check_rows.Tie as tie
+
+abbrev Inv-loop : tie.InvT-loop
+Inv-loop file at rows names spans next₀ low₀ job₀ k₀ next low job k =
+    (k ≤ rows) × (allRows (rows - k) mostIntervals names spans low [] file next ≡ allRows rows mostIntervals names spans 0 [] file at)
+
+abbrev μ-loop : tie.MeasureT-loop
+μ-loop file at rows names spans next₀ low₀ job₀ k₀ next low job k = rows - k
+
+-- The row in hand, and that it has its place.
+module _ (c : tie.After-known-told Inv-loop μ-loop) where
+  read-here :
+      oneRow mostIntervals (c .before .before .before .before .before .before .before .before .args .names .now) (c .before .before .before .before .before .before .before .before .args .spans) (c .before .before .before .before .before .loop .low) (c .before .before .before .before .before .before .before .before .args .file .now) (c .before .before .before .before .before .loop .next)
+      ≡ got (record { at = c .before .read .given .0 .0 .at; units = c .before .read .given .0 .0 .units }) (c .before .read .given .0 .1 .0)
+  read-here = so rowTold (c .before .before .before .read-row .ensures) (c .before .read .given .1)
+
+  inside : c .before .read .given .0 .0 .at < places
+  inside =
+      let a = c .before .before .before .before .before .before .before .before .args in
+      let pre = c .before .before .before .before .before .before .before .before .pre in
+      omega (arith, pre .1, row-inside (a .names .now) (a .spans) (c .before .before .before .before .before .loop .low) (a .file .now) (c .before .before .before .before .before .loop .next) read-here (pre .2))
+
+loop-holds : tie.Need-loop-holds Inv-loop μ-loop
+loop-holds c =
+    let a = c .before .before .args in
+    (omega arith, ap (λ n. allRows n mostIntervals (a .names .now) (a .spans) 0 [] (a .file .now) (a .at)) (sub-zero (a .rows)))
+
+read-row-requires : tie.Need-read-row-requires Inv-loop μ-loop
+read-row-requires c κs = (c .before .before .before .before .pre .0, c .before .before .before .before .pre .1)
+
+enum-known-read : tie.Need-enum-known-read Inv-loop μ-loop
+enum-known-read c = search needs
+
+enum-told : tie.Need-enum-told Inv-loop μ-loop
+enum-told c = search needs
+
+row-refusal-requires : tie.Need-row-refusal-requires Inv-loop μ-loop
+row-refusal-requires c κs = search needs
+
+returns : tie.Need-returns Inv-loop μ-loop
+returns c =
+    let a = c .before .before .before .before .before .before .before .before .args in
+    let l = c .before .before .before .before .before .loop in
+    let e = left-stop (a .rows) (l .k) mostIntervals (a .names .now) (a .spans) (l .low) [] (a .file .now) (l .next) (l .inv .1) (omega arith)
+    (refused rowTold rowRefusal (c .before .before .before .read-row .ensures) (c .before .enum-told .given .1) refl refl (c .row-refusal .ensures)) in
+    λ table. sym (ap onlyPassed e) ∙ rows-only (a .rows) mostIntervals (a .names .now) (a .spans) 0 [] table (a .file .now) (a .at)
+
+add-low : tie.Need-add-low Inv-loop μ-loop
+add-low c = record { fits = omega (arith, inside (c .before)) }
+
+add-k : tie.Need-add-k Inv-loop μ-loop
+add-k c = search needs
+
+loop-less : tie.Need-loop-less Inv-loop μ-loop
+loop-less c = search needs
+
+loop-again : tie.Need-loop-again Inv-loop μ-loop
+loop-again c =
+    let a = c .before .before .before .before .before .before .before .before .before .args in
+    let l = c .before .before .before .before .before .before .loop in
+    (omega arith, left-next (a .rows) (l .k) mostIntervals (a .names .now) (a .spans) (l .low) [] (a .file .now) (l .next) (l .inv .1) (omega arith) (read-here (c .before)))
+
+returns-2 : tie.Need-returns-2 Inv-loop μ-loop
+returns-2 c =
+    let a = c .before .before .before .before .args in
+    let l = c .before .loop in
+    λ table. sym (ap onlyPassed (left-done (a .rows) (l .k) mostIntervals (a .names .now) (a .spans) (l .low) [] (a .file .now) (l .next) (l .inv .1) (omega arith)))
+    ∙ rows-only (a .rows) mostIntervals (a .names .now) (a .spans) 0 [] table (a .file .now) (a .at)
+
+pub check-rows-spec : {M : Type 1} → statement M
+check-rows-spec =
+    tie.close
+    (tie.spec
+    Inv-loop
+    μ-loop
+    loop-holds
+    read-row-requires
+    enum-known-read
+    enum-told
+    row-refusal-requires
+    returns
+    add-low
+    add-k
+    loop-less
+    loop-again
+    returns-2)

@@ -1,0 +1,126 @@
+-- `planfile::lookup::count_in` meets its contract: front, rows and end, each reached only through the one before.
+use mathlib.Core.Path.{_≡_, refl, sym, _∙_, ap}
+use mathlib.Core.List.{List, _++_}
+use Prim.Native.Nat.{ℕ}
+use borrow.Author.Needs.{needs}
+use lib.ListN.{length, drop, replicate}
+use Rattle.plan.specs.Edition.{mostJobs, mostIntervals, places}
+use Rattle.plan.specs.Boundaries.{intervals}
+use Rattle.planfile.specs.Reading.{got, Front, front, allRows}
+use Rattle.planfile.specs.Answers.{onlyPassed, passedTold}
+use Rattle.planfile.proofs.Steps.{so}
+use Rattle.planfile.proofs.Fronts.{front-refused, front-got}
+use Rattle.planfile.proofs.Whole.{only-refused, only-got, file-frontless, file-rowless, file-endless, file-whole, taken-length, count-within, rows-asked, rows-same}
+use Rattle.plan.specs.declared.kinds.Plan.{Plan}
+use Rattle.planfile.proofs.lookup.count_in.Statement.{statement}
+use Rattle.planfile.proofs.lookup.count_in.Tie as tie
+
+-- What the front tells, once its answer is taken apart.
+front-here : (c : tie.After-known-told)
+    → (f : Front) × (front (c .before .before .before .before .before .before .before .before .args .file .now) 0 ≡ got f (c .before .counted .given .0 .1 .0)) × (f .rows ≡ c .before .counted .given .0 .0)
+    × (c .before .before .before .before .before .read-front .result .plan ≡ f .plan)
+    × (c .before .before .before .before .before .read-front .last .1 .0 ≡ f .names ++ drop (f .plan .count) (replicate mostJobs 0))
+front-here c =
+    front-got (replicate mostJobs 0) (c .before .before .before .before .before .read-front .result) (c .before .before .before .before .before .read-front .last .1 .0)
+    (front (c .before .before .before .before .before .before .before .before .args .file .now) 0) (c .before .before .before .before .before .read-front .ensures) (c .before .counted .given .1)
+
+-- The rows are those of the front.
+rows-here : (c : tie.After-check-rows)
+    → passedTold (c .check-rows .result) ≡ onlyPassed
+    (allRows (front-here (c .before .before .before) .0 .rows) mostIntervals (front-here (c .before .before .before) .0 .names) (intervals (front-here (c .before .before .before) .0 .plan)) 0 (replicate places 0)
+    (c .before .before .before .before .before .before .before .before .before .before .before .args .file .now) (c .before .before .before .before .counted .given .0 .1 .0))
+rows-here c =
+    let g = front-here (c .before .before .before) in
+    let same = rows-same (c .before .before .before .before .before .before .before .before .before .before .before .args .file .now) (g .1) (g .2) (g .3) (replicate mostJobs 0) (g .4) (c .before .before .intervals-of .result) (c .before .before .intervals-of .ensures) (replicate places 0) in
+    c .check-rows .ensures (replicate places 0) ∙ ap onlyPassed same
+
+slice-aggregate-read-front : tie.Need-slice-aggregate-read-front
+slice-aggregate-read-front c = search needs
+
+read-front-requires : tie.Need-read-front-requires
+read-front-requires c κs = search needs
+
+enum-known-counted : tie.Need-enum-known-counted
+enum-known-counted c = search needs
+
+enum-told : tie.Need-enum-told
+enum-told c = search needs
+
+returns : tie.Need-returns
+returns c =
+    let file = c .before .before .before .before .before .before .before .args .file .now in
+    let r = c .before .before .before .before .read-front in
+    rw (file-frontless file (front-refused (replicate mostJobs 0) (r .result) (r .last .1 .0) (front file 0) (r .ensures) (c .enum-told .given .1))) refl
+
+intervals-of-requires : tie.Need-intervals-of-requires
+intervals-of-requires c κs = search needs
+
+array-share-prefix-names : tie.Need-array-share-prefix-names
+array-share-prefix-names c =
+    let g = front-here (c .before) in
+    count-within (c .before .before .before .before .before .before .before .before .before .args .file .now) (g .1) (g .2) (g .3) (replicate mostJobs 0) (g .4)
+
+slice-aggregate-check-rows : tie.Need-slice-aggregate-check-rows
+slice-aggregate-check-rows c =
+    let g = front-here (c .before .before) in
+    sym (taken-length (c .before .before .before .before .before .before .before .before .before .before .args .file .now) (g .1) (g .2) (g .3) (replicate mostJobs 0) (g .4))
+
+check-rows-requires : tie.Need-check-rows-requires
+check-rows-requires c κs =
+    let g = front-here (c .before .before) in
+    rows-asked (c .before .before .before .before .before .before .before .before .before .before .args .file .now) (g .1) (g .2) (g .3) (replicate mostJobs 0) (g .4) (c .before .intervals-of .result) (c .before .intervals-of .ensures)
+
+enum-known-checked : tie.Need-enum-known-checked
+enum-known-checked c = search needs
+
+enum-told-2 : tie.Need-enum-told-2
+enum-told-2 c = search needs
+
+returns-2 : tie.Need-returns-2
+returns-2 c =
+    let g = front-here (c .before .before .before .before .before) in
+    rw (file-rowless (c .before .before .before .before .before .before .before .before .before .before .before .before .before .args .file .now) (g .1) (only-refused _ (rows-here (c .before .before)) (c .enum-told2 .given .1))) refl
+
+read-end-requires : tie.Need-read-end-requires
+read-end-requires c κs = search needs
+
+enum-told-3 : tie.Need-enum-told-3
+enum-told-3 c = search needs
+
+enum-told-4 : tie.Need-enum-told-4
+enum-told-4 c = search needs
+
+returns-3 : tie.Need-returns-3
+returns-3 c =
+    let g = front-here (c .before .before .before .before .before .before .before .before .before) in
+    let t = only-got _ (rows-here (c .before .before .before .before .before .before)) (c .before .before .before .before .checked .given .1) in
+    rw (file-endless (c .before .before .before .before .before .before .before .before .before .before .before .before .before .before .before .before .before .args .file .now) (g .1) (t .1) (so passedTold (c .before .before .read-end .ensures) (c .enum-told4 .given .1))) refl
+
+returns-4 : tie.Need-returns-4
+returns-4 c =
+    let g = front-here (c .before .before .before .before .before .before .before .before .before) in
+    let t = only-got _ (rows-here (c .before .before .before .before .before .before)) (c .before .before .before .before .checked .given .1) in
+    rw (file-whole (c .before .before .before .before .before .before .before .before .before .before .before .before .before .before .before .before .before .args .file .now) (g .1) (t .1) (so passedTold (c .before .before .read-end .ensures) (c .enum-told3 .given .1)))
+    (ap (λ (p : Plan). p .count) (g .3))
+
+pub count-in-spec : {M : Type 1} → statement M
+count-in-spec =
+    tie.close
+    (tie.spec
+    slice-aggregate-read-front
+    read-front-requires
+    enum-known-counted
+    enum-told
+    returns
+    intervals-of-requires
+    array-share-prefix-names
+    slice-aggregate-check-rows
+    check-rows-requires
+    enum-known-checked
+    enum-told-2
+    returns-2
+    read-end-requires
+    enum-told-3
+    enum-told-4
+    returns-3
+    returns-4)

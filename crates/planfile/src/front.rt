@@ -1,0 +1,141 @@
+// Reading all that stands before the rows: the header, the jobs and the row count. Reader and lookup share it.
+use crate::field::Field;
+use crate::field::Passed;
+use crate::field::field_refusal;
+use crate::field::passed_refusal;
+use crate::field::read_field;
+use crate::head::Head;
+use crate::head::HeadRead;
+use crate::head::head_refusal;
+use crate::head::read_head;
+use crate::job::JobRead;
+use crate::job::job_refusal;
+use crate::job::read_job;
+use plan::edition::Edition;
+use plan::kinds::Job;
+use plan::kinds::Name;
+use plan::kinds::Plan;
+use plan::kinds::Rate;
+use plan::kinds::Slots;
+use plan::kinds::Units;
+use plan::refusal::TOO_MANY_ROWS;
+ghost use mathlib.Core.Path.{_≡_};
+ghost use mathlib.Core.List.{[]};
+ghost use Prim.Native.Nat.{_≤_};
+ghost use lib.ListN.{length};
+ghost use lib.Dec.{leb};
+ghost use Rattle.plan.specs.Edition.{mostJobs, mostRows};
+ghost use Rattle.plan.specs.Refusal.{tooManyRows};
+ghost use Rattle.planfile.specs.Reading.{allJobs, checked, front, planOf, noPlan};
+ghost use Rattle.planfile.specs.Answers.{fieldTold, headOf, JobsAnswer, FrontAnswer};
+
+pub struct Jobs {
+    pub answer: Passed,
+    pub plan: Plan,
+}
+
+// The row count and the next place, beside the plan.
+pub struct Front {
+    pub answer: Field,
+    pub plan: Plan,
+}
+
+// A plan of these rates and this count whose records are zero.
+fn plan_with(head: Head) -> Plan
+    ensures { λ r. ⌜ r ≡ planOf (headOf head) [] ⌝ }
+{
+    let none = Job {
+        name: Name(0),
+        grade: 0,
+        release: Slots(0),
+        size: Units(0),
+        deadline: Slots(0),
+    };
+    let jobs = [none; Edition::MOST_JOBS];
+    let n = head.n;
+    let d = head.d;
+    Plan {
+        n,
+        d,
+        count: head.count,
+        jobs,
+    }
+}
+
+pub fn no_plan() -> Plan
+    ensures { λ r. ⌜ r ≡ noPlan ⌝ }
+{
+    plan_with(Head {
+        n: Rate(0),
+        d: Rate(0),
+        count: 0,
+    })
+}
+
+// The jobs of a plan that has its rates and its count. Their names are kept in a row beside them.
+fn read_jobs(file: &[u8], at: usize, head: Head, names: &mut [u64]) -> Jobs
+    requires { ⌜ (length (now names) ≡ mostJobs) × (head .count ≤ mostJobs) ⌝ }
+    ensures { λ r. ⌜ JobsAnswer (headOf head) (now (names .entry)) (allJobs (head .count) [] (now (file .entry)) at) r (now (names .exit)) ⌝ }
+{
+    let count = head.count;
+    let mut plan = plan_with(head);
+    let mut next = at;
+    let mut i = 0;
+    while i < count {
+        let read = read_job(file, next, &names[..i]);
+        let JobRead::Job(job, after) = read else {
+            return Jobs {
+                answer: Passed::Refused(job_refusal(read)),
+                plan,
+            };
+        };
+        let name = job.name;
+        names[i] = name.0;
+        plan.jobs[i] = job;
+        next = after;
+        i += 1;
+    }
+    Jobs {
+        answer: Passed::Next(next),
+        plan,
+    }
+}
+
+fn read_row_count(file: &[u8], at: usize) -> Field
+    ensures { λ r. ⌜ fieldTold r ≡ checked 2 (λ n. leb n mostRows) tooManyRows (now (file .entry)) at ⌝ }
+{
+    let two = read_field(file, at, 2);
+    let Field::Value(rows, next) = two else {
+        return two;
+    };
+    if rows > Edition::MOST_ROWS as u64 {
+        return Field::Refused(TOO_MANY_ROWS);
+    }
+    two
+}
+
+pub fn read_front(file: &[u8], names: &mut [u64]) -> Front
+    requires { ⌜ length (now names) ≡ mostJobs ⌝ }
+    ensures { λ r. ⌜ FrontAnswer (now (names .entry)) (front (now (file .entry)) 0) r (now (names .exit)) ⌝ }
+{
+    let read = read_head(file);
+    let HeadRead::Head(head, at) = read else {
+        return Front {
+            answer: Field::Refused(head_refusal(read)),
+            plan: no_plan(),
+        };
+    };
+    let jobs = read_jobs(file, at, head, names);
+    let passed = jobs.answer;
+    let plan = jobs.plan;
+    let Passed::Next(next) = passed else {
+        return Front {
+            answer: Field::Refused(passed_refusal(passed)),
+            plan,
+        };
+    };
+    Front {
+        answer: read_row_count(file, next),
+        plan,
+    }
+}

@@ -1,0 +1,142 @@
+// The reader of plan files.
+use crate::field::Field;
+use crate::field::Passed;
+use crate::field::field_refusal;
+use crate::field::passed_refusal;
+use crate::field::read_end;
+use crate::front::no_plan;
+use crate::front::read_front;
+use crate::row::RowRead;
+use crate::row::read_row;
+use crate::row::row_refusal;
+use plan::boundaries::intervals_of;
+use plan::edition::Edition;
+use plan::kinds::Plan;
+use plan::refusal::BUFFER_TOO_SHORT;
+ghost use mathlib.Core.Path.{_≡_};
+ghost use mathlib.Core.List.{[]};
+ghost use Prim.Native.Nat.{_≤_};
+ghost use lib.ListN.{length, replicate};
+ghost use Rattle.plan.specs.Edition.{mostJobs, mostIntervals, places};
+ghost use Rattle.planfile.specs.Reading.{allRows, readFile, leaves, reader};
+ghost use Rattle.planfile.specs.Answers.{Distinct, RowsAnswer, FillAnswer, readTold};
+
+pub enum Answer {
+    Read,
+    Refused(u8),
+}
+
+// The answer, and the plan: all zeros with a refusal.
+pub struct Reading {
+    pub answer: Answer,
+    pub plan: Plan,
+}
+
+// Stores a count of rows in a table that is as long as its own places.
+fn store_rows(
+    file: &[u8],
+    at: usize,
+    rows: usize,
+    names: &[u64],
+    spans: usize,
+    table: &mut [u32],
+) -> Passed
+    requires { ⌜ Distinct (now names) × (length (now names) ≤ mostJobs) × (spans ≤ mostIntervals) × (length (now table) ≡ places) ⌝ }
+    ensures { λ r. ⌜ RowsAnswer (allRows rows mostIntervals (now (names .entry)) spans 0 (now (table .entry)) (now (file .entry)) at) r (now (table .exit)) ⌝ }
+{
+    let mut next = at;
+    let mut low = 0;
+    let mut job = 0;
+    let mut k = 0;
+    while k < rows {
+        let read = read_row(file, next, names, spans, low, job);
+        let RowRead::Row(row, after) = read else {
+            return Passed::Refused(row_refusal(read));
+        };
+        let place = row.at;
+        table[place] = row.units;
+        low = place + 1;
+        job = row.job;
+        next = after;
+        k += 1;
+    }
+    Passed::Next(next)
+}
+
+fn clear(table: &mut [u32])
+    ensures { λ r. ⌜ now (table .exit) ≡ replicate (length (now (table .entry))) 0 ⌝ }
+{
+    let mut k = 0;
+    while k < table.len() {
+        table[k] = 0;
+        k += 1;
+    }
+}
+
+// Fills a table that has its own places and zeros there. After a refusal the plan and the table are of no use.
+fn fill(file: &[u8], table: &mut [u32]) -> Reading
+    requires { ⌜ now table ≡ replicate places 0 ⌝ }
+    ensures { λ r. ⌜ FillAnswer (readFile (now (file .entry))) r (now (table .exit)) ⌝ }
+{
+    let mut names = [0u64; Edition::MOST_JOBS];
+    let front = read_front(file, &mut names);
+    let counted = front.answer;
+    let plan = front.plan;
+    let Field::Value(rows, at) = counted else {
+        return Reading {
+            answer: Answer::Refused(field_refusal(counted)),
+            plan,
+        };
+    };
+    let count = plan.count;
+    let spans = intervals_of(plan);
+    let stored = store_rows(file, at, rows as usize, &names[..count], spans, table);
+    let Passed::Next(last) = stored else {
+        return Reading {
+            answer: Answer::Refused(passed_refusal(stored)),
+            plan,
+        };
+    };
+    let end = read_end(file, last);
+    let Passed::Next(_) = end else {
+        return Reading {
+            answer: Answer::Refused(passed_refusal(end)),
+            plan,
+        };
+    };
+    Reading {
+        answer: Answer::Read,
+        plan,
+    }
+}
+
+// A refusal leaves zeros: no plan, and nothing in the table.
+fn read_whole(file: &[u8], table: &mut [u32]) -> Reading
+    requires { ⌜ length (now table) ≡ places ⌝ }
+    ensures { λ r. ⌜ readTold r (now (table .exit)) ≡ leaves (readFile (now (file .entry))) [] ⌝ }
+{
+    clear(table);
+    let reading = fill(file, table);
+    let answer = reading.answer;
+    let Answer::Read = answer else {
+        clear(table);
+        return Reading {
+            answer,
+            plan: no_plan(),
+        };
+    };
+    reading
+}
+
+// Reads a plan file into the lent table.
+pub fn read(file: &[u8], table: &mut [u32]) -> Reading
+    ensures { λ r. ⌜ readTold r (now (table .exit)) ≡ reader (now (file .entry)) (now (table .entry)) ⌝ }
+{
+    if table.len() < Edition::PLACES {
+        return Reading {
+            answer: Answer::Refused(BUFFER_TOO_SHORT),
+            plan: no_plan(),
+        };
+    }
+    read_whole(file, &mut table[..Edition::PLACES])
+}

@@ -1,0 +1,137 @@
+// Reading one row, and the search for its job.
+use crate::field::Field;
+use crate::field::NONE;
+use crate::field::field_refusal;
+use crate::field::read_field;
+use crate::field::read_named;
+use plan::edition::Edition;
+use plan::refusal::ROW_OUT_OF_ORDER;
+use plan::refusal::ROW_WITHOUT_INTERVAL;
+use plan::refusal::ROW_WITHOUT_JOB;
+use plan::refusal::ROW_WITHOUT_UNITS;
+ghost use mathlib.Core.Path.{_≡_};
+ghost use Prim.Native.Nat.{ℕ, _≤_, _<_, _^_};
+ghost use mathlib.Core.Bool.{not};
+ghost use lib.Dec.{ltb, eqb};
+ghost use lib.ListN.{length, getD};
+ghost use Rattle.plan.specs.Edition.{mostJobs, mostIntervals};
+ghost use Rattle.plan.specs.Refusal.{rowWithoutInterval, rowWithoutUnits};
+ghost use Rattle.planfile.specs.Reading.{position, checked, oneRow};
+ghost use Rattle.planfile.specs.Answers.{Distinct, fieldTold, fieldValue, rowTold, rowRefusal};
+
+// The place of a row, the job that it is a place of, and the units that stand there.
+pub struct Row {
+    pub job: usize,
+    pub at: usize,
+    pub units: u32,
+}
+
+pub enum RowRead {
+    Row(Row, usize),
+    Refused(u8),
+}
+
+pub fn row_refusal(r: RowRead) -> u8
+    ensures { λ n. ⌜ n ≡ rowRefusal r ⌝ }
+{
+    match r {
+        RowRead::Row(_, _) => NONE,
+        RowRead::Refused(number) => number,
+    }
+}
+
+// The first position from a start on where a name stands; past the last where there is none.
+fn find_from(names: &[u64], name: u64, start: usize) -> usize
+    ensures within { λ r. ⌜ r ≤ length (now (names .entry)) ⌝ }
+    ensures before { λ r. ⌜ ((k : ℕ) → start ≤ k → k < r → getD (now (names .entry)) k 0 ≡ name → ⊥) ⌝ }
+    ensures found { λ r. ⌜ (r < length (now (names .entry)) → getD (now (names .entry)) r 0 ≡ name) ⌝ }
+{
+    let mut k = start;
+    while k < names.len() {
+        if names[k] == name {
+            return k;
+        }
+        k += 1;
+    }
+    names.len()
+}
+
+// The position of a name among names that differ. Rows rise, so the search starts at the last row's job and goes round to the first.
+fn find(names: &[u64], name: u64, start: usize) -> usize
+    requires { ⌜ Distinct (now names) ⌝ }
+    ensures { λ r. ⌜ r ≡ position (now (names .entry)) name ⌝ }
+{
+    let ahead = find_from(names, name, start);
+    if ahead < names.len() {
+        return ahead;
+    }
+    find_from(names, name, 0)
+}
+
+fn read_interval(file: &[u8], at: usize, spans: usize) -> Field
+    ensures { λ r. ⌜ (fieldTold r ≡ checked 2 (λ j. ltb j spans) rowWithoutInterval (now (file .entry)) at) × (fieldValue r < 256 ^ 2) ⌝ }
+{
+    let two = read_field(file, at, 2);
+    let Field::Value(interval, next) = two else {
+        return two;
+    };
+    if interval as usize >= spans {
+        return Field::Refused(ROW_WITHOUT_INTERVAL);
+    }
+    two
+}
+
+fn read_units(file: &[u8], at: usize) -> Field
+    ensures { λ r. ⌜ (fieldTold r ≡ checked 4 (λ u. not (eqb u 0)) rowWithoutUnits (now (file .entry)) at) × (fieldValue r < 256 ^ 4) ⌝ }
+{
+    let four = read_field(file, at, 4);
+    let Field::Value(units, next) = four else {
+        return four;
+    };
+    if units == 0 {
+        return Field::Refused(ROW_WITHOUT_UNITS);
+    }
+    four
+}
+
+// One row of a plan with these names and this many intervals. Its place is to be no lower than low; the search starts at job start.
+pub fn read_row(
+    file: &[u8],
+    at: usize,
+    names: &[u64],
+    spans: usize,
+    low: usize,
+    start: usize,
+) -> RowRead
+    requires { ⌜ Distinct (now names) × (length (now names) ≤ mostJobs) ⌝ }
+    ensures { λ r. ⌜ rowTold r ≡ oneRow mostIntervals (now (names .entry)) spans low (now (file .entry)) at ⌝ }
+{
+    let named = read_named(file, at, Edition::ROW_LENGTH as u64);
+    let Field::Value(name, after_name) = named else {
+        return RowRead::Refused(field_refusal(named));
+    };
+    let job = find(names, name, start);
+    if names.len() <= job {
+        return RowRead::Refused(ROW_WITHOUT_JOB);
+    }
+    let placed = read_interval(file, after_name, spans);
+    let Field::Value(interval, after_interval) = placed else {
+        return RowRead::Refused(field_refusal(placed));
+    };
+    let counted = read_units(file, after_interval);
+    let Field::Value(units, next) = counted else {
+        return RowRead::Refused(field_refusal(counted));
+    };
+    let here = Edition::MOST_INTERVALS * job + interval as usize;
+    if here < low {
+        return RowRead::Refused(ROW_OUT_OF_ORDER);
+    }
+    RowRead::Row(
+        Row {
+            job,
+            at: here,
+            units: units as u32,
+        },
+        next,
+    )
+}
