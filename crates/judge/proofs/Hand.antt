@@ -1,13 +1,13 @@
 -- What a plan in hand has that is refused neither by 22 nor by 21: a long enough table, rules that hold, and boundaries.
-use mathlib.Core.Path.{_≡_, sym, _∙_}
+use mathlib.Core.Path.{_≡_, refl, sym, _∙_}
 use mathlib.Core.Bool.{true, not, _&&_}
-use mathlib.Core.List.{List, [], _∷_}
-use Prim.Native.Nat.{ℕ, suc, _≤_}
+use mathlib.Core.List.{List, [], _∷_, _++_}
+use Prim.Native.Nat.{ℕ, zero, suc, _-_, _≤_}
 use native.Mathlib.Omega.{arith}
 use borrow.Author.Tests.{ltb-false, leb-true, not-false}
 use lib.Dec.{leb, ltb}
-use lib.ListN.{length, take}
-use Rattle.plan.specs.Edition.{mostJobs, mostIntervals, places}
+use lib.ListN.{length, getD, take, replicate}
+use Rattle.plan.specs.Edition.{mostJobs, mostBoundaries, mostIntervals, places}
 use Rattle.plan.specs.Refusal.{unsound, bufferTooShort}
 use Rattle.plan.specs.Rules.{counted, countHolds, ratesHold, namesHold, namesDiffer, gradesHold, boundsHold, rulesHold, deadline}
 use Rattle.plan.specs.Boundaries.{insert, boundariesTo, intervals, inRoom}
@@ -60,3 +60,17 @@ boundaries-some p (suc n) h = insert-some (deadline p n) _
 -- The boundaries are what the room shows of its first places.
 pub shown : (times : List ℕ) (count : ℕ) (l : List ℕ) → times ≡ inRoom l → count ≡ length l → take count times ≡ l
 shown times count l t e = rw (t, e) (room-take l)
+
+-- Past the boundaries their room has nothing.
+pub room-at : (l : List ℕ) (k : ℕ) → getD (inRoom l) k 0 ≡ getD l k 0
+room-at l k = after l (mostBoundaries - length l) k
+  where
+    zeros : (n k : ℕ) → getD {A = ℕ} (replicate n 0) k 0 ≡ 0
+    zeros zero k = refl
+    zeros (suc n) zero = refl
+    zeros (suc n) (suc k) = zeros n k
+
+    after : (l : List ℕ) (n k : ℕ) → getD (l ++ replicate n 0) k 0 ≡ getD l k 0
+    after [] n k = zeros n k
+    after (x ∷ l) n zero = refl
+    after (x ∷ l) n (suc k) = after l n k

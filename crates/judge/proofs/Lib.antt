@@ -4,3 +4,5 @@ pub mod Running
 pub mod Times
 pub mod Demand
 pub mod Hand
+pub mod Signed
+pub mod Fold

@@ -1,13 +1,13 @@
 -- The laws of running sums: a turn of a loop, and a sum that a window lets through.
-use mathlib.Core.Path.{_≡_, sym, _∙_, ap}
-use mathlib.Core.Bool.{Bool, false, _&&_}
+use mathlib.Core.Path.{_≡_, refl, sym, _∙_, ap}
+use mathlib.Core.Bool.{Bool, true, false, _&&_}
 use Prim.Native.Nat.{ℕ, _+_, _-_, _≤_, _<_}
 use native.Mathlib.Decide.{decLt}
 use native.Mathlib.Omega.{arith}
 use borrow.Author.Tests.{lt-ltb, le-ltb, le-leb, lt-leb}
 use lib.Dec.{leb, ltb}
 use Rattle.sums.specs.Sum.{sum, on}
-use Rattle.sums.proofs.Laws.{sum-step, sum-ext, sum-none, sum-split}
+use Rattle.sums.proofs.Laws.{sum-start, sum-step, sum-ext, sum-none, sum-split}
 
 -- One term more, as a loop adds it.
 pub sum-next : (f : ℕ → ℕ) {so-far last : ℕ} (n : ℕ) → so-far ≡ sum f n → last ≡ f n → so-far + last ≡ sum f (n + 1)
@@ -54,3 +54,12 @@ sum-window f test l m n h t = go (decLt l m)
           middle,
           back,
         )
+
+-- Nothing is let through of nothing, and no terms give nothing.
+pub on-none : (t : Bool) → on t 0 ≡ 0
+on-none true = refl
+on-none false = refl
+
+pub sum-of-none : (test : ℕ → Bool) (f : ℕ → ℕ → ℕ) (m n : ℕ) → m ≡ 0 → sum (λ i. on (test i) (sum (f i) m)) n ≡ 0
+sum-of-none test f m n e =
+    sum-none _ n (λ i b. ap (λ k. on (test i) (sum (f i) k)) e ∙ ap (on (test i)) (sum-start (f i)) ∙ on-none (test i))

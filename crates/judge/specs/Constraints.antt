@@ -2,7 +2,7 @@
 use mathlib.Core.Path.{_≡_}
 use mathlib.Core.Bool.{Bool, false, _&&_}
 use mathlib.Core.List.{List}
-use Prim.Native.Nat.{ℕ, suc, _*_, _-_, _≤_, _<_}
+use Prim.Native.Nat.{ℕ, suc, _*_, _^_, _-_, _≤_, _<_}
 use lib.Dec.{leb}
 use lib.ListN.{getD}
 use Rattle.sums.specs.Sum.{sum, on}
@@ -15,6 +15,10 @@ use Rattle.plan.specs.declared.kinds.Plan.{Plan}
 -- The most that a place of the table can hold, in its 32 bits.
 abbrev pub mostAtPlace : ℕ
 mostAtPlace = 4_294_967_295
+
+-- Above every sum of units and all that a rate carries; a difference of two numbers below it has 64 bits.
+abbrev pub mostSide : ℕ
+mostSide = 2 ^ 62
 
 -- The units of job i in interval j.
 abbrev pub units : List ℕ → ℕ → ℕ → ℕ

@@ -1,9 +1,9 @@
 -- The slack figure: by how much the floor carries more than is asked of it, at the tightest pair.
-use mathlib.Core.Bool.{Bool, true, false, cond}
+use mathlib.Core.Bool.{cond}
 use mathlib.Core.List.{List, [], _∷_}
 use Prim.Native.Nat.{ℕ, zero, suc}
-use lib.Dec.{ltb}
-use lib.IntN.{ℤ, pos, negsuc, subℕ}
+use lib.IntN.{ℤ, subℕ}
+use lib.Signed.{ltZ}
 use Rattle.plan.specs.Boundaries.{boundary, intervals}
 use Rattle.plan.specs.declared.kinds.Plan.{Plan}
 use Rattle.judge.specs.Constraints.{demand, floorCarries}
@@ -12,13 +12,6 @@ use Rattle.judge.specs.Verdict.{Report, orElse, handFault, constraintFau
 -- The slack of interval l and deadline D: what the floor carries less the demand, below zero where the plan falls short.
 abbrev pub slackOf : Plan → List ℕ → ℕ → ℕ → ℤ
 slackOf p table l D = subℕ (floorCarries p l D) (demand p table l D)
-
--- One signed number is below another.
-abbrev pub below : ℤ → ℤ → Bool
-below (pos a) (pos b) = ltb a b
-below (pos a) (negsuc b) = false
-below (negsuc a) (pos b) = true
-below (negsuc a) (negsuc b) = ltb b a
 
 -- The figure: none essential; the least slack with its interval and deadline; or a refusal as by the judge.
 pub data Figure : Type 0 where
@@ -29,7 +22,7 @@ pub data Figure : Type 0 where
 -- Of the figure so far and one more pair, the lesser; the earlier where they are equal.
 abbrev pub lesser : Figure → ℤ → ℕ → ℕ → Figure
 lesser noneEssential s l D = least s l D
-lesser (least best l₀ D₀) s l D = cond (below s best) (least s l D) (least best l₀ D₀)
+lesser (least best l₀ D₀) s l D = cond (ltZ s best) (least s l D) (least best l₀ D₀)
 lesser (refused report) s l D = refused report
 
 -- A step for each number below a length, in rising order.

@@ -19,6 +19,14 @@ pub enum Verdict {
     BelowFloor(usize, Slots),
 }
 
+// The slack figure: none for a plan without HI jobs; the least slack with its first interval and deadline; or what the judge refuses,
+// but for the floor rule.
+pub enum Slack {
+    NoneEssential,
+    Least(i64, usize, Slots),
+    Refused(Verdict),
+}
+
 // Whether a verdict is that nothing is to be refused.
 pub fn is_accepted(v: Verdict) -> bool
     ensures { λ r. ⌜ r ≡ isNone (report v) ⌝ }

@@ -1,7 +1,7 @@
 // Rule 18, the floor rule: between an interval's start and a later HI deadline, no more is asked than the floor carries.
 use crate::answers::Verdict;
 use crate::answers::is_accepted;
-use crate::totals::elapsed;
+use crate::totals::carried;
 use plan::edition::Edition;
 use plan::kinds::HI;
 use plan::kinds::Plan;
@@ -82,7 +82,7 @@ fn is_short(p: Plan, table: &[u32], times: &[u32], l: usize, m: usize) -> bool
         return false;
     }
     let d = p.d;
-    let carries = d.over(elapsed(times[l], time));
+    let carries = carried(d, times[l], time);
     let demand = demand_of(p, table, l, (m - l) as u32, time);
     carries.0 < demand
 }

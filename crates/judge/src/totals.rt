@@ -4,6 +4,7 @@ use plan::edition::Edition;
 use plan::kinds::Plan;
 use plan::kinds::Rate;
 use plan::kinds::Slots;
+use plan::kinds::Units;
 use plan::rules::counted_of;
 use sums::sum_of;
 ghost use mathlib.Core.Path.{_≡_};
@@ -15,12 +16,12 @@ ghost use Rattle.sums.specs.Sum.{sum};
 ghost use Rattle.plan.specs.Edition.{mostJobs};
 ghost use Rattle.plan.specs.Refusal.{overCapacity};
 ghost use Rattle.plan.specs.Boundaries.{intervals};
-ghost use Rattle.judge.specs.Constraints.{units};
+ghost use Rattle.judge.specs.Constraints.{mostSide, units};
 ghost use Rattle.judge.specs.Verdict.{first, fault, totalFault};
 ghost use Rattle.judge.specs.Answers.{report};
 
 // The time from one boundary to another, none where the other comes before.
-pub fn elapsed(from: u32, to: u32) -> Slots
+fn elapsed(from: u32, to: u32) -> Slots
     ensures { λ r. ⌜ r ≡ record { 0 = to - from } ⌝ }
 {
     if from <= to {
@@ -28,6 +29,13 @@ pub fn elapsed(from: u32, to: u32) -> Slots
     } else {
         Slots(0)
     }
+}
+
+// The units that a rate carries from one time to another.
+pub fn carried(rate: Rate, from: u32, to: u32) -> Units
+    ensures { λ r. ⌜ (r .0 ≡ rate .0 * (to - from)) × (r .0 < mostSide) ⌝ }
+{
+    rate.over(elapsed(from, to))
 }
 
 // Rule 16 over all jobs.
@@ -54,7 +62,7 @@ fn is_over(n: Rate, jobs: usize, table: &[u32], from: u32, to: u32, j: usize) ->
     requires { ⌜ jobs ≤ mostJobs ⌝ }
     ensures { λ r. ⌜ r ≡ ltb (n .0 * (to - from)) (sum (λ i. units (now (table .entry)) i j) jobs) ⌝ }
 {
-    let most = n.over(elapsed(from, to));
+    let most = carried(n, from, to);
     let load = sum_of(table, j, Edition::MOST_INTERVALS, jobs as u32);
     most.0 < load
 }

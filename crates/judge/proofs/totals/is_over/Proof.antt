@@ -6,17 +6,13 @@ use native.Mathlib.Nat.{add-comm}
 use borrow.Author.Needs.{needs}
 use lib.Dec.{ltb}
 use lib.ListN.{getD}
-use Rattle.sums.proofs.Laws.{sum-ext}
 use Rattle.plan.specs.Edition.{mostIntervals}
-use Rattle.plan.specs.declared.kinds.Slots.{Slots}
+use Rattle.sums.proofs.Laws.{sum-ext}
 use Rattle.judge.proofs.totals.is_over.Statement.{statement}
 use Rattle.judge.proofs.totals.is_over.Tie as tie
 
-elapsed-requires : tie.Need-elapsed-requires
-elapsed-requires c κs = search needs
-
-over-requires : tie.Need-over-requires
-over-requires c κs = search needs
+carried-requires : tie.Need-carried-requires
+carried-requires c κs = search needs
 
 cast-sum-of : tie.Need-cast-sum-of
 cast-sum-of c = omega arith
@@ -26,10 +22,9 @@ sum-of-requires c κs = search needs
 
 returns : tie.Need-returns
 returns c =
-    let a = c .before .before .before .before .before .args in
-    ap₂ ltb (ap (λ u. u .0) (c .before .before .over .ensures) ∙ ap (λ (t : Slots). a .n .0 * t .0) (c .before .before .before .elapsed .ensures))
+    let a = c .before .before .before .before .args in
+    ap₂ ltb (c .before .before .carried .ensures .0)
     (c .before .sum-of .ensures ∙ sum-ext _ _ (a .jobs) (λ k l. ap (λ q. getD (a .table .now) q 0) (add-comm (a .j) (mostIntervals * k))))
 
 pub is-over-spec : {M : Type 1} → statement M
-is-over-spec =
-    tie.close (tie.spec elapsed-requires over-requires cast-sum-of sum-of-requires returns)
+is-over-spec = tie.close (tie.spec carried-requires cast-sum-of sum-of-requires returns)

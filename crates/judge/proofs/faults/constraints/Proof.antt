@@ -1,12 +1,12 @@
--- `judge::constraints` meets its contract: each rule answers only where those before it have nothing.
+-- `judge::faults::constraints` meets its contract: each rule answers only where those before it have nothing.
 use mathlib.Core.Path.{refl, sym, _∙_}
 use native.Mathlib.Omega.{arith}
 use borrow.Author.Needs.{needs}
 use Rattle.judge.specs.Verdict.{capacityFault}
 use Rattle.judge.proofs.First.{or-none}
 use Rattle.judge.proofs.First.{stops, passes}
-use Rattle.judge.proofs.constraints.Statement.{statement}
-use Rattle.judge.proofs.constraints.Tie as tie
+use Rattle.judge.proofs.faults.constraints.Statement.{statement}
+use Rattle.judge.proofs.faults.constraints.Tie as tie
 
 outside-window-requires : tie.Need-outside-window-requires
 outside-window-requires c κs = search needs

@@ -1,4 +1,4 @@
--- `judge::in_hand` meets its contract.
+-- `judge::faults::in_hand` meets its contract.
 use mathlib.Core.Path.{sym, _∙_, ap, ap₂}
 use mathlib.Core.Bool.{not}
 use mathlib.Core.List.{[], _∷_}
@@ -7,8 +7,8 @@ use borrow.Author.Tests.{lt-ltb, le-ltb}
 use Rattle.plan.specs.Refusal.{unsound, bufferTooShort}
 use Rattle.plan.specs.Table.{sound}
 use Rattle.judge.specs.Verdict.{fault, orElse}
-use Rattle.judge.proofs.in_hand.Statement.{statement}
-use Rattle.judge.proofs.in_hand.Tie as tie
+use Rattle.judge.proofs.faults.in_hand.Statement.{statement}
+use Rattle.judge.proofs.faults.in_hand.Tie as tie
 
 returns : tie.Need-returns
 returns c =

@@ -1,0 +1,46 @@
+// What judge and slack refuse alike: 22 and 21, then rules 15 to 17.
+use crate::answers::Verdict;
+use crate::answers::is_accepted;
+use crate::totals::over_capacity;
+use crate::totals::wrong_total;
+use crate::windows::outside_window;
+use plan::edition::Edition;
+use plan::kinds::Plan;
+use plan::rules::counted_of;
+use plan::table::sound_of;
+ghost use mathlib.Core.Path.{_≡_};
+ghost use Prim.Native.Nat.{_<_, _≤_};
+ghost use lib.ListN.{length};
+ghost use Rattle.plan.specs.Edition.{places};
+ghost use Rattle.plan.specs.Boundaries.{boundaries, intervals};
+ghost use Rattle.judge.specs.Verdict.{handFault, constraintFault};
+ghost use Rattle.judge.specs.Answers.{report};
+
+// What is refused before the constraints are looked at: 22, then 21.
+pub fn in_hand(p: Plan, table: &[u32]) -> Verdict
+    ensures { λ r. ⌜ report r ≡ handFault p (now (table .entry)) ⌝ }
+{
+    if table.len() < Edition::PLACES {
+        return Verdict::BufferTooShort;
+    }
+    if !sound_of(p, table) {
+        return Verdict::Unsound;
+    }
+    Verdict::Accepted
+}
+
+// Rules 15 to 17, which judge and slack share.
+pub fn constraints(p: Plan, table: &[u32], times: &[u32], spans: usize) -> Verdict
+    requires { ⌜ (now times ≡ boundaries p) × (spans ≡ intervals p) × (spans < length (now times)) × (places ≤ length (now table)) ⌝ }
+    ensures { λ r. ⌜ report r ≡ constraintFault p (now (table .entry)) ⌝ }
+{
+    let outside = outside_window(p, table, times, spans);
+    if !is_accepted(outside) {
+        return outside;
+    }
+    let wrong = wrong_total(p, table, spans);
+    if !is_accepted(wrong) {
+        return wrong;
+    }
+    over_capacity(p.n, counted_of(p), table, times, spans)
+}
