@@ -95,11 +95,16 @@ pub and-right : (a b : Bool) → (a && b) ≡ true → b ≡ true
 and-right true b e = e
 and-right false b e = absurd (true≢false (sym e))
 
--- What holds at every number below a length holds at each.
+-- What holds at every number below a length holds at each, and the other way round.
 pub every-at : (test : ℕ → Bool) (n k : ℕ) → every test n ≡ true → k < n → test k ≡ true
 unfolding every
 every-at test (suc n) k e h =
     below-or-last k n h (λ l. every-at test n k (and-left (every test n) (test n) e) l) (λ q. rw q (and-right (every test n) (test n) e))
+
+pub every-all : (test : ℕ → Bool) (n : ℕ) → ((k : ℕ) → k < n → test k ≡ true) → every test n ≡ true
+unfolding every
+every-all test zero h = refl
+every-all test (suc n) h = rw (every-all test n (λ k l. h k (omega arith)), h n (omega arith)) refl
 
 -- The extremes of functions that agree below a length are equal.
 pub least-ext : (f g : ℕ → ℕ) (n : ℕ) → ((k : ℕ) → k < n → f k ≡ g k) → least f n ≡ least g n

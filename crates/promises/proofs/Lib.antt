@@ -5,3 +5,5 @@ pub mod Same
 pub mod Slots
 pub mod Demand3
 pub mod Strategy
+pub mod Exact
+pub mod Demands

@@ -1,0 +1,82 @@
+-- The tender's demands as theorems over the definitions that the public calls are promised by, each with an instance that meets its premises.
+use mathlib.Core.Path.{_≡_, refl, ap}
+use mathlib.Core.Bool.{Bool, true, _&&_}
+use mathlib.Core.List.{List, [], _∷_}
+use Prim.Native.Nat.{ℕ, _≤_, _<_}
+use native.Mathlib.Omega.{arith}
+use borrow.Author.Tests.{ltb-true}
+use lib.Dec.{leb, ltb, lit<, lit≤}
+use Rattle.sums.specs.Sum.{sum}
+use Rattle.plan.specs.Edition.{mostRate}
+use Rattle.plan.specs.Below
+use Rattle.plan.specs.Rules.{counted, size, nameAllowed, namesHold, namesDiffer, gradesHold, boundsHold, rulesHold, ratesHold, countHolds}
+use Rattle.plan.specs.Boundaries.{insert, boundariesTo, come}
+use Rattle.plan.specs.Table.{noStray, sound}
+use Rattle.plan.specs.declared.kinds.Plan.{Plan}
+use Rattle.plan.proofs.Below.{and-left, and-right}
+use Rattle.judge.specs.Verdict.{isNone, first, outsideFault, totalFault, capacityFault, isHiDeadline, floorFault, judged}
+use Rattle.dispatch.specs.Turns
+use Rattle.dispatch.specs.Step.{started, slotSound, slotFault, granted, added, advanced, stepped}
+use Rattle.promises.specs.Cases.{Case, planOf, tableOf, P1, P9}
+use Rattle.promises.specs.Night.{Call, runAfter, had, Allowed, Kept, nightAt, Between, CorrectStrategy}
+use Rattle.promises.proofs.Sound.{Ruled}
+use Rattle.promises.proofs.Demand3.{kept}
+use Rattle.promises.proofs.Strategy
+use Rattle.promises.proofs.Strategy.{night-allowed}
+use Rattle.promises.proofs.Exact.{sound-is, accepted-is, rules-of}
+
+-- Demand 3. For every plan and table that the judge accepts, and every night begun from them in which each call was refused or has the
+-- accepted plan and table, unchanged, and a speed from floor to normal: what is promised to depositors is kept.
+pub promise-kept : (p : Plan) (table : List ℕ) → judged p table ≡ [] → (night : List Call) → Allowed p table night → Kept p night
+promise-kept p table e night a =
+    let none : isNone (judged p table) ≡ true = ap isNone e in
+    kept p table (rules-of p table (sound-is p table none)) (accepted-is p table none) night a
+
+-- Every accepted plan has a correct scheduling strategy.
+pub strategy-is-correct : (p : Plan) (table : List ℕ) → judged p table ≡ [] → CorrectStrategy p table
+unfolding sound rulesHold
+strategy-is-correct p table e =
+    let none : isNone (judged p table) ≡ true = ap isNone e in
+    let s = sound-is p table none in
+    let r2 : Bool = ratesHold p && countHolds p in
+    let r3 : Bool = r2 && namesHold p in
+    let r4 : Bool = r3 && namesDiffer p in
+    let r5 : Bool = r4 && gradesHold p in
+    let rates : ratesHold p ≡ true
+    = and-left (ratesHold p) (countHolds p)
+    (and-left r2 (namesHold p) (and-left r3 (namesDiffer p) (and-left r4 (gradesHold p) (and-left r5 (boundsHold p) (and-left (r5 && boundsHold p) _ s))))) in
+    let below = ltb-true (p .d .0) (p .n .0)
+    (and-right (leb 1 (p .d .0)) (ltb (p .d .0) (p .n .0)) (and-left (leb 1 (p .d .0) && ltb (p .d .0) (p .n .0)) (leb (p .n .0) mostRate) rates)) in
+    Strategy.correct-strategy p table (rules-of p table s) (omega arith) (accepted-is p table none)
+
+-- Plan E meets the premises at speeds 2 2 2 1 1 1 1 and on to its last deadline; so does P9 at speeds 2 1.
+abbrev planE : Plan
+planE = planOf (P1 .jobs)
+
+abbrev tableE : List ℕ
+tableE = tableOf (P1 .rows)
+
+-- The latest first.
+abbrev speedsE : List ℕ
+speedsE = 1 ∷ 1 ∷ 1 ∷ 1 ∷ 1 ∷ 1 ∷ 1 ∷ 2 ∷ 2 ∷ 2 ∷ []
+
+accepted-E : judged planE tableE ≡ []
+unfolding tableOf sum Below.every nameAllowed namesHold namesDiffer gradesHold boundsHold rulesHold insert boundariesTo noStray sound first outsideFault totalFault capacityFault isHiDeadline floorFault judged
+accepted-E = refl
+
+kept-in-E : Kept planE (nightAt planE tableE speedsE)
+kept-in-E = promise-kept planE tableE accepted-E (nightAt planE tableE speedsE) (night-allowed planE tableE speedsE (omega arith))
+
+-- There mirror-A, whose deadline the clock has then reached, has had exactly its eight units.
+mirror-A-met : had planE (nightAt planE tableE speedsE) 1 ≡ 8
+unfolding tableOf sum Below.every Below.least Below.greatest gradesHold boundsHold insert boundariesTo come runAfter started slotSound slotFault granted Turns.order Turns.line Turns.enqueue Turns.serve added advanced stepped
+mirror-A-met = kept-in-E .essential 1 (lit< tt) refl (lit≤ tt) .0
+
+accepted-P9 : judged (planOf (P9 .jobs)) (tableOf (P9 .rows)) ≡ []
+unfolding tableOf sum Below.every nameAllowed namesHold namesDiffer gradesHold boundsHold rulesHold insert boundariesTo noStray sound first outsideFault totalFault capacityFault isHiDeadline floorFault judged
+accepted-P9 = refl
+
+kept-in-P9 : Kept (planOf (P9 .jobs)) (nightAt (planOf (P9 .jobs)) (tableOf (P9 .rows)) (1 ∷ 2 ∷ []))
+kept-in-P9 =
+    promise-kept (planOf (P9 .jobs)) (tableOf (P9 .rows)) accepted-P9 (nightAt (planOf (P9 .jobs)) (tableOf (P9 .rows)) (1 ∷ 2 ∷ []))
+    (night-allowed (planOf (P9 .jobs)) (tableOf (P9 .rows)) (1 ∷ 2 ∷ []) (omega arith))
