@@ -43,6 +43,10 @@ pub none-fault : (t : Bool) (number : ℕ) (places : Report) → isNone (fault (
 none-fault true number places = refl
 none-fault false number places = refl
 
+pub none-plain : (t : Bool) (number : ℕ) (places : Report) → isNone (fault t (number ∷ places)) ≡ not t
+none-plain true number places = refl
+none-plain false number places = refl
+
 pub fault-none : (t : Bool) (number : ℕ) (places : Report) → isNone (fault t (number ∷ places)) ≡ true → t ≡ false
 fault-none true number places h = sym h
 fault-none false number places h = refl

@@ -1,10 +1,10 @@
 -- What a plan in hand has that is refused neither by 22 nor by 21: a long enough table, rules that hold, and boundaries.
-use mathlib.Core.Path.{_≡_, refl, sym, _∙_}
+use mathlib.Core.Path.{_≡_, refl, sym, _∙_, ap₂}
 use mathlib.Core.Bool.{true, not, _&&_}
 use mathlib.Core.List.{List, [], _∷_, _++_}
 use Prim.Native.Nat.{ℕ, zero, suc, _-_, _≤_}
 use native.Mathlib.Omega.{arith}
-use borrow.Author.Tests.{ltb-false, leb-true, not-false}
+use borrow.Author.Tests.{ltb-false, le-ltb, leb-true, not-false}
 use lib.Dec.{leb, ltb}
 use lib.ListN.{length, getD, take, replicate}
 use Rattle.plan.specs.Edition.{mostJobs, mostBoundaries, mostIntervals, places}
@@ -14,7 +14,7 @@ use Rattle.plan.specs.Boundaries.{insert, boundariesTo, intervals, inRoom}
 use Rattle.plan.specs.Table.{sound, noStray}
 use Rattle.plan.specs.declared.kinds.Plan.{Plan}
 use Rattle.plan.proofs.Rising.{insert-grows, room-take}
-use Rattle.judge.specs.Verdict.{fault, isNone, handFault}
+use Rattle.judge.specs.Verdict.{orElse, fault, isNone, handFault}
 use Rattle.judge.proofs.Tests.{both}
 use Rattle.judge.proofs.First.{empty-none, none-or, fault-none}
 
@@ -27,6 +27,10 @@ hand-none p table h =
       ltb-false (length table) places (fault-none (ltb (length table) places) bufferTooShort [] (both-none .0)),
       not-false (sound p table) (fault-none (not (sound p table)) unsound [] (both-none .1)),
     )
+
+pub hand-sound : (p : Plan) (table : List ℕ) → places ≤ length table → sound p table ≡ true → handFault p table ≡ []
+hand-sound p table h e =
+    ap₂ (λ a b. orElse (fault a (bufferTooShort ∷ [])) (fault (not b) (unsound ∷ []))) (le-ltb (length table) places h) e
 
 -- A sound plan has a job.
 pub sound-rules : (p : Plan) (table : List ℕ) → sound p table ≡ true → rulesHold p ≡ true

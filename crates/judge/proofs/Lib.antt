@@ -6,3 +6,6 @@ pub mod Demand
 pub mod Hand
 pub mod Signed
 pub mod Fold
+pub mod Enough
+pub mod Exact
+pub mod Places

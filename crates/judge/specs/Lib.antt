@@ -2,3 +2,4 @@ pub mod Constraints
 pub mod Verdict
 pub mod Slack
 pub mod Answers
+pub mod Decided
