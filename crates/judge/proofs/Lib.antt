@@ -9,3 +9,6 @@ pub mod Fold
 pub mod Enough
 pub mod Exact
 pub mod Places
+pub mod Separate
+pub mod Figures
+pub mod Apart
