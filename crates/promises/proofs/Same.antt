@@ -20,15 +20,15 @@ use Rattle.plan.specs.Same.{Same}
 use Rattle.plan.specs.declared.kinds.Job.{Job}
 use Rattle.plan.specs.declared.kinds.Rate.{Rate}
 use Rattle.plan.specs.declared.kinds.Plan.{Plan}
-use Rattle.plan.proofs.Below.{every-ext, least-ext, greatest-ext, and-left}
+use Rattle.plan.proofs.Below.{every-ext, least-ext, greatest-ext, and-left, and-right}
 use Rattle.plan.proofs.Rising.{boundaries-ext}
 use Rattle.plan.proofs.Timeline.{present-inside}
 use Rattle.judge.specs.Verdict.{Report, orElse, fault}
 use Rattle.dispatch.specs.declared.Run.{Run}
 use Rattle.dispatch.specs.Dues.{carriedOf, live, slowAfter, belowAfter, goal, due}
 use Rattle.dispatch.specs.Turns.{line, order, serve}
-use Rattle.dispatch.specs.Step.{slotSound, slotFault, granted, added, advanced, Slot, slotBy, stepped}
-use Rattle.dispatch.proofs.Line.{stands, if-less, neither, line-ext, serve-ext, stands-both, stands-below}
+use Rattle.dispatch.specs.Step.{slotSound, slotFault, granted, added, advanced, Slot, slotBy, stepped, outcome}
+use Rattle.dispatch.proofs.Line.{stands, if-true, if-less, neither, line-ext, serve-ext, stands-both, stands-below}
 use Rattle.promises.proofs.Sound.{SlotSound, slot-sound}
 
 -- Where nothing is refused, neither the first fault nor any later one is there.
@@ -72,22 +72,22 @@ done p table run v grants e =
     last false e′ = refl
 
 module _ (p : Plan) (table : List ℕ) (q : Plan) (other : List ℕ) (same : Same p table q other) where
-  counted-same : counted p ≡ counted q
+  pub counted-same : counted p ≡ counted q
   counted-same = ap (λ c. min c mostJobs) (same .count)
 
-  release-same : (i : ℕ) → i < counted p → release p i ≡ release q i
+  pub release-same : (i : ℕ) → i < counted p → release p i ≡ release q i
   release-same i h = ap (λ j. j .release .0) (same .jobs i h)
 
-  deadline-same : (i : ℕ) → i < counted p → deadline p i ≡ deadline q i
+  pub deadline-same : (i : ℕ) → i < counted p → deadline p i ≡ deadline q i
   deadline-same i h = ap (λ j. j .deadline .0) (same .jobs i h)
 
-  size-same : (i : ℕ) → i < counted p → size p i ≡ size q i
+  pub size-same : (i : ℕ) → i < counted p → size p i ≡ size q i
   size-same i h = ap (λ j. j .size .0) (same .jobs i h)
 
-  hi-same : (i : ℕ) → i < counted p → isHi p i ≡ isHi q i
+  pub hi-same : (i : ℕ) → i < counted p → isHi p i ≡ isHi q i
   hi-same i h = ap (λ j. eqb (j .grade) hi) (same .jobs i h)
 
-  boundaries-same : boundaries p ≡ boundaries q
+  pub boundaries-same : boundaries p ≡ boundaries q
   boundaries-same = boundaries-ext p q (counted p) release-same deadline-same ∙ ap (boundariesTo q) counted-same
 
   first-same : firstRelease p ≡ firstRelease q
@@ -97,7 +97,7 @@ module _ (p : Plan) (table : List ℕ) (q : Plan) (other : List ℕ) (same : Sam
   last-same = greatest-ext (deadline p) (deadline q) (counted p) deadline-same ∙ ap (greatest (deadline q)) counted-same
 
   -- Rules that test each counted record hold of both.
-  every-same : (test : Job → Bool) → every (λ i. test (jobOf p i)) (counted p) ≡ every (λ i. test (jobOf q i)) (counted q)
+  pub every-same : (test : Job → Bool) → every (λ i. test (jobOf p i)) (counted p) ≡ every (λ i. test (jobOf q i)) (counted q)
   every-same test =
       every-ext (λ i. test (jobOf p i)) (λ i. test (jobOf q i)) (counted p) (λ i h. ap test (same .jobs i h))
       ∙ ap (every (λ i. test (jobOf q i))) counted-same
@@ -118,7 +118,7 @@ module _ (p : Plan) (table : List ℕ) (q : Plan) (other : List ℕ) (same : Sam
       (every-ext _ _ (counted p) (λ i h. ap (leb (carriedOf run i)) (size-same i h)) ∙ ap (every _) counted-same)
 
   -- A table of the same places is long enough or not alike.
-  long-same : ltb (length table) places ≡ ltb (length other) places
+  pub long-same : ltb (length table) places ≡ ltb (length other) places
   long-same =
       let lengths : min places (length table) ≡ min places (length other)
       = sym (length-take places table) ∙ ap length (same .cells) ∙ length-take places other in
@@ -218,3 +218,18 @@ module _ (p : Plan) (table : List ℕ) (q : Plan) (other : List ℕ) (same : Sam
           let a = advanced-same run v grants g in
           λ t. record { answer = []; run = a t; grants = g t }
       go (number ∷ rest) e = refl
+
+  -- The outcome of a job rests on the counted records alone.
+  pub same-outcome : (run : Run) (i : ℕ) → outcome p run i ≡ outcome q run i
+  unfolding outcome
+  same-outcome run i =
+      if-true (slotSound p run && ltb i (p .count))
+      (λ e.
+        let here : i < counted p = counts e in
+        rw (sound-same run, same .count, size-same i here, hi-same i here, deadline-same i here) refl)
+      (λ e. let e′ : (slotSound q run && ltb i (q .count)) ≡ false = rw (← (sound-same run), ← (same .count)) e in rw (e, e′) refl)
+    where
+      counts : (slotSound p run && ltb i (p .count)) ≡ true → i < counted p
+      counts e =
+          let s = slot-sound p run (and-left (slotSound p run) (ltb i (p .count)) e) in
+          omega (arith, s .rules .count, ltb-true i (p .count) (and-right (slotSound p run) (ltb i (p .count)) e))

@@ -1,0 +1,153 @@
+-- Plans that are the same get the same verdict and the same slack figure.
+use mathlib.Core.Path.{_≡_, refl, sym, _∙_, ap, ap₂}
+use mathlib.Core.Bool.{Bool, not, cond, _&&_, _||_}
+use mathlib.Core.List.{List, [], _∷_}
+use Prim.Native.Nat.{ℕ, zero, suc, _+_, _*_, _-_, _≤_, _<_}
+use native.Mathlib.Omega.{arith}
+use lib.Dec.{leb, ltb, eqb}
+use lib.IntN.{ℤ, subℕ}
+use lib.ListN.{length, getD, take}
+use lib.Seq.{getD-take}
+use Rattle.sums.specs.Sum.{sum, on}
+use Rattle.sums.proofs.Laws.{sum-ext}
+use Rattle.plan.specs.Edition.{mostIntervals, places}
+use Rattle.plan.specs.Refusal.{outsideWindow, wrongTotal, overCapacity, belowFloorRule, unsound, bufferTooShort}
+use Rattle.plan.specs.Below.{every}
+use Rattle.plan.specs.Rules.{counted, name, release, size, deadline, isHi, nameAllowed, sameName, gradeAllowed, windowAllowed, sizeAllowed, ratesAllowed, countAllowed, namesHold, namesDiffer, gradesHold, boundsHold, rulesHold}
+use Rattle.plan.specs.Boundaries.{boundaries, boundary, intervals}
+use Rattle.plan.specs.Table.{noStray, sound}
+use Rattle.plan.specs.Same.{Same}
+use Rattle.plan.specs.declared.kinds.Job.{Job}
+use Rattle.plan.specs.declared.kinds.Rate.{Rate}
+use Rattle.plan.specs.declared.kinds.Plan.{Plan}
+use Rattle.plan.proofs.Below.{every-ext}
+use Rattle.plan.proofs.Rising.{boundaries-few}
+use Rattle.judge.specs.Constraints.{units, inWindow, span, total, load, unitsBetween, demand, floorCarries}
+use Rattle.judge.specs.Verdict.{Report, orElse, fault, first, isStray, outsideFault, totalFault, capacityFault, isHiDeadline, isPair, fallsShort, floorFault, handFault, constraintFault, judged}
+use Rattle.judge.proofs.First.{first-ext}
+use Rattle.promises.proofs.Same.{counted-same, release-same, deadline-same, size-same, hi-same, boundaries-same, every-same, long-same}
+
+module _ (p : Plan) (table : List ℕ) (q : Plan) (other : List ℕ) (same : Same p table q other) where
+  jobs-same : counted p ≡ counted q
+  jobs-same = counted-same p table q other same
+
+  intervals-same : intervals p ≡ intervals q
+  intervals-same = ap (λ l. length l - 1) (boundaries-same p table q other same)
+
+  boundary-same : (j : ℕ) → boundary p j ≡ boundary q j
+  boundary-same j = ap (λ l. getD l j 0) (boundaries-same p table q other same)
+
+  name-same : (i : ℕ) → i < counted p → name p i ≡ name q i
+  name-same i h = ap (λ j. j .name .0) (same .jobs i h)
+
+  names-differ-same : namesDiffer p ≡ namesDiffer q
+  unfolding namesDiffer
+  names-differ-same =
+      every-ext _ _ (counted p)
+      (λ i h. every-ext _ _ i (λ k l. ap₂ (λ a b. not (sameName a b)) (name-same k (omega arith)) (name-same i h)))
+      ∙ ap (every _) jobs-same
+
+  rules-same : rulesHold p ≡ rulesHold q
+  unfolding rulesHold namesHold gradesHold boundsHold
+  rules-same =
+      ap₂ _&&_
+      (ap₂ _&&_
+        (ap₂ _&&_
+          (ap₂ _&&_
+            (ap₂ _&&_ (ap₂ (λ (n : Rate) (d : Rate). ratesAllowed (n .0) (d .0)) (same .n) (same .d)) (ap countAllowed (same .count)))
+            (every-same p table q other same (λ j. nameAllowed (j .name .0))))
+          names-differ-same)
+        (every-same p table q other same (λ j. gradeAllowed (j .grade))))
+      (every-same p table q other same (λ j. windowAllowed (j .release .0) (j .deadline .0) && sizeAllowed (j .size .0)))
+
+  sound-same : sound p table ≡ sound q other
+  unfolding sound
+  sound-same = rw (rules-same, same .cells, intervals-same, jobs-same) refl
+
+  -- What is allotted in a job's intervals stands among the table's own places.
+  units-same : (i j : ℕ) → i < counted p → j < intervals p → units table i j ≡ units other i j
+  units-same i j h k =
+      let inside : mostIntervals * i + j < places = omega (arith, boundaries-few p (counted p)) in
+      sym (getD-take places table (mostIntervals * i + j) 0 inside) ∙ ap (λ c. getD c (mostIntervals * i + j) 0) (same .cells)
+      ∙ getD-take places other (mostIntervals * i + j) 0 inside
+
+  window-same : (i j : ℕ) → i < counted p → inWindow p i j ≡ inWindow q i j
+  window-same i j h =
+      ap₂ _&&_
+      (ap₂ leb (release-same p table q other same i h) (boundary-same j))
+      (ap₂ leb (boundary-same (suc j)) (deadline-same p table q other same i h))
+
+  outside-same : outsideFault p table ≡ outsideFault q other
+  unfolding outsideFault
+  outside-same =
+      first-ext _ _ (counted p)
+      (λ i h.
+        first-ext _ _ (intervals p)
+        (λ j k. ap₂ (λ a u. fault (not (a || eqb u 0)) (outsideWindow ∷ i ∷ j ∷ [])) (window-same i j h) (units-same i j h k))
+        ∙ ap (first _) intervals-same)
+      ∙ ap (first _) jobs-same
+
+  totals-same : totalFault p table ≡ totalFault q other
+  unfolding totalFault
+  totals-same =
+      first-ext _ _ (counted p)
+      (λ i h.
+        ap₂ (λ t s. fault (not (eqb t s)) (wrongTotal ∷ i ∷ []))
+        (sum-ext _ _ (intervals p) (λ j k. units-same i j h k) ∙ ap (sum (units other i)) intervals-same)
+        (size-same p table q other same i h))
+      ∙ ap (first _) jobs-same
+
+  span-same : (j : ℕ) → span p j ≡ span q j
+  span-same j = ap₂ _-_ (boundary-same (suc j)) (boundary-same j)
+
+  capacity-same : capacityFault p table ≡ capacityFault q other
+  unfolding capacityFault
+  capacity-same =
+      first-ext _ _ (intervals p)
+      (λ j k.
+        ap₂ (λ c l. fault (ltb c l) (overCapacity ∷ j ∷ []))
+        (ap₂ (λ (r : Rate) s. r .0 * s) (same .n) (span-same j))
+        (sum-ext _ _ (counted p) (λ i h. units-same i j h k) ∙ ap (sum (λ i. units other i j)) jobs-same))
+      ∙ ap (first _) intervals-same
+
+  demand-same : (l D : ℕ) → demand p table l D ≡ demand q other l D
+  demand-same l D =
+      sum-ext _ _ (counted p)
+      (λ i h.
+        ap₂ on
+        (ap₂ (λ a b. a && leb b D) (hi-same p table q other same i h) (deadline-same p table q other same i h))
+        (sum-ext _ _ (intervals p) (λ j k. ap₂ (λ b u. on (leb l j && leb b D) u) (boundary-same (suc j)) (units-same i j h k))
+        ∙ ap (sum _) intervals-same))
+      ∙ ap (sum _) jobs-same
+
+  carries-same : (l D : ℕ) → floorCarries p l D ≡ floorCarries q l D
+  carries-same l D = ap₂ (λ (r : Rate) b. r .0 * (D - b)) (same .d) (boundary-same l)
+
+  hi-deadline-same : (D : ℕ) → isHiDeadline p D ≡ isHiDeadline q D
+  unfolding isHiDeadline
+  hi-deadline-same D =
+      ap not
+      (every-ext _ _ (counted p)
+        (λ i h. ap₂ (λ a b. not (a && eqb b D)) (hi-same p table q other same i h) (deadline-same p table q other same i h))
+      ∙ ap (every _) jobs-same)
+
+  pair-same : (l m : ℕ)
+      → fault (isPair p l m && fallsShort p table l m) (belowFloorRule ∷ l ∷ boundary p m ∷ [])
+      ≡ fault (isPair q l m && fallsShort q other l m) (belowFloorRule ∷ l ∷ boundary q m ∷ [])
+  pair-same l m =
+      rw (boundary-same m, hi-deadline-same (boundary q m), carries-same l (boundary q m), demand-same l (boundary q m)) refl
+
+  floor-same : floorFault p table ≡ floorFault q other
+  unfolding floorFault
+  floor-same =
+      first-ext _ _ (intervals p)
+      (λ l k.
+        first-ext _ _ (suc (intervals p))
+        (λ m e. pair-same l m)
+        ∙ ap (first (λ m. fault (isPair q l m && fallsShort q other l m) (belowFloorRule ∷ l ∷ boundary q m ∷ []))) (ap suc intervals-same))
+      ∙ ap (first _) intervals-same
+
+  -- The judge cannot tell plans that are the same apart.
+  pub same-verdict : judged p table ≡ judged q other
+  unfolding judged
+  same-verdict = rw (long-same p table q other same, sound-same, outside-same, totals-same, capacity-same, floor-same) refl
