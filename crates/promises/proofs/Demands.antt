@@ -1,5 +1,5 @@
 -- The tender's demands as theorems over the definitions that the public calls are promised by, each with an instance that meets its premises.
-use mathlib.Core.Path.{_≡_, refl, ap}
+use mathlib.Core.Path.{_≡_, refl}
 use mathlib.Core.Bool.{Bool, true, _&&_}
 use mathlib.Core.List.{List, [], _∷_}
 use Prim.Native.Nat.{ℕ, _≤_, _<_}
@@ -14,30 +14,36 @@ use Rattle.plan.specs.Boundaries.{insert, boundariesTo, come}
 use Rattle.plan.specs.Table.{noStray, sound}
 use Rattle.plan.specs.declared.kinds.Plan.{Plan}
 use Rattle.plan.proofs.Below.{and-left, and-right}
-use Rattle.judge.specs.Verdict.{isNone, first, outsideFault, totalFault, capacityFault, isHiDeadline, floorFault, judged}
+use Rattle.judge.specs.Constraints.{Accepted}
+use Rattle.judge.specs.Verdict.{first, outsideFault, totalFault, capacityFault, isHiDeadline, floorFault, judged}
+use Rattle.judge.proofs.Exact.{accepted-parts, exact}
+use Rattle.judge.proofs.Hand.{hand-none}
 use Rattle.dispatch.specs.Turns
 use Rattle.dispatch.specs.Step.{started, slotSound, slotFault, granted, added, advanced, stepped}
 use Rattle.promises.specs.Cases.{Case, planOf, tableOf, P1, P9}
 use Rattle.promises.specs.Night.{Call, runAfter, had, Allowed, Kept, nightAt, Between, CorrectStrategy}
-use Rattle.promises.proofs.Sound.{Ruled}
+use Rattle.promises.proofs.Sound.{rules-of}
 use Rattle.promises.proofs.Demand3.{kept}
 use Rattle.promises.proofs.Strategy
 use Rattle.promises.proofs.Strategy.{night-allowed}
-use Rattle.promises.proofs.Exact.{sound-is, accepted-is, rules-of}
+
+-- What an accepted plan is: its table has all its places, it is sound, and figure 2 holds.
+accepted-is : (p : Plan) (table : List ℕ) → judged p table ≡ [] → (sound p table ≡ true) × Accepted p table
+accepted-is p table e = exact p table (hand-none p table (accepted-parts p table e .0) .0) .0 e
 
 -- Demand 3. For every plan and table that the judge accepts, and every night begun from them in which each call was refused or has the
 -- accepted plan and table, unchanged, and a speed from floor to normal: what is promised to depositors is kept.
 pub promise-kept : (p : Plan) (table : List ℕ) → judged p table ≡ [] → (night : List Call) → Allowed p table night → Kept p night
 promise-kept p table e night a =
-    let none : isNone (judged p table) ≡ true = ap isNone e in
-    kept p table (rules-of p table (sound-is p table none)) (accepted-is p table none) night a
+    let w = accepted-is p table e in
+    kept p table (rules-of p table (w .0)) (w .1) night a
 
 -- Every accepted plan has a correct scheduling strategy.
 pub strategy-is-correct : (p : Plan) (table : List ℕ) → judged p table ≡ [] → CorrectStrategy p table
 unfolding sound rulesHold
 strategy-is-correct p table e =
-    let none : isNone (judged p table) ≡ true = ap isNone e in
-    let s = sound-is p table none in
+    let w = accepted-is p table e in
+    let s = w .0 in
     let r2 : Bool = ratesHold p && countHolds p in
     let r3 : Bool = r2 && namesHold p in
     let r4 : Bool = r3 && namesDiffer p in
@@ -47,7 +53,7 @@ strategy-is-correct p table e =
     (and-left r2 (namesHold p) (and-left r3 (namesDiffer p) (and-left r4 (gradesHold p) (and-left r5 (boundsHold p) (and-left (r5 && boundsHold p) _ s))))) in
     let below = ltb-true (p .d .0) (p .n .0)
     (and-right (leb 1 (p .d .0)) (ltb (p .d .0) (p .n .0)) (and-left (leb 1 (p .d .0) && ltb (p .d .0) (p .n .0)) (leb (p .n .0) mostRate) rates)) in
-    Strategy.correct-strategy p table (rules-of p table s) (omega arith) (accepted-is p table none)
+    Strategy.correct-strategy p table (rules-of p table s) (omega arith) (w .1)
 
 -- Plan E meets the premises at speeds 2 2 2 1 1 1 1 and on to its last deadline; so does P9 at speeds 2 1.
 abbrev planE : Plan

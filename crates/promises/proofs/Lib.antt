@@ -6,5 +6,4 @@ pub mod SameVerdict
 pub mod Slots
 pub mod Demand3
 pub mod Strategy
-pub mod Exact
 pub mod Demands

@@ -225,8 +225,8 @@ module _ (p : Plan) (table : List ℕ) (q : Plan) (other : List ℕ) (same : Sam
   same-outcome run i =
       if-true (slotSound p run && ltb i (p .count))
       (λ e.
-        let here : i < counted p = counts e in
-        rw (sound-same run, same .count, size-same i here, hi-same i here, deadline-same i here) refl)
+      let here : i < counted p = counts e in
+      rw (sound-same run, same .count, size-same i here, hi-same i here, deadline-same i here) refl)
       (λ e. let e′ : (slotSound q run && ltb i (q .count)) ≡ false = rw (← (sound-same run), ← (same .count)) e in rw (e, e′) refl)
     where
       counts : (slotSound p run && ltb i (p .count)) ≡ true → i < counted p

@@ -52,12 +52,12 @@ module _ (p : Plan) (table : List ℕ) (q : Plan) (other : List ℕ) (same : Sam
   rules-same =
       ap₂ _&&_
       (ap₂ _&&_
-        (ap₂ _&&_
-          (ap₂ _&&_
-            (ap₂ _&&_ (ap₂ (λ (n : Rate) (d : Rate). ratesAllowed (n .0) (d .0)) (same .n) (same .d)) (ap countAllowed (same .count)))
-            (every-same p table q other same (λ j. nameAllowed (j .name .0))))
-          names-differ-same)
-        (every-same p table q other same (λ j. gradeAllowed (j .grade))))
+      (ap₂ _&&_
+      (ap₂ _&&_
+      (ap₂ _&&_ (ap₂ (λ (n : Rate) (d : Rate). ratesAllowed (n .0) (d .0)) (same .n) (same .d)) (ap countAllowed (same .count)))
+      (every-same p table q other same (λ j. nameAllowed (j .name .0))))
+      names-differ-same)
+      (every-same p table q other same (λ j. gradeAllowed (j .grade))))
       (every-same p table q other same (λ j. windowAllowed (j .release .0) (j .deadline .0) && sizeAllowed (j .size .0)))
 
   sound-same : sound p table ≡ sound q other
@@ -82,9 +82,9 @@ module _ (p : Plan) (table : List ℕ) (q : Plan) (other : List ℕ) (same : Sam
   outside-same =
       first-ext _ _ (counted p)
       (λ i h.
-        first-ext _ _ (intervals p)
-        (λ j k. ap₂ (λ a u. fault (not (a || eqb u 0)) (outsideWindow ∷ i ∷ j ∷ [])) (window-same i j h) (units-same i j h k))
-        ∙ ap (first _) intervals-same)
+      first-ext _ _ (intervals p)
+      (λ j k. ap₂ (λ a u. fault (not (a || eqb u 0)) (outsideWindow ∷ i ∷ j ∷ [])) (window-same i j h) (units-same i j h k))
+      ∙ ap (first _) intervals-same)
       ∙ ap (first _) jobs-same
 
   totals-same : totalFault p table ≡ totalFault q other
@@ -92,9 +92,9 @@ module _ (p : Plan) (table : List ℕ) (q : Plan) (other : List ℕ) (same : Sam
   totals-same =
       first-ext _ _ (counted p)
       (λ i h.
-        ap₂ (λ t s. fault (not (eqb t s)) (wrongTotal ∷ i ∷ []))
-        (sum-ext _ _ (intervals p) (λ j k. units-same i j h k) ∙ ap (sum (units other i)) intervals-same)
-        (size-same p table q other same i h))
+      ap₂ (λ t s. fault (not (eqb t s)) (wrongTotal ∷ i ∷ []))
+      (sum-ext _ _ (intervals p) (λ j k. units-same i j h k) ∙ ap (sum (units other i)) intervals-same)
+      (size-same p table q other same i h))
       ∙ ap (first _) jobs-same
 
   span-same : (j : ℕ) → span p j ≡ span q j
@@ -105,19 +105,19 @@ module _ (p : Plan) (table : List ℕ) (q : Plan) (other : List ℕ) (same : Sam
   capacity-same =
       first-ext _ _ (intervals p)
       (λ j k.
-        ap₂ (λ c l. fault (ltb c l) (overCapacity ∷ j ∷ []))
-        (ap₂ (λ (r : Rate) s. r .0 * s) (same .n) (span-same j))
-        (sum-ext _ _ (counted p) (λ i h. units-same i j h k) ∙ ap (sum (λ i. units other i j)) jobs-same))
+      ap₂ (λ c l. fault (ltb c l) (overCapacity ∷ j ∷ []))
+      (ap₂ (λ (r : Rate) s. r .0 * s) (same .n) (span-same j))
+      (sum-ext _ _ (counted p) (λ i h. units-same i j h k) ∙ ap (sum (λ i. units other i j)) jobs-same))
       ∙ ap (first _) intervals-same
 
   demand-same : (l D : ℕ) → demand p table l D ≡ demand q other l D
   demand-same l D =
       sum-ext _ _ (counted p)
       (λ i h.
-        ap₂ on
-        (ap₂ (λ a b. a && leb b D) (hi-same p table q other same i h) (deadline-same p table q other same i h))
-        (sum-ext _ _ (intervals p) (λ j k. ap₂ (λ b u. on (leb l j && leb b D) u) (boundary-same (suc j)) (units-same i j h k))
-        ∙ ap (sum _) intervals-same))
+      ap₂ on
+      (ap₂ (λ a b. a && leb b D) (hi-same p table q other same i h) (deadline-same p table q other same i h))
+      (sum-ext _ _ (intervals p) (λ j k. ap₂ (λ b u. on (leb l j && leb b D) u) (boundary-same (suc j)) (units-same i j h k))
+      ∙ ap (sum _) intervals-same))
       ∙ ap (sum _) jobs-same
 
   carries-same : (l D : ℕ) → floorCarries p l D ≡ floorCarries q l D
@@ -128,7 +128,7 @@ module _ (p : Plan) (table : List ℕ) (q : Plan) (other : List ℕ) (same : Sam
   hi-deadline-same D =
       ap not
       (every-ext _ _ (counted p)
-        (λ i h. ap₂ (λ a b. not (a && eqb b D)) (hi-same p table q other same i h) (deadline-same p table q other same i h))
+      (λ i h. ap₂ (λ a b. not (a && eqb b D)) (hi-same p table q other same i h) (deadline-same p table q other same i h))
       ∙ ap (every _) jobs-same)
 
   pair-same : (l m : ℕ)
@@ -142,9 +142,9 @@ module _ (p : Plan) (table : List ℕ) (q : Plan) (other : List ℕ) (same : Sam
   floor-same =
       first-ext _ _ (intervals p)
       (λ l k.
-        first-ext _ _ (suc (intervals p))
-        (λ m e. pair-same l m)
-        ∙ ap (first (λ m. fault (isPair q l m && fallsShort q other l m) (belowFloorRule ∷ l ∷ boundary q m ∷ []))) (ap suc intervals-same))
+      first-ext _ _ (suc (intervals p))
+      (λ m e. pair-same l m)
+      ∙ ap (first (λ m. fault (isPair q l m && fallsShort q other l m) (belowFloorRule ∷ l ∷ boundary q m ∷ []))) (ap suc intervals-same))
       ∙ ap (first _) intervals-same
 
   -- The judge cannot tell plans that are the same apart.

@@ -61,7 +61,7 @@ good-plan p table a =
           a .inside i j h k (rw (lt-leb (boundary p (suc j)) (deadline p i) e, and-false (leb (release p i) (boundary p j))) refl);
       exact = a .exact;
       within = a .within;
-      floor = λ l m i o e h c q. a .floor l m o e;
+      floor = a .floor;
     }
 
 -- What stands in a list after an addition.

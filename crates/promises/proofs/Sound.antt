@@ -1,14 +1,16 @@
 -- What a plan and a run that are sound for a slot are known by.
 use mathlib.Core.Path.{_≡_, refl, sym, _∙_, ap}
 use mathlib.Core.Bool.{Bool, true, _&&_}
+use mathlib.Core.List.{List}
 use Prim.Native.Nat.{ℕ, _≤_, _<_}
 use native.Mathlib.Omega.{arith}
 use borrow.Author.Tests.{leb-true, ltb-true}
 use lib.Dec.{leb, ltb}
 use Rattle.plan.specs.Edition.{mostJobs, mostIntervals, mostDeadline, mostSize}
 use Rattle.plan.specs.Below.{every}
-use Rattle.plan.specs.Rules.{counted, release, deadline, size, ratesHold, countHolds, gradesHold, boundsHold, windowAllowed, sizeAllowed}
+use Rattle.plan.specs.Rules.{counted, release, deadline, size, ratesHold, countHolds, namesHold, namesDiffer, gradesHold, boundsHold, rulesHold, windowAllowed, sizeAllowed}
 use Rattle.plan.specs.Boundaries.{intervals, firstRelease, lastDeadline}
+use Rattle.plan.specs.Table.{sound}
 use Rattle.plan.specs.declared.kinds.Plan.{Plan}
 use Rattle.plan.proofs.Below.{and-left, and-right, every-at}
 use Rattle.plan.proofs.Rising.{boundaries-few}
@@ -67,3 +69,17 @@ slot-sound p run e =
       not-over = leb-true (run .clock .0) (lastDeadline p) (and-right (r4 && from) to e6);
       carried = λ i h. leb-true (carriedOf run i) (size p i) (every-at _ (counted p) i (and-right (r4 && from && to) carry e) h);
     }
+
+-- The rules of a sound plan, as numbers.
+pub rules-of : (p : Plan) (table : List ℕ) → sound p table ≡ true → Ruled p
+unfolding sound rulesHold
+rules-of p table e =
+    let r2 : Bool = ratesHold p && countHolds p in
+    let r3 : Bool = r2 && namesHold p in
+    let r4 : Bool = r3 && namesDiffer p in
+    let r5 : Bool = r4 && gradesHold p in
+    let all : (r5 && boundsHold p) ≡ true = and-left (r5 && boundsHold p) _ e in
+    ruled p
+    (and-right (ratesHold p) (countHolds p)
+    (and-left r2 (namesHold p) (and-left r3 (namesDiffer p) (and-left r4 (gradesHold p) (and-left r5 (boundsHold p) all)))))
+    (and-right r5 (boundsHold p) all)

@@ -41,9 +41,7 @@ pub record Good (f : Facts) : Type 0 where
   pub late : (i j : ℕ) → i < f .N → j < f .K → f .dl i < f .b (suc j) → f .x i j ≡ 0
   pub exact : (i : ℕ) → i < f .N → sum (f .x i) (f .K) ≡ f .size i
   pub within : (j : ℕ) → j < f .K → sum (λ i. f .x i j) (f .N) ≤ f .n * (f .b (suc j) - f .b j)
-  -- The floor rule, at HI deadlines only: the laws below show that this is enough.
-  pub floor : (l m i : ℕ) → l < m → m ≤ f .K → i < f .N → f .hi i ≡ true → f .b m ≡ f .dl i
-      → sum (λ k. on (class f (f .b m) k) (between f l (f .b m) k)) (f .N) ≤ f .d * (f .b m - f .b l)
+  pub floor : (l m : ℕ) → l < m → m ≤ f .K → sum (λ i. on (class f (f .b m) i) (between f l (f .b m) i)) (f .N) ≤ f .d * (f .b m - f .b l)
 
 -- Two tests hold where both do.
 pub both : (a b : Bool) → (a && b) ≡ true → (a ≡ true) × (b ≡ true)
@@ -118,22 +116,14 @@ module _ (f : Facts) (good : Good f) where
           (λ g. rw (lt-leb (f .b (suc j)) (f .b m) g, good .late i j h o (omega arith)) refl)
           (λ g. rw (le-leb (f .b (suc j)) (f .b m) g) refl)
 
-  -- Some HI job below a count is due at a time, or none is.
-  abbrev Due : ℕ → ℕ → Type 0
-  Due D c = (i : ℕ) × (i < c) × (f .hi i ≡ true) × (f .dl i ≡ D)
-
-  abbrev NoneDue : ℕ → ℕ → Type 0
-  NoneDue D c = (i : ℕ) → i < c → f .hi i ≡ true → f .dl i ≢ D
-
-  due-at : (D c : ℕ) → Due D c ⊎ NoneDue D c
+  -- Some job below a count is due at a time, or none is.
+  due-at : (D c : ℕ) → ((i : ℕ) × (i < c) × (f .dl i ≡ D)) ⊎ ((i : ℕ) → i < c → f .dl i ≢ D)
   due-at D zero = inr (λ i h. absurd (omega arith))
-  due-at D (suc c) =
-      if-same (f .dl c) D
-      (λ q. if-true (f .hi c) (λ e. inl (c, omega arith, e, q)) (λ e. further (due-at D c) (λ e′ q′. true≢false (sym e′ ∙ e))))
-      (λ q. further (due-at D c) (λ e′. q))
+  due-at D (suc c) = if-same (f .dl c) D (λ q. inl (c, omega arith, q)) (λ q. further (due-at D c) q)
     where
-      further : Due D c ⊎ NoneDue D c → (f .hi c ≡ true → f .dl c ≢ D) → Due D (suc c) ⊎ NoneDue D (suc c)
-      further (inl w) q = inl (w .0, omega (arith, w .1), w .2, w .3)
+      further : ((i : ℕ) × (i < c) × (f .dl i ≡ D)) ⊎ ((i : ℕ) → i < c → f .dl i ≢ D) → f .dl c ≢ D
+          → ((i : ℕ) × (i < suc c) × (f .dl i ≡ D)) ⊎ ((i : ℕ) → i < suc c → f .dl i ≢ D)
+      further (inl w) q = inl (w .0, omega (arith, w .1), w .2)
       further (inr none) q = inr (λ i h. below-or-last i c h (none i) (λ e. rw e q))
 
   -- The floor tail: from every interval on, the HI jobs due by any time have at most what the floor carries until then.
@@ -149,16 +139,16 @@ module _ (f : Facts) (good : Good f) where
       S : ℕ → ℕ
       S t = sum (λ i. on (class f t i) (tail f l i)) (f .N)
 
-      at-deadline : Due (suc D) (f .N) → S (suc D) ≤ f .d * (suc D - f .b l)
+      at-deadline : (i : ℕ) × (i < f .N) × (f .dl i ≡ suc D) → S (suc D) ≤ f .d * (suc D - f .b l)
       at-deadline w = at-boundary (good .ends (w .0) (w .1))
         where
           at-boundary : (m : ℕ) × (m ≤ f .K) × (f .b m ≡ f .dl (w .0)) → S (suc D) ≤ f .d * (suc D - f .b l)
           at-boundary g =
-              let is : f .b (g .0) ≡ suc D = g .2 ∙ w .3 in
+              let is : f .b (g .0) ≡ suc D = g .2 ∙ w .2 in
               if-less l (g .0)
               (λ o. rw (← is)
               (rw (sum-ext _ _ (f .N) (λ i h. on-ext (class f (f .b (g .0)) i) _ _ (λ c. tail-between i l (g .0) h e (in-class (f .b (g .0)) i c))))
-              at (good .floor l (g .0) (w .0) o (g .1) (w .1) (w .2) (g .2))))
+              at (good .floor l (g .0) o (g .1))))
               (λ o. omega (
                 arith,
                 sum-none (λ i. on (class f (suc D) i) (tail f l i)) (f .N)
@@ -166,9 +156,10 @@ module _ (f : Facts) (good : Good f) where
                     (λ c. tail-ended i l h e (omega (arith, in-class (suc D) i c, rises (g .0) l o e)))),
               ))
 
-      between-deadlines : S D ≤ f .d * (D - f .b l) → NoneDue (suc D) (f .N) → S (suc D) ≤ f .d * (suc D - f .b l)
+      between-deadlines : S D ≤ f .d * (D - f .b l) → ((i : ℕ) → i < f .N → f .dl i ≢ suc D) → S (suc D) ≤ f .d * (suc D - f .b l)
       between-deadlines so-far none =
-          rw (sum-ext _ _ (f .N) same-term) (le-trans so-far (mul-le-mul-left (f .d) later))
+          rw (sum-ext _ _ (f .N) (λ i h. ap (λ t. on (f .hi i && t) (tail f l i)) (same-test i (none i h))))
+          (le-trans so-far (mul-le-mul-left (f .d) later))
         where
           later : D - f .b l ≤ suc D - f .b l
           later = omega arith
@@ -178,16 +169,3 @@ module _ (f : Facts) (good : Good f) where
               if-less D (f .dl i)
               (λ g. lt-leb (f .dl i) (suc D) (omega arith) ∙ sym (lt-leb (f .dl i) D g))
               (λ g. le-leb (f .dl i) (suc D) (omega arith) ∙ sym (le-leb (f .dl i) D g))
-
-          same-term : (i : ℕ) → i < f .N → on (class f (suc D) i) (tail f l i) ≡ on (class f D i) (tail f l i)
-          same-term i h =
-              if-true (f .hi i)
-              (λ c. ap (λ t. on (f .hi i && t) (tail f l i)) (same-test i (none i h c)))
-              (λ c. rw c refl)
-
-  -- So the floor rule holds at every later boundary, as the linear program has it.
-  pub floor-everywhere : (l m : ℕ) → l < m → m ≤ f .K
-      → sum (λ i. on (class f (f .b m) i) (between f l (f .b m) i)) (f .N) ≤ f .d * (f .b m - f .b l)
-  floor-everywhere l m o e =
-      rw (sum-ext _ _ (f .N) (λ i h. on-ext (class f (f .b m) i) _ _ (λ c. tail-between i l m h (omega arith) (in-class (f .b m) i c))))
-      (floor-tail l (f .b m) (omega arith))
