@@ -8,3 +8,6 @@ pub mod Apart
 pub mod Fronts
 pub mod Whole
 pub mod Extent
+pub mod Sets
+pub mod Pages
+pub mod Files

@@ -1,35 +1,40 @@
 -- Writing a plan file.
-use mathlib.Core.Bool.{true, false, not, cond}
+use mathlib.Core.Bool.{not, cond}
 use mathlib.Core.List.{List, [], _∷_, _++_}
-use Prim.Native.Nat.{ℕ, zero, suc, _+_, _*_, _/_, _%_}
+use Prim.Native.Nat.{ℕ, zero, suc, _/_, _%_}
 use lib.Dec.{ltb, eqb}
-use lib.ListN.{length, take, drop}
+use lib.ListN.{length, getD, take, drop}
 use Rattle.plan.specs.Edition.{mostIntervals, places, jobLength, rowLength}
 use Rattle.plan.specs.Refusal.{unsound, bufferTooShort}
-use Rattle.plan.specs.Rules.{counted, name, jobOf, release, size, deadline}
+use Rattle.plan.specs.Rules.{counted, names, jobOf}
 use Rattle.plan.specs.Table.{sound}
+use Rattle.plan.specs.declared.kinds.Job.{Job}
 use Rattle.plan.specs.declared.kinds.Plan.{Plan}
 use Rattle.planfile.specs.Bytes.{bytes}
 
--- The bytes of job i.
-abbrev pub jobBytes : Plan → ℕ → List ℕ
-jobBytes p i =
-    bytes 1 jobLength ++ bytes 8 (name p i) ++ bytes 1 (jobOf p i .grade) ++ bytes 4 (release p i) ++ bytes 4 (size p i)
-    ++ bytes 4 (deadline p i)
+-- The bytes of a job.
+abbrev pub jobBytes : Job → List ℕ
+jobBytes j =
+    bytes 1 jobLength ++ bytes 8 (j .name .0) ++ bytes 1 (j .grade) ++ bytes 4 (j .release .0) ++ bytes 4 (j .size .0)
+    ++ bytes 4 (j .deadline .0)
 
 -- The bytes of the first n jobs.
 unfoldable pub jobsBytes : Plan → ℕ → List ℕ
 jobsBytes p zero = []
-jobsBytes p (suc n) = jobsBytes p n ++ jobBytes p n
+jobsBytes p (suc n) = jobsBytes p n ++ jobBytes (jobOf p n)
 
--- The bytes of the row at place q.
-abbrev pub rowBytes : ℕ → Plan → ℕ → ℕ → List ℕ
-rowBytes width p q units = bytes 1 rowLength ++ bytes 8 (name p (q / width)) ++ bytes 2 (q % width) ++ bytes 4 units
+-- The bytes of a row: the job's name, the interval and the units.
+abbrev pub rowBytes : ℕ → ℕ → ℕ → List ℕ
+rowBytes name interval units = bytes 1 rowLength ++ bytes 8 name ++ bytes 2 interval ++ bytes 4 units
 
--- The bytes of the rows from place q on: zero allotments have no row.
-unfoldable pub rowsBytes : ℕ → Plan → ℕ → List ℕ → List ℕ
-rowsBytes width p q [] = []
-rowsBytes width p q (u ∷ l) = cond (eqb u 0) (rowsBytes width p (suc q) l) (rowBytes width p q u ++ rowsBytes width p (suc q) l)
+-- The bytes of what stands at place q of jobs with these names: a zero allotment has no row.
+abbrev pub rowAt : ℕ → List ℕ → ℕ → ℕ → List ℕ
+rowAt width names q units = cond (eqb units 0) [] (rowBytes (getD names (q / width) 0) (q % width) units)
+
+-- The bytes of the rows from place q on.
+unfoldable pub rowsBytes : ℕ → List ℕ → ℕ → List ℕ → List ℕ
+rowsBytes width names q [] = []
+rowsBytes width names q (u ∷ l) = rowAt width names q u ++ rowsBytes width names (suc q) l
 
 -- How many rows there are.
 unfoldable pub rowCount : List ℕ → ℕ
@@ -40,7 +45,7 @@ rowCount (u ∷ l) = cond (eqb u 0) (rowCount l) (suc (rowCount l))
 unfoldable pub body : Plan → List ℕ → List ℕ
 body p table =
     bytes 2 (p .n .0) ++ bytes 2 (p .d .0) ++ bytes 1 (p .count) ++ jobsBytes p (counted p) ++ bytes 2 (rowCount table)
-    ++ rowsBytes mostIntervals p 0 table
+    ++ rowsBytes mostIntervals (names p) 0 table
 
 -- The file of a plan and its table's own places.
 unfoldable pub written : Plan → List ℕ → List ℕ

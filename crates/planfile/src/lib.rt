@@ -4,5 +4,7 @@ mod front;
 mod head;
 mod job;
 pub mod lookup;
+mod put;
 pub mod reader;
 mod row;
+pub mod writer;
