@@ -1,19 +1,17 @@
 -- The tender's demands as theorems over the definitions that the public calls are promised by, each with an instance that meets its premises.
 use mathlib.Core.Path.{_≡_, refl}
-use mathlib.Core.Bool.{Bool, true, _&&_}
+use mathlib.Core.Bool.{true}
 use mathlib.Core.List.{List, [], _∷_}
-use Prim.Native.Nat.{ℕ, _≤_, _<_}
+use Prim.Native.Nat.{ℕ, zero, suc, _≤_, _<_}
 use native.Mathlib.Omega.{arith}
-use borrow.Author.Tests.{ltb-true}
-use lib.Dec.{leb, ltb, lit<, lit≤}
+use lib.Dec.{lit<, lit≤}
+use lib.ListN.{replicate}
 use Rattle.sums.specs.Sum.{sum}
-use Rattle.plan.specs.Edition.{mostRate}
 use Rattle.plan.specs.Below
-use Rattle.plan.specs.Rules.{counted, size, nameAllowed, namesHold, namesDiffer, gradesHold, boundsHold, rulesHold, ratesHold, countHolds}
+use Rattle.plan.specs.Rules.{counted, size, deadline, isHi, nameAllowed, namesHold, namesDiffer, gradesHold, boundsHold, rulesHold}
 use Rattle.plan.specs.Boundaries.{insert, boundariesTo, come}
 use Rattle.plan.specs.Table.{noStray, sound}
 use Rattle.plan.specs.declared.kinds.Plan.{Plan}
-use Rattle.plan.proofs.Below.{and-left, and-right}
 use Rattle.judge.specs.Constraints.{Accepted}
 use Rattle.judge.specs.Verdict.{first, outsideFault, totalFault, capacityFault, isHiDeadline, floorFault, judged}
 use Rattle.judge.proofs.Exact.{accepted-parts, exact}
@@ -24,8 +22,7 @@ use Rattle.promises.specs.Cases.{Case, planOf, tableOf, P1, P9}
 use Rattle.promises.specs.Night.{Call, runAfter, had, Allowed, Kept, nightAt, Between, CorrectStrategy}
 use Rattle.promises.proofs.Sound.{rules-of}
 use Rattle.promises.proofs.Demand3.{kept}
-use Rattle.promises.proofs.Strategy
-use Rattle.promises.proofs.Strategy.{night-allowed}
+use Rattle.promises.proofs.Strategy.{night-allowed, correct-strategy}
 
 -- What an accepted plan is: its table has all its places, it is sound, and figure 2 holds.
 accepted-is : (p : Plan) (table : List ℕ) → judged p table ≡ [] → (sound p table ≡ true) × Accepted p table
@@ -36,24 +33,26 @@ accepted-is p table e = exact p table (hand-none p table (accepted-parts p table
 pub promise-kept : (p : Plan) (table : List ℕ) → judged p table ≡ [] → (night : List Call) → Allowed p table night → Kept p night
 promise-kept p table e night a =
     let w = accepted-is p table e in
-    kept p table (rules-of p table (w .0)) (w .1) night a
+    kept p table (rules-of p table (w .0) .rules) (w .1) night a
 
 -- Every accepted plan has a correct scheduling strategy.
 pub strategy-is-correct : (p : Plan) (table : List ℕ) → judged p table ≡ [] → CorrectStrategy p table
-unfolding sound rulesHold
 strategy-is-correct p table e =
     let w = accepted-is p table e in
-    let s = w .0 in
-    let r2 : Bool = ratesHold p && countHolds p in
-    let r3 : Bool = r2 && namesHold p in
-    let r4 : Bool = r3 && namesDiffer p in
-    let r5 : Bool = r4 && gradesHold p in
-    let rates : ratesHold p ≡ true
-    = and-left (ratesHold p) (countHolds p)
-    (and-left r2 (namesHold p) (and-left r3 (namesDiffer p) (and-left r4 (gradesHold p) (and-left r5 (boundsHold p) (and-left (r5 && boundsHold p) _ s))))) in
-    let below = ltb-true (p .d .0) (p .n .0)
-    (and-right (leb 1 (p .d .0)) (ltb (p .d .0) (p .n .0)) (and-left (leb 1 (p .d .0) && ltb (p .d .0) (p .n .0)) (leb (p .n .0) mostRate) rates)) in
-    Strategy.correct-strategy p table (rules-of p table s) (omega arith) (w .1)
+    let r = rules-of p table (w .0) in
+    correct-strategy p table (r .rules) (omega (arith, r .rates)) (w .1)
+
+-- In a night at the floor throughout, every essential transfer has its size by its deadline.
+pub floor-night-meets : (p : Plan) (table : List ℕ) → judged p table ≡ [] → (slots i : ℕ) → i < counted p → isHi p i ≡ true
+    → deadline p i ≤ runAfter p (nightAt p table (replicate slots (p .d .0))) .clock .0
+    → had p (nightAt p table (replicate slots (p .d .0))) i ≡ size p i
+floor-night-meets p table e slots i k h o =
+    let r = rules-of p table (accepted-is p table e .0) in
+    strategy-is-correct p table e .degraded (replicate slots (p .d .0)) (at-floor (omega (arith, r .rates)) slots) i k h o
+  where
+    at-floor : p .d .0 ≤ p .n .0 → (slots : ℕ) → Between (p .d .0) (p .n .0) (replicate slots (p .d .0))
+    at-floor below zero = tt
+    at-floor below (suc slots) = (omega arith, below, at-floor below slots)
 
 -- Plan E meets the premises at speeds 2 2 2 1 1 1 1 and on to its last deadline; so does P9 at speeds 2 1.
 abbrev planE : Plan

@@ -6,7 +6,7 @@ use Prim.Native.Nat.{ℕ, _≤_, _<_}
 use native.Mathlib.Omega.{arith}
 use borrow.Author.Tests.{leb-true, ltb-true}
 use lib.Dec.{leb, ltb}
-use Rattle.plan.specs.Edition.{mostJobs, mostIntervals, mostDeadline, mostSize}
+use Rattle.plan.specs.Edition.{mostJobs, mostIntervals, mostRate, mostDeadline}
 use Rattle.plan.specs.Below.{every}
 use Rattle.plan.specs.Rules.{counted, release, deadline, size, ratesHold, countHolds, namesHold, namesDiffer, gradesHold, boundsHold, rulesHold, windowAllowed, sizeAllowed}
 use Rattle.plan.specs.Boundaries.{intervals, firstRelease, lastDeadline}
@@ -70,8 +70,12 @@ slot-sound p run e =
       carried = λ i h. leb-true (carriedOf run i) (size p i) (every-at _ (counted p) i (and-right (r4 && from && to) carry e) h);
     }
 
--- The rules of a sound plan, as numbers.
-pub rules-of : (p : Plan) (table : List ℕ) → sound p table ≡ true → Ruled p
+-- The rules of a sound plan, as numbers: rules 5 and 9, and that the floor is below the normal rate.
+pub record SoundPlan (p : Plan) : Type 0 where
+  pub rules : Ruled p
+  pub rates : p .d .0 < p .n .0
+
+pub rules-of : (p : Plan) (table : List ℕ) → sound p table ≡ true → SoundPlan p
 unfolding sound rulesHold
 rules-of p table e =
     let r2 : Bool = ratesHold p && countHolds p in
@@ -79,7 +83,10 @@ rules-of p table e =
     let r4 : Bool = r3 && namesDiffer p in
     let r5 : Bool = r4 && gradesHold p in
     let all : (r5 && boundsHold p) ≡ true = and-left (r5 && boundsHold p) _ e in
-    ruled p
-    (and-right (ratesHold p) (countHolds p)
-    (and-left r2 (namesHold p) (and-left r3 (namesDiffer p) (and-left r4 (gradesHold p) (and-left r5 (boundsHold p) all)))))
-    (and-right r5 (boundsHold p) all)
+    let both : r2 ≡ true = and-left r2 (namesHold p) (and-left r3 (namesDiffer p) (and-left r4 (gradesHold p) (and-left r5 (boundsHold p) all))) in
+    let low : Bool = leb 1 (p .d .0) in
+    let below : Bool = ltb (p .d .0) (p .n .0) in
+    record {
+      rules = ruled p (and-right (ratesHold p) (countHolds p) both) (and-right r5 (boundsHold p) all);
+      rates = ltb-true (p .d .0) (p .n .0) (and-right low below (and-left (low && below) (leb (p .n .0) mostRate) (and-left (ratesHold p) (countHolds p) both)));
+    }
