@@ -4,3 +4,4 @@ pub mod Sound
 pub mod Fills
 pub mod Told
 pub mod Never
+pub mod Fresh

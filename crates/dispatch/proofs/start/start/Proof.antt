@@ -1,24 +1,19 @@
 -- `dispatch::start::start` meets its contract: the verdict tells whether there is a run.
-use mathlib.Core.Path.{_≡_, refl, sym, _∙_, ap}
-use mathlib.Core.Bool.{false, true≢false}
-use mathlib.Core.List.{[], _∷_}
+use mathlib.Core.Path.{sym, _∙_, ap}
+use mathlib.Core.Bool.{false}
 use borrow.Author.Tests.{not-true}
 use borrow.Author.Needs.{needs}
 use lib.ListN.{replicate}
 use Rattle.plan.specs.Edition.{mostJobs}
 use Rattle.plan.specs.declared.kinds.Slots.{Slots}
-use Rattle.judge.specs.Verdict.{Report, isNone, judged}
+use Rattle.judge.specs.Verdict.{isNone, judged}
 use Rattle.judge.specs.Answers.{report}
 use Rattle.judge.proofs.First.{passes}
 use Rattle.dispatch.specs.declared.Run.{Run}
 use Rattle.dispatch.specs.Step.{started, noRun, startFrom}
+use Rattle.dispatch.proofs.Fresh.{stays}
 use Rattle.dispatch.proofs.start.start.Statement.{statement}
 use Rattle.dispatch.proofs.start.start.Tie as tie
-
--- After a refusal the record is what was there.
-stays : (r : Report) (run was : Run) → isNone r ≡ false → startFrom r run was ≡ was
-stays [] run was e = absurd (true≢false e)
-stays (number ∷ places) run was e = refl
 
 -- A run at a clock with nothing carried and both marks clear.
 abbrev fresh : Slots → Run

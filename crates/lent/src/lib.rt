@@ -1,0 +1,75 @@
+// The lent forms: a host keeps one run record and lends it to each call, which leaves there what the call by value hands back.
+use dispatch::Run;
+use dispatch::answers::Answer;
+use dispatch::start::Started;
+use dispatch::start::start;
+use dispatch::step::Stepped;
+use dispatch::step::step;
+use judge::answers::Verdict;
+use judge::answers::is_accepted;
+use plan::kinds::Plan;
+ghost use mathlib.Core.Path.{_≡_};
+ghost use Rattle.judge.specs.Verdict.{judged};
+ghost use Rattle.judge.specs.Answers.{report};
+ghost use Rattle.dispatch.specs.Step.{startIn, stepped};
+ghost use Rattle.dispatch.specs.Answers;
+
+// The two parts of what a step hands back.
+fn run_of(s: Stepped) -> Run
+    ensures { λ r. ⌜ r ≡ s .run ⌝ }
+{
+    s.run
+}
+
+fn answer_of(s: Stepped) -> Answer
+    ensures { λ r. ⌜ r ≡ s .answer ⌝ }
+{
+    s.answer
+}
+
+// Carries one slot at speed v on a lent run record.
+pub fn step_in(run: &mut Run, p: Plan, table: &[u32], v: u16, grants: &mut [u32]) -> Answer
+    ensures { λ r. ⌜ record { answer = Answers.report r; run = now (run .exit); grants = now (grants .exit) } ≡ stepped p (now (table .entry)) (now (run .entry)) v (now (grants .entry)) ⌝ }
+{
+    let was = *run;
+    let s = step(p, table, was, v, grants);
+    let next = run_of(s);
+    *run = next;
+    answer_of(s)
+}
+
+// The two parts of what a start hands back.
+fn started_run(s: Started) -> Run
+    ensures { λ r. ⌜ r ≡ s .run ⌝ }
+{
+    s.run
+}
+
+fn verdict_of(s: Started) -> Verdict
+    ensures { λ r. ⌜ r ≡ s .verdict ⌝ }
+{
+    s.verdict
+}
+
+// A start beside a record that was there: after a refusal that record stands in the place of the run.
+fn start_over(p: Plan, table: &[u32], was: Run) -> Started
+    ensures { λ r. ⌜ (report (r .verdict) ≡ judged p (now (table .entry))) × (r .run ≡ startIn p (now (table .entry)) was) ⌝ }
+{
+    let s = start(p, table);
+    let verdict = s.verdict;
+    if is_accepted(verdict) {
+        return s;
+    }
+    Started { verdict, run: was }
+}
+
+// Judges a plan, and starts its run in a lent record if it is accepted.
+pub fn start_in(run: &mut Run, p: Plan, table: &[u32]) -> Verdict
+    ensures { λ r. ⌜ (report r ≡ judged p (now (table .entry))) × (now (run .exit) ≡ startIn p (now (table .entry)) (now (run .entry))) ⌝ }
+{
+    let was = *run;
+    let s = start_over(p, table, was);
+    let next = started_run(s);
+    *run = next;
+    verdict_of(s)
+}
