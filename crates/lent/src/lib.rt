@@ -57,8 +57,12 @@ fn start_over(p: Plan, table: &[u32], was: Run) -> Started
 {
     let s = start(p, table);
     let verdict = s.verdict;
+    let fresh = s.run;
     if is_accepted(verdict) {
-        return s;
+        return Started {
+            verdict,
+            run: fresh,
+        };
     }
     Started { verdict, run: was }
 }
