@@ -1,0 +1,4 @@
+pub mod Growth
+pub mod Decimal
+pub mod Output
+pub mod Grants

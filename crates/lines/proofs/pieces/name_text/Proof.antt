@@ -1,0 +1,48 @@
+-- `lines::pieces::name_text` meets its contract: byte by byte.
+use mathlib.Core.Path.{refl}
+use native.Mathlib.Nat.{div-one}
+use borrow.Author.Needs.{needs}
+use Rattle.lines.proofs.pieces.name_text.Statement.{statement}
+use Rattle.lines.proofs.pieces.name_text.Tie as tie
+
+low-byte-requires : tie.Need-low-byte-requires
+low-byte-requires c κs = search needs
+
+low-byte-requires-2 : tie.Need-low-byte-requires-2
+low-byte-requires-2 c κs = search needs
+
+low-byte-requires-3 : tie.Need-low-byte-requires-3
+low-byte-requires-3 c κs = search needs
+
+low-byte-requires-4 : tie.Need-low-byte-requires-4
+low-byte-requires-4 c κs = search needs
+
+low-byte-requires-5 : tie.Need-low-byte-requires-5
+low-byte-requires-5 c κs = search needs
+
+low-byte-requires-6 : tie.Need-low-byte-requires-6
+low-byte-requires-6 c κs = search needs
+
+low-byte-requires-7 : tie.Need-low-byte-requires-7
+low-byte-requires-7 c κs = search needs
+
+low-byte-requires-8 : tie.Need-low-byte-requires-8
+low-byte-requires-8 c κs = search needs
+
+returns : tie.Need-returns
+returns c =
+    rw (c .before .before .before .before .before .before .before .low-byte .ensures, c .before .before .before .before .before .before .low-byte2 .ensures, c .before .before .before .before .before .low-byte3 .ensures, c .before .before .before .before .low-byte4 .ensures, c .before .before .before .low-byte5 .ensures, c .before .before .low-byte6 .ensures, c .before .low-byte7 .ensures, c .low-byte8 .ensures, div-one) refl
+
+pub name-text-spec : {M : Type 1} → statement M
+name-text-spec =
+    tie.close
+    (tie.spec
+    low-byte-requires
+    low-byte-requires-2
+    low-byte-requires-3
+    low-byte-requires-4
+    low-byte-requires-5
+    low-byte-requires-6
+    low-byte-requires-7
+    low-byte-requires-8
+    returns)

@@ -1,0 +1,25 @@
+-- `lines::print` meets its contract: all of the line, or nothing.
+use mathlib.Core.Path.{_∙_}
+use borrow.Author.Needs.{needs}
+use Rattle.lines.proofs.Output.{printed-short, printed-whole}
+use Rattle.lines.proofs.print.Statement.{statement}
+use Rattle.lines.proofs.print.Tie as tie
+
+returns : tie.Need-returns
+returns c =
+    let a = c .before .before .before .args in
+    printed-short (a .line .now) (a .out .now) (c .if1 .taken)
+
+put-requires : tie.Need-put-requires
+put-requires c κs = search needs
+
+same-length : tie.Need-same-length
+same-length c = search needs
+
+returns-2 : tie.Need-returns-2
+returns-2 c =
+    let a = c .before .before .before .before .before .before .before .args in
+    rw (c .before .before .put .ensures) (printed-whole (a .line .now) (a .out .now) (c .before .before .before .before .if1 .left))
+
+pub print-spec : {M : Type 1} → statement M
+print-spec = tie.close (tie.spec returns put-requires same-length returns-2)

@@ -1,0 +1,4 @@
+pub mod Text
+pub mod Growth
+pub mod Lines
+pub mod Answers

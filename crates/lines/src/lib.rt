@@ -1,0 +1,140 @@
+// What people read: every line that the program prints, made into a lent buffer. A call answers the line's length; a buffer that is
+// too short is refused and left as it was, and bytes past the line stay.
+mod pieces;
+
+use crate::pieces::MOST_DIGITS;
+use crate::pieces::NAME_BYTES;
+use crate::pieces::add;
+use crate::pieces::add_grants;
+use crate::pieces::add_name;
+use crate::pieces::add_number;
+use crate::pieces::add_times;
+use crate::pieces::mode_of;
+use crate::pieces::put;
+use dispatch::answers::Outcome;
+use plan::edition::Edition;
+use plan::kinds::Name;
+use plan::kinds::Plan;
+use plan::kinds::Slots;
+use plan::refusal::BUFFER_TOO_SHORT;
+ghost use mathlib.Core.Path.{_≡_};
+ghost use Prim.Native.Nat.{_≤_};
+ghost use lib.ListN.{length};
+ghost use Rattle.dispatch.specs.Answers.{ending};
+ghost use Rattle.lines.specs.Answers.{answer, printed, outcomePrinted};
+ghost use Rattle.lines.specs.Lines.{slotHeader, outcomeHeader, strayLine, refusedLine, slotLine, refusedSlotLine, outcomeLine};
+
+// No line is longer: two numbers with a space each, the mode, a grant for every job, and the line feed.
+pub const LONGEST_LINE: usize = 2 * (MOST_DIGITS + 1)
+    + 1
+    + Edition::MOST_JOBS * (1 + NAME_BYTES + 1 + MOST_DIGITS)
+    + 1;
+
+// What a line's call answers: the line's length, or a refusal.
+pub enum Printed {
+    Length(usize),
+    Refused(u8),
+}
+
+// Puts a line into a buffer, if there is room for all of it.
+fn print(line: &[u8], out: &mut [u8]) -> Printed
+    ensures { λ r. ⌜ record { answer = answer r; out = now (out .exit) } ≡ printed (now (line .entry)) (now (out .entry)) ⌝ }
+{
+    if out.len() < line.len() {
+        return Printed::Refused(BUFFER_TOO_SHORT);
+    }
+    put(out, 0, line);
+    Printed::Length(line.len())
+}
+
+// What stands above the slots.
+pub fn slot_header(out: &mut [u8]) -> Printed
+    ensures { λ r. ⌜ record { answer = answer r; out = now (out .exit) } ≡ printed slotHeader (now (out .entry)) ⌝ }
+{
+    print(b"slot speed mode grants\n", out)
+}
+
+// What stands above the outcomes.
+pub fn outcome_header(out: &mut [u8]) -> Printed
+    ensures { λ r. ⌜ record { answer = answer r; out = now (out .exit) } ≡ printed outcomeHeader (now (out .entry)) ⌝ }
+{
+    print(b"job outcome carried\n", out)
+}
+
+// What an odd last byte prints.
+pub fn stray_line(out: &mut [u8]) -> Printed
+    ensures { λ r. ⌜ record { answer = answer r; out = now (out .exit) } ≡ printed strayLine (now (out .entry)) ⌝ }
+{
+    print(b"stray byte\n", out)
+}
+
+// What a refused plan prints.
+pub fn refused_line(number: u8, out: &mut [u8]) -> Printed
+    ensures { λ r. ⌜ record { answer = answer r; out = now (out .exit) } ≡ printed (refusedLine number) (now (out .entry)) ⌝ }
+{
+    let mut line = [0u8; LONGEST_LINE];
+    let mut at = add(&mut line, 0, b"refused ");
+    at = add_number(&mut line, at, number as u32);
+    at = add(&mut line, at, b"\n");
+    print(&line[..at], out)
+}
+
+// The line of a slot: the clock before it, the speed, the slow mark after it, and the grants.
+pub fn slot_line(
+    clock: Slots,
+    speed: u16,
+    slow: bool,
+    p: Plan,
+    grants: &[u32],
+    out: &mut [u8],
+) -> Printed
+    ensures { λ r. ⌜ record { answer = answer r; out = now (out .exit) } ≡ printed (slotLine (clock .0) speed slow p (now (grants .entry))) (now (out .entry)) ⌝ }
+{
+    let mut line = [0u8; LONGEST_LINE];
+    let mut at = add_times(&mut line, clock, speed);
+    let mode = mode_of(slow);
+    at = add(&mut line, at, &mode);
+    at = add_grants(&mut line, at, p, grants);
+    at = add(&mut line, at, b"\n");
+    print(&line[..at], out)
+}
+
+// The line of a refused slot.
+pub fn refused_slot_line(clock: Slots, speed: u16, number: u8, out: &mut [u8]) -> Printed
+    ensures { λ r. ⌜ record { answer = answer r; out = now (out .exit) } ≡ printed (refusedSlotLine (clock .0) speed number) (now (out .entry)) ⌝ }
+{
+    let mut line = [0u8; LONGEST_LINE];
+    let mut at = add_times(&mut line, clock, speed);
+    at = add(&mut line, at, b"R ");
+    at = add_number(&mut line, at, number as u32);
+    at = add(&mut line, at, b"\n");
+    print(&line[..at], out)
+}
+
+// The line of a transfer that ended as a word says. No such word is longer than a number.
+fn word_line(name: Name, word: &[u8], carried: u32, out: &mut [u8]) -> Printed
+    requires { ⌜ length (now word) ≤ 10 ⌝ }
+    ensures { λ r. ⌜ record { answer = answer r; out = now (out .exit) } ≡ printed (outcomeLine (name .0) (now (word .entry)) carried) (now (out .entry)) ⌝ }
+{
+    let mut line = [0u8; LONGEST_LINE];
+    let mut at = add_name(&mut line, 0, name);
+    at = add(&mut line, at, b" ");
+    at = add(&mut line, at, word);
+    at = add(&mut line, at, b" ");
+    at = add_number(&mut line, at, carried);
+    at = add(&mut line, at, b"\n");
+    print(&line[..at], out)
+}
+
+// The line of a transfer. A refused outcome has no line: its number is the answer.
+pub fn outcome_line(name: Name, outcome: Outcome, carried: u32, out: &mut [u8]) -> Printed
+    ensures { λ r. ⌜ record { answer = answer r; out = now (out .exit) } ≡ outcomePrinted (name .0) (ending outcome) carried (now (out .entry)) ⌝ }
+{
+    match outcome {
+        Outcome::Met => word_line(name, b"met", carried, out),
+        Outcome::Discarded => word_line(name, b"discarded", carried, out),
+        Outcome::Missed => word_line(name, b"missed", carried, out),
+        Outcome::Open => word_line(name, b"open", carried, out),
+        Outcome::Refused(number) => Printed::Refused(number),
+    }
+}

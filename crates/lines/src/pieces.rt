@@ -1,0 +1,177 @@
+// The pieces of a line: words, numbers in decimal, names as their bytes. Each is put behind what the line has so far, and answers
+// where the line then ends.
+use plan::kinds::Name;
+use plan::kinds::Plan;
+use plan::kinds::Slots;
+use plan::rules::counted_of;
+ghost use mathlib.Core.Path.{_≡_};
+ghost use mathlib.Core.List.{_++_};
+ghost use Prim.Native.Nat.{_+_, _*_, _%_, _≤_};
+ghost use lib.ListN.{length, drop, getD};
+ghost use lib.Seq.{paste};
+ghost use Rattle.plan.specs.Edition.{mostJobs};
+ghost use Rattle.plan.specs.Rules.{counted};
+ghost use Rattle.lines.specs.Text.{text, decimal, nameText};
+ghost use Rattle.lines.specs.Lines.{modeText, grantText, grantsText, orDash};
+ghost use Rattle.lines.specs.Growth.{Grown, mostDigits, grantBytes};
+
+// The digits of a number of 32 bits, and the bytes of a name.
+pub(crate) const MOST_DIGITS: usize = 10;
+
+pub(crate) const NAME_BYTES: usize = 8;
+
+// Copies a text to a place.
+pub(crate) fn put(out: &mut [u8], at: usize, text: &[u8])
+    requires { ⌜ at + length (now text) ≤ length (now out) ⌝ }
+    ensures { λ _. ⌜ now (out .exit) ≡ paste (now (out .entry)) at (now (text .entry)) (length (now (text .entry))) ⌝ }
+{
+    let mut k = 0;
+    while k < text.len() {
+        out[at + k] = text[k];
+        k += 1;
+    }
+}
+
+// Puts a text behind the first bytes of a line.
+pub(crate) fn add(line: &mut [u8], at: usize, text: &[u8]) -> usize
+    requires { ⌜ at + length (now text) ≤ length (now line) ⌝ }
+    ensures { λ r. ⌜ Grown (now (line .entry)) (now (line .exit)) at r (now (text .entry)) ⌝ }
+{
+    put(line, at, text);
+    at + text.len()
+}
+
+// The digits of a number: they stand from a place to the end.
+struct Digits {
+    bytes: [u8; MOST_DIGITS],
+    from: usize,
+}
+
+// The digits of a number, the last one first found.
+fn digits_of(number: u32) -> Digits
+    ensures { λ r. ⌜ (drop (r .from) (r .bytes) ≡ decimal number) × (r .from ≤ mostDigits) × (length (r .bytes) ≡ mostDigits) ⌝ }
+{
+    let mut bytes = [0u8; MOST_DIGITS];
+    let mut from = MOST_DIGITS - 1;
+    let mut rest = number;
+    while 10 <= rest {
+        bytes[from] = b'0' + (rest % 10) as u8;
+        from -= 1;
+        rest = rest / 10;
+    }
+    bytes[from] = b'0' + rest as u8;
+    Digits { bytes, from }
+}
+
+// Puts a number in decimal behind the first bytes of a line.
+pub(crate) fn add_number(line: &mut [u8], at: usize, number: u32) -> usize
+    requires { ⌜ at + mostDigits ≤ length (now line) ⌝ }
+    ensures { λ r. ⌜ Grown (now (line .entry)) (now (line .exit)) at r (decimal number) × (r ≤ at + mostDigits) ⌝ }
+{
+    let digits = digits_of(number);
+    let bytes = digits.bytes;
+    let from = digits.from;
+    add(line, at, &bytes[from..])
+}
+
+// The lowest byte of a number.
+fn low_byte(x: u64) -> u8
+    ensures { λ r. ⌜ r ≡ x % 256 ⌝ }
+{
+    (x % 256) as u8
+}
+
+// The eight bytes of a name.
+fn name_text(name: Name) -> [u8; NAME_BYTES]
+    ensures { λ r. ⌜ r ≡ nameText (name .0) ⌝ }
+{
+    let x = name.0;
+    [
+        low_byte(x / 0x0100_0000_0000_0000),
+        low_byte(x / 0x01_0000_0000_0000),
+        low_byte(x / 0x0100_0000_0000),
+        low_byte(x / 0x01_0000_0000),
+        low_byte(x / 0x0100_0000),
+        low_byte(x / 0x01_0000),
+        low_byte(x / 0x0100),
+        low_byte(x),
+    ]
+}
+
+// Puts a name behind the first bytes of a line.
+pub(crate) fn add_name(line: &mut [u8], at: usize, name: Name) -> usize
+    requires { ⌜ at + 8 ≤ length (now line) ⌝ }
+    ensures { λ r. ⌜ Grown (now (line .entry)) (now (line .exit)) at r (nameText (name .0)) ⌝ }
+{
+    let bytes = name_text(name);
+    add(line, at, &bytes)
+}
+
+// Begins the line of a slot: its clock and its speed.
+pub(crate) fn add_times(line: &mut [u8], clock: Slots, speed: u16) -> usize
+    requires { ⌜ 2 * (mostDigits + 1) ≤ length (now line) ⌝ }
+    ensures { λ r. ⌜ Grown (now (line .entry)) (now (line .exit)) 0 r (decimal (clock .0) ++ text " " ++ decimal speed ++ text " ") × (r ≤ 2 * (mostDigits + 1)) ⌝ }
+{
+    let mut at = add_number(line, 0, clock.0);
+    at = add(line, at, b" ");
+    at = add_number(line, at, speed as u32);
+    add(line, at, b" ")
+}
+
+// The letter of the mode.
+pub(crate) fn mode_of(slow: bool) -> [u8; 1]
+    ensures { λ r. ⌜ r ≡ modeText slow ⌝ }
+{
+    if slow { [b'D'] } else { [b'N'] }
+}
+
+// What a grant row holds for job i: nothing past its end.
+fn grant_of(grants: &[u32], i: usize) -> u32
+    ensures { λ r. ⌜ r ≡ getD (now (grants .entry)) i 0 ⌝ }
+{
+    if i < grants.len() { grants[i] } else { 0 }
+}
+
+// Puts a grant behind the first bytes of a line, unless it is none.
+fn add_grant(line: &mut [u8], at: usize, name: Name, units: u32) -> usize
+    requires { ⌜ at + grantBytes ≤ length (now line) ⌝ }
+    ensures { λ r. ⌜ Grown (now (line .entry)) (now (line .exit)) at r (grantText (name .0) units) × (r ≤ at + grantBytes) ⌝ }
+{
+    if units == 0 {
+        return at;
+    }
+    let mut next = add(line, at, b" ");
+    next = add_name(line, next, name);
+    next = add(line, next, b"=");
+    add_number(line, next, units)
+}
+
+// Puts the grants of a plan's jobs behind the first bytes of a line.
+fn add_each_grant(line: &mut [u8], at: usize, p: Plan, grants: &[u32]) -> usize
+    requires { ⌜ at + mostJobs * grantBytes ≤ length (now line) ⌝ }
+    ensures { λ r. ⌜ Grown (now (line .entry)) (now (line .exit)) at r (grantsText p (now (grants .entry)) (counted p)) × (r ≤ at + mostJobs * grantBytes) ⌝ }
+{
+    let jobs = counted_of(p);
+    let mut next = at;
+    let mut i = 0;
+    while i < jobs {
+        let job = p.jobs[i];
+        let units = grant_of(grants, i);
+        next = add_grant(line, next, job.name, units);
+        i += 1;
+    }
+    next
+}
+
+// The same, and a dash where there are none.
+pub(crate) fn add_grants(line: &mut [u8], at: usize, p: Plan, grants: &[u32]) -> usize
+    requires { ⌜ at + mostJobs * grantBytes ≤ length (now line) ⌝ }
+    ensures { λ r. ⌜ Grown (now (line .entry)) (now (line .exit)) at r (orDash (grantsText p (now (grants .entry)) (counted p))) × (r ≤ at + mostJobs * grantBytes) ⌝ }
+{
+    let next = add_each_grant(line, at, p, grants);
+    if next == at {
+        add(line, at, b" -")
+    } else {
+        next
+    }
+}
