@@ -85,7 +85,7 @@ added-at (suc n) (x ∷ l) [] k below a b = absurd (omega arith)
 added-at (suc n) (x ∷ l) (y ∷ g) zero below a b = refl
 added-at (suc n) (x ∷ l) (y ∷ g) (suc k) below a b = added-at n l g k (omega arith) (omega arith) (omega arith)
 
-added-rest : (n : ℕ) (l g : List ℕ) (k : ℕ) → n ≤ k → getD (added n l g) k 0 ≡ getD l k 0
+pub added-rest : (n : ℕ) (l g : List ℕ) (k : ℕ) → n ≤ k → getD (added n l g) k 0 ≡ getD l k 0
 unfolding added
 added-rest zero l g k h = refl
 added-rest (suc n) [] g k h = refl

@@ -10,10 +10,11 @@ use Rattle.plan.specs.Rules.{counted}
 use Rattle.plan.specs.declared.kinds.Plan.{Plan}
 use Rattle.judge.specs.Verdict.{Report, judged}
 use Rattle.dispatch.specs.declared.Run.{Run}
-use Rattle.dispatch.specs.Dues.{live, slowAfter, due}
+use Rattle.dispatch.specs.Dues.{carriedOf, live, slowAfter, due}
 use Rattle.dispatch.specs.Shares.{served, claim}
 use Rattle.dispatch.specs.Step.{startFrom, startIn, slotFault, granted, advanced, slotBy, stepped, started}
 use Rattle.dispatch.proofs.Shares.{within-claim, all-served}
+use Rattle.dispatch.proofs.Fills.{added-rest, granted-rest}
 
 -- What is let through is no more than there is.
 on-less : (b : Bool) (x : ℕ) → on b x ≤ x
@@ -53,6 +54,26 @@ module _ (p : Plan) (table : List ℕ) (run : Run) (v : ℕ) (grants : List ℕ)
           → (slotBy f p table run v grants .run ≡ advanced p table run v grants) × (slotBy f p table run v grants .grants ≡ granted p table run v grants)
       by-fault [] e = (refl, refl)
       by-fault (number ∷ rest) e = absurd (let z : _≡_ {A = ℕ} 0 1 = cc in omega arith)
+
+  -- So a call that is done grants no more than its speed in all, no job more than its due, and nothing to a job that is not live.
+  pub done-within-speed : stepped p table run v grants .answer ≡ [] → sum (λ i. getD (stepped p table run v grants .grants) i 0) (counted p) ≤ v
+  done-within-speed e = rw (done-leaves e .1) never-above-speed
+
+  pub done-within-due : stepped p table run v grants .answer ≡ [] → (i : ℕ) → i < counted p
+      → getD (stepped p table run v grants .grants) i 0 ≤ due p table run (slowAfter p run v) i
+  done-within-due e i l = rw (done-leaves e .1) (never-above-due i l)
+
+  pub done-live-only : stepped p table run v grants .answer ≡ [] → (i : ℕ) → i < counted p → live p (run .clock .0) i ≡ false
+      → getD (stepped p table run v grants .grants) i 0 ≡ 0
+  done-live-only e i l dead = rw (done-leaves e .1) (never-unless-live i l dead)
+
+  -- Places from the job count on stay, in the grant row and in the run.
+  pub grants-beyond-stay : (k : ℕ) → counted p ≤ k → grant k ≡ getD grants k 0
+  grants-beyond-stay k h = granted-rest p table run v grants k h
+
+  pub carried-beyond-stays : (k : ℕ) → counted p ≤ k → carriedOf (advanced p table run v grants) k ≡ carriedOf run k
+  unfolding advanced
+  carried-beyond-stays k h = added-rest (counted p) (run .carried) (granted p table run v grants) k h
 
   -- A refused call changes nothing.
   pub refused-changes-nothing : (number : ℕ) (rest : Report) → stepped p table run v grants .answer ≡ number ∷ rest

@@ -45,7 +45,7 @@ fn goal_of(slow: bool, size: Units, allotted: Units) -> Units
     if size.0 <= allotted.0 { size } else { allotted }
 }
 
-// A claim on a slot: the goal less what is carried, if the job is served, and no more than the speed.
+// A claim on a slot: the goal less what is carried, if the job is served, and no more than the speed, which over one slot is a count of units.
 fn claim_of(served: bool, goal: Units, carried: Units, v: u16) -> u32
     ensures { λ r. ⌜ r ≡ min (on served (goal .0 - carried .0)) v ⌝ }
 {
