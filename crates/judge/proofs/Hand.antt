@@ -65,16 +65,17 @@ boundaries-some p (suc n) h = insert-some (deadline p n) _
 pub shown : (times : List ℕ) (count : ℕ) (l : List ℕ) → times ≡ inRoom l → count ≡ length l → take count times ≡ l
 shown times count l t e = rw (t, e) (room-take l)
 
+-- A row of zeros has nothing anywhere.
+pub zeros-at : (n k : ℕ) → getD {A = ℕ} (replicate n 0) k 0 ≡ 0
+zeros-at zero k = refl
+zeros-at (suc n) zero = refl
+zeros-at (suc n) (suc k) = zeros-at n k
+
 -- Past the boundaries their room has nothing.
 pub room-at : (l : List ℕ) (k : ℕ) → getD (inRoom l) k 0 ≡ getD l k 0
 room-at l k = after l (mostBoundaries - length l) k
   where
-    zeros : (n k : ℕ) → getD {A = ℕ} (replicate n 0) k 0 ≡ 0
-    zeros zero k = refl
-    zeros (suc n) zero = refl
-    zeros (suc n) (suc k) = zeros n k
-
     after : (l : List ℕ) (n k : ℕ) → getD (l ++ replicate n 0) k 0 ≡ getD l k 0
-    after [] n k = zeros n k
+    after [] n k = zeros-at n k
     after (x ∷ l) n zero = refl
     after (x ∷ l) n (suc k) = after l n k

@@ -12,3 +12,5 @@ pub mod Places
 pub mod Separate
 pub mod Figures
 pub mod Apart
+pub mod Columns
+pub mod Passes

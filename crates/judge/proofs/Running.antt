@@ -63,3 +63,7 @@ on-none false = refl
 pub sum-of-none : (test : ℕ → Bool) (f : ℕ → ℕ → ℕ) (m n : ℕ) → m ≡ 0 → sum (λ i. on (test i) (sum (f i) m)) n ≡ 0
 sum-of-none test f m n e =
     sum-none _ n (λ i b. ap (λ k. on (test i) (sum (f i) k)) e ∙ ap (on (test i)) (sum-start (f i)) ∙ on-none (test i))
+
+pub on-at-most : (t : Bool) (x b : ℕ) → x ≤ b → on t x ≤ b
+on-at-most true x b h = h
+on-at-most false x b h = omega arith

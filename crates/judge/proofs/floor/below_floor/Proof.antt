@@ -1,71 +1,76 @@
--- `judge::floor::below_floor` meets its contract: the first l intervals do not fall short.
-use mathlib.Core.Path.{sym, _∙_, ap, _≡_}
-use mathlib.Core.Bool.{_&&_}
-use mathlib.Core.List.{[], _∷_}
-use Prim.Native.Nat.{suc, _-_, _≤_}
+-- `judge::floor::below_floor` meets its contract.
+use mathlib.Core.Path.{sym, _∙_}
 use native.Mathlib.Omega.{arith}
 use borrow.Author.Needs.{needs}
-use borrow.Author.Tests.{not-true, not-false}
-use Rattle.plan.specs.Refusal.{belowFloorRule}
-use Rattle.plan.specs.Boundaries.{boundary, intervals}
-use Rattle.judge.specs.Verdict.{first, fault, isPair, fallsShort, floorFault, isNone}
-use Rattle.judge.proofs.First.{first-start, first-next, first-found, none-empty}
+use lib.Seq.{length-take-le, getD-take}
+use Rattle.judge.proofs.Passes.{nothing-short, short-at-lowest}
 use Rattle.judge.proofs.floor.below_floor.Statement.{statement}
 use Rattle.judge.proofs.floor.below_floor.Tie as tie
 
-abbrev Inv-loop : tie.InvT-loop
-Inv-loop p table times spans l₀ l =
-    (l ≤ spans) × (first (λ l. first (λ m. fault (isPair p l m && fallsShort p table l m) (belowFloorRule ∷ l ∷ boundary p m ∷ [])) (suc (intervals p))) l ≡ [])
+counted-of-requires : tie.Need-counted-of-requires
+counted-of-requires c κs = search needs
 
-abbrev μ-loop : tie.MeasureT-loop
-μ-loop p table times spans l₀ l = spans - l
+deadlines-of-requires : tie.Need-deadlines-of-requires
+deadlines-of-requires c κs = search needs
 
-loop-holds : tie.Need-loop-holds Inv-loop μ-loop
-loop-holds c = (omega arith, first-start _)
+grades-of-requires : tie.Need-grades-of-requires
+grades-of-requires c κs = search needs
 
-short-from-requires : tie.Need-short-from-requires Inv-loop μ-loop
-short-from-requires c κs =
-    (c .before .before .before .before .pre .0, omega arith, c .before .before .before .before .pre .1)
+array-share-prefix-deadlines : tie.Need-array-share-prefix-deadlines
+array-share-prefix-deadlines c = omega (arith, c .before .deadlines-of .ensures .0)
 
-is-accepted-requires : tie.Need-is-accepted-requires Inv-loop μ-loop
-is-accepted-requires c κs = search needs
+slice-aggregate-lowest-short : tie.Need-slice-aggregate-lowest-short
+slice-aggregate-lowest-short c =
+    sym (length-take-le (c .before .before .before .counted-of .result) (c .before .before .deadlines-of .result) (omega (arith, c .before .before .deadlines-of .ensures .0)))
 
-returns : tie.Need-returns Inv-loop μ-loop
-unfolding floorFault
+array-share-prefix-grades : tie.Need-array-share-prefix-grades
+array-share-prefix-grades c = omega (arith, c .before .grades-of .ensures .0)
+
+slice-aggregate-lowest-short-2 : tie.Need-slice-aggregate-lowest-short-2
+slice-aggregate-lowest-short-2 c =
+    sym (length-take-le (c .before .before .before .before .counted-of .result) (c .before .before .grades-of .result) (omega (arith, c .before .before .grades-of .ensures .0)))
+
+lowest-short-requires : tie.Need-lowest-short-requires
+lowest-short-requires c κs =
+    let jobs = c .before .before .before .before .counted-of .ensures in
+    let ds = c .before .before .before .deadlines-of .result in
+    let gs = c .before .before .grades-of .result in
+    let n = c .before .before .before .before .counted-of .result in
+    record {
+      are-boundaries = c .before .before .before .before .before .before .before .pre .0;
+      some = c .before .before .before .before .before .before .before .pre .2;
+      are-intervals = c .before .before .before .before .before .before .before .pre .1;
+      long = c .before .before .before .before .before .before .before .pre .3;
+      deadline-count = length-take-le n ds (omega (arith, c .before .before .before .deadlines-of .ensures .0)) ∙ jobs;
+      grade-count = length-take-le n gs (omega (arith, c .before .before .grades-of .ensures .0)) ∙ jobs;
+      are-deadlines = λ i b. getD-take n ds i 0 (omega (arith, jobs)) ∙ c .before .before .before .deadlines-of .ensures .1 i (omega arith);
+      are-grades = λ i b. getD-take n gs i 0 (omega (arith, jobs)) ∙ c .before .before .grades-of .ensures .1 i (omega arith);
+    }
+
+returns : tie.Need-returns
 returns c =
-    c .before .before .short-from .ensures
-    ∙ sym (first-found _ _ _ (c .before .before .before .before .loop .inv .1) (omega (arith, c .before .before .before .before .before .before .before .pre .1)) (ap isNone (sym (c .before .before .short-from .ensures)) ∙ sym (c .before .is-accepted .ensures) ∙ not-true _ (c .if1 .taken)))
+    nothing-short (c .before .before .before .before .before .before .before .before .before .args .p) (c .before .before .before .before .before .before .before .before .before .args .table .now) _ (c .before .lowest-short .ensures) (omega (arith, c .before .before .before .before .before .before .before .before .before .pre .1))
 
-add-l : tie.Need-add-l Inv-loop μ-loop
-add-l c = search needs
+short-from-requires : tie.Need-short-from-requires
+short-from-requires c κs =
+    (c .before .before .before .before .before .before .before .before .before .pre .0, c .if1 .left, c .before .before .before .before .before .before .before .before .before .pre .1)
 
-loop-less : tie.Need-loop-less Inv-loop μ-loop
-loop-less c = search needs
-
-loop-again : tie.Need-loop-again Inv-loop μ-loop
-loop-again c = (
-  omega arith,
-  first-next _ (c .before .before .before .before .loop .l) (c .before .before .before .before .loop .inv .1)
-      (sym (c .before .before .short-from .ensures) ∙ none-empty _ (sym (c .before .is-accepted .ensures) ∙ not-false _ (c .if1 .left))),
-)
-
-returns-2 : tie.Need-returns-2 Inv-loop μ-loop
-unfolding floorFault
+returns-2 : tie.Need-returns-2
 returns-2 c =
-    let end : c .before .loop .l ≡ intervals (c .before .before .before .before .args .p) = omega (arith, c .before .before .before .before .pre .1) in
-    sym (rw end at (c .before .loop .inv .1))
+    c .short-from .ensures ∙ short-at-lowest (c .before .before .before .before .before .before .before .before .before .before .args .p) (c .before .before .before .before .before .before .before .before .before .before .args .table .now) _ (c .before .before .lowest-short .ensures) (omega (arith, c .before .before .before .before .before .before .before .before .before .before .pre .1))
 
 pub below-floor-spec : {M : Type 1} → statement M
 below-floor-spec =
     tie.close
     (tie.spec
-    Inv-loop
-    μ-loop
-    loop-holds
-    short-from-requires
-    is-accepted-requires
+    counted-of-requires
+    deadlines-of-requires
+    grades-of-requires
+    array-share-prefix-deadlines
+    slice-aggregate-lowest-short
+    array-share-prefix-grades
+    slice-aggregate-lowest-short-2
+    lowest-short-requires
     returns
-    add-l
-    loop-less
-    loop-again
+    short-from-requires
     returns-2)

@@ -1,0 +1,108 @@
+-- The laws of column sums: rows added in place, sums taken from the last interval back, and the lowest interval that falls short.
+use mathlib.Core.Path.{_≡_, refl, sym, _∙_, ap, ap₂}
+use mathlib.Core.Bool.{Bool, true, false, cond}
+use mathlib.Core.List.{List}
+use mathlib.Core.Logic.{_⊎_, inl, inr}
+use Prim.Native.Nat.{ℕ, zero, suc, _+_, _*_, _-_, _≤_, _<_}
+use native.Mathlib.Nat.{zero-add, add-zero}
+use native.Mathlib.Decide.{decLt}
+use native.Mathlib.Omega.{arith}
+use lib.Dec.{ltb}
+use lib.ListN.{length, getD, set, length-set}
+use lib.Seq.{getD-set-same, getD-set-other}
+use Rattle.sums.specs.Sum.{sum}
+use Rattle.sums.proofs.Laws.{sum-ext, sum-split, sum-start, sum-step}
+use Rattle.plan.proofs.Rising.{by-order}
+use Rattle.judge.specs.Columns.{lowest, asksMore}
+
+-- Numbers were added to the first n of a list, and the rest stays.
+pub record Added (old : List ℕ) (add : ℕ → ℕ) (n : ℕ) (new : List ℕ) : Type 0 where
+  pub long : length new ≡ length old
+  pub done : (k : ℕ) → k < n → getD new k 0 ≡ getD old k 0 + add k
+  pub rest : (k : ℕ) → n ≤ k → getD new k 0 ≡ getD old k 0
+
+-- Nothing was added yet, or one number more.
+pub added-start : (old : List ℕ) (add : ℕ → ℕ) → Added old add 0 old
+added-start old add = record { long = refl; done = λ k l. absurd (omega arith); rest = λ k l. refl }
+
+pub added-next : (old new : List ℕ) (add : ℕ → ℕ) (n x : ℕ) → n < length new → Added old add n new → x ≡ getD new n 0 + add n
+    → Added old add (n + 1) (set new n x)
+added-next old new add n x h so e =
+    record {
+      long = length-set new n x ∙ so .long;
+      done = λ k l. go k l (decLt k n);
+      rest = λ k l. getD-set-other new n k x 0 (λ q. omega arith) ∙ so .rest k (omega arith);
+    }
+  where
+    go : (k : ℕ) → k < n + 1 → Dec (k < n) → getD (set new n x) k 0 ≡ getD old k 0 + add k
+    go k l (yes p) = getD-set-other new n k x 0 (λ q. omega arith) ∙ so .done k p
+    go k l (no p) =
+        let last : k ≡ n = omega arith in
+        rw (last, getD-set-same new n x 0 h, e) (ap (λ y. y + add n) (so .rest n (omega arith)))
+
+-- A sum from one index earlier has one term more, in front.
+pub sum-back : (g : ℕ → ℕ) (l m : ℕ) → l < m → sum (λ k. g (l + k)) (m - l) ≡ sum (λ k. g (suc l + k)) (m - suc l) + g l
+sum-back g l m h =
+    let one : m - l ≡ 1 + (m - suc l) = omega arith in
+    let first : sum (λ k. g (l + k)) 1 ≡ g l
+    = sum-step (λ k. g (l + k)) 0 ∙ ap (λ s. s + g (l + 0)) (sum-start (λ k. g (l + k))) ∙ zero-add (g (l + 0)) ∙ ap g (add-zero l) in
+    let rest : sum (λ k. g (l + (1 + k))) (m - suc l) ≡ sum (λ k. g (suc l + k)) (m - suc l)
+    = sum-ext _ _ (m - suc l) (λ k b. let e : l + (1 + k) ≡ suc l + k = omega arith in ap g e) in
+    omega (arith, ap (sum (λ k. g (l + k))) one, sum-split (λ k. g (l + k)) 1 (m - suc l), first, rest)
+
+-- The lowest from one number earlier: that number where the test holds.
+pub lowest-end : (test : ℕ → Bool) (other m : ℕ) → other ≡ lowest test other m (m - m)
+unfolding lowest
+lowest-end test other m = let e : m - m ≡ 0 = omega arith in rw e refl
+
+pub lowest-back : (test : ℕ → Bool) (other l m : ℕ) → l < m
+    → cond (test l) l (lowest test other (suc l) (m - suc l)) ≡ lowest test other l (m - l)
+unfolding lowest
+lowest-back test other l m h = let e : m - l ≡ suc (m - suc l) = omega arith in rw e refl
+
+-- A turn of the way back: the sum and the lowest interval, from one interval earlier.
+pub column-next : (d : ℕ) (sums times : List ℕ) (m other l asked low r : ℕ) → 0 < l → l ≤ m → asked ≡ sum (λ k. getD sums (l + k) 0) (m - l)
+    → low ≡ lowest (asksMore d sums times m) other l (m - l)
+    → r ≡ cond (ltb (d * (getD times m 0 - getD times (l - 1) 0)) (asked + getD sums (l - 1) 0)) (l - 1) low
+    → (asked + getD sums (l - 1) 0 ≡ sum (λ k. getD sums (l - 1 + k) 0) (m - (l - 1))) × (r ≡ lowest (asksMore d sums times m) other (l - 1) (m - (l - 1)))
+column-next d sums times m other zero asked low r h b p q e = absurd (omega arith)
+column-next d sums times m other (suc l) asked low r h b p q e =
+    let back : suc l - 1 ≡ l = omega arith in
+    let whole : asked + getD sums l 0 ≡ sum (λ k. getD sums (l + k) 0) (m - l)
+    = ap (λ s. s + getD sums l 0) p ∙ sym (sum-back (λ k. getD sums k 0) l m (omega arith)) in (
+      rw back whole,
+      rw back (rw back at e ∙ ap₂ (λ s n. cond (ltb (d * (getD times m 0 - getD times l 0)) s) l n) whole q ∙ lowest-back (asksMore d sums times m) other l m (omega arith)),
+    )
+
+-- Before the lowest the test fails; and it is the other number, or the test holds at it.
+pub lowest-before : (test : ℕ → Bool) (other l n k : ℕ) → l ≤ k → k < l + n → k < lowest test other l n → test k ≡ false
+unfolding lowest
+lowest-before test other l zero k a b c = absurd (omega arith)
+lowest-before test other l (suc n) k a b c = go (test l) refl c (λ d e. lowest-before test other (suc l) n k d (omega arith) e)
+  where
+    go : (t : Bool) → test l ≡ t → k < cond t l (lowest test other (suc l) n) → (suc l ≤ k → k < lowest test other (suc l) n → test k ≡ false) → test k ≡ false
+    go true e c rest = absurd (omega arith)
+    go false e c rest = by-order l k (λ q. ap test (sym q) ∙ e) (λ q. rest q c) (λ q. absurd (omega arith))
+
+pub lowest-at : (test : ℕ → Bool) (other l n : ℕ)
+    → (lowest test other l n ≡ other) ⊎ ((lowest test other l n < l + n) × (test (lowest test other l n) ≡ true))
+unfolding lowest
+lowest-at test other l zero = inl refl
+lowest-at test other l (suc n) = go (test l) refl (lowest-at test other (suc l) n)
+  where
+    go : (t : Bool) → test l ≡ t
+        → (lowest test other (suc l) n ≡ other) ⊎ ((lowest test other (suc l) n < suc l + n) × (test (lowest test other (suc l) n) ≡ true))
+        → (cond t l (lowest test other (suc l) n) ≡ other)
+        ⊎ ((cond t l (lowest test other (suc l) n) < l + suc n) × (test (cond t l (lowest test other (suc l) n)) ≡ true))
+    go true e rest = inr (omega arith, e)
+    go false e (inl q) = inl q
+    go false e (inr q) = inr (omega (arith, q .0), q .1)
+
+-- One number more of a row stands as it must.
+pub stands-next : (f : ℕ → ℕ) (row : List ℕ) (n x : ℕ) → n < length row → ((k : ℕ) → k < n → getD row k 0 ≡ f k) → x ≡ f n
+    → (k : ℕ) → k < n + 1 → getD (set row n x) k 0 ≡ f k
+stands-next f row n x h so e k l = go (decLt k n)
+  where
+    go : Dec (k < n) → getD (set row n x) k 0 ≡ f k
+    go (yes p) = getD-set-other row n k x 0 (λ q. omega arith) ∙ so k p
+    go (no p) = let last : k ≡ n = omega arith in rw (last, getD-set-same row n x 0 h) e

@@ -1,0 +1,99 @@
+-- `judge::floor::add_row` meets its contract: after j intervals the first j numbers are added.
+use mathlib.Core.Path.{refl, sym, _∙_, ap}
+use Prim.Native.Nat.{_+_, _-_, _≤_}
+use native.Mathlib.Omega.{arith}
+use native.Mathlib.Nat.{add-zero}
+use borrow.Author.Needs.{needs}
+use borrow.Author.Tests.{not-true, not-false}
+use lib.ListN.{getD}
+use Rattle.sums.specs.Sum.{on}
+use Rattle.judge.specs.Slack.{taken}
+use Rattle.judge.proofs.Columns.{Added, added-start, added-next}
+use Rattle.judge.proofs.floor.add_row.Statement.{statement}
+use Rattle.judge.proofs.floor.add_row.Tie as tie
+
+abbrev Inv-loop : tie.InvT-loop
+Inv-loop sums₀ wanted table start spans j₀ sums j = (j ≤ spans) × Added sums₀ (λ k. getD table (start + k) 0) j sums
+
+abbrev μ-loop : tie.MeasureT-loop
+μ-loop sums₀ wanted table start spans j₀ sums j = spans - j
+
+returns : tie.Need-returns Inv-loop μ-loop
+returns c =
+    let a = c .before .args in
+    (refl, λ j l. sym (ap (λ b. getD (a .sums .now) j 0 + on b (getD (a .table .now) (a .start + j) 0)) (not-true (a .wanted) (c .if1 .taken)) ∙ add-zero (getD (a .sums .now) j 0)))
+
+loop-holds : tie.Need-loop-holds Inv-loop μ-loop
+loop-holds c = (omega arith, added-start _ _)
+
+mul-so-far : tie.Need-mul-so-far Inv-loop μ-loop
+mul-so-far c = omega (arith, c .before .loop .inv .1 .long)
+
+slice-read-so-far : tie.Need-slice-read-so-far Inv-loop μ-loop
+slice-read-so-far c = omega (arith, c .before .before .loop .inv .1 .long)
+
+add-sums : tie.Need-add-sums Inv-loop μ-loop
+add-sums c = omega arith
+
+mul-sums : tie.Need-mul-sums Inv-loop μ-loop
+mul-sums c = omega arith
+
+shared-slice-read-sums : tie.Need-shared-slice-read-sums Inv-loop μ-loop
+shared-slice-read-sums c = omega arith
+
+cast-sums : tie.Need-cast-sums Inv-loop μ-loop
+cast-sums c =
+    omega (arith, c .shared-slice-known .given (c .before .before .before .before .before .args .start + c .before .before .before .loop .j))
+
+add-sums-2 : tie.Need-add-sums-2 Inv-loop μ-loop
+add-sums-2 c =
+    omega (arith, c .shared-slice-known .given (c .before .before .before .before .before .args .start + c .before .before .before .loop .j), c .before .before .before .loop .inv .1 .rest (c .before .before .before .loop .j) (omega arith), c .before .before .before .before .before .pre .2 (c .before .before .before .loop .j) (omega arith))
+
+mul-sums-2 : tie.Need-mul-sums-2 Inv-loop μ-loop
+mul-sums-2 c = omega (arith, c .before .before .before .loop .inv .1 .long)
+
+slice-write-sums : tie.Need-slice-write-sums Inv-loop μ-loop
+slice-write-sums c = omega (arith, c .before .before .before .loop .inv .1 .long)
+
+add-j : tie.Need-add-j Inv-loop μ-loop
+add-j c = search needs
+
+loop-less : tie.Need-loop-less Inv-loop μ-loop
+loop-less c = search needs
+
+loop-again : tie.Need-loop-again Inv-loop μ-loop
+loop-again c =
+    (omega arith, added-next _ _ _ (c .before .before .before .loop .j) _ (omega (arith, c .before .before .before .loop .inv .1 .long)) (c .before .before .before .loop .inv .1) refl)
+
+same-length : tie.Need-same-length Inv-loop μ-loop
+same-length c = c .before .loop .inv .1 .long
+
+returns-2 : tie.Need-returns-2 Inv-loop μ-loop
+returns-2 c =
+    let a = c .before .before .before .args in (
+      c .before .loop .inv .1 .long,
+      λ j l. c .before .loop .inv .1 .done j (omega arith) ∙ sym (ap (λ b. getD (a .sums .now) j 0 + on b (getD (a .table .now) (a .start + j) 0)) (not-false (a .wanted) (c .before .before .if1 .left))),
+    )
+
+pub add-row-spec : {M : Type 1} → statement M
+add-row-spec =
+    tie.close
+    (tie.spec
+    Inv-loop
+    μ-loop
+    returns
+    loop-holds
+    mul-so-far
+    slice-read-so-far
+    add-sums
+    mul-sums
+    shared-slice-read-sums
+    cast-sums
+    add-sums-2
+    mul-sums-2
+    slice-write-sums
+    add-j
+    loop-less
+    loop-again
+    same-length
+    returns-2)

@@ -1,0 +1,98 @@
+-- `judge::floor::lowest_in_column` meets its contract: from interval l on, the sum and the lowest so far.
+use mathlib.Core.Path.{sym, _∙_, ap, _≡_}
+use mathlib.Core.Bool.{cond}
+use Prim.Native.Nat.{_+_, _*_, _-_, _≤_}
+use native.Mathlib.Omega.{arith}
+use native.Mathlib.Nat.{mul-le-mul-right}
+use borrow.Author.Needs.{needs}
+use lib.Dec.{ltb}
+use lib.ListN.{getD}
+use Rattle.sums.specs.Sum.{sum}
+use Rattle.sums.proofs.Laws.{sum-start}
+use Rattle.plan.specs.Edition.{mostJobs, mostIntervals}
+use Rattle.judge.specs.Constraints.{mostAtPlace}
+use Rattle.judge.specs.Columns.{lowest, asksMore}
+use Rattle.judge.proofs.Columns.{lowest-end, column-next}
+use Rattle.judge.proofs.floor.lowest_in_column.Statement.{statement}
+use Rattle.judge.proofs.floor.lowest_in_column.Tie as tie
+
+abbrev Inv-loop : tie.InvT-loop
+Inv-loop d sums times m other time low₀ asked₀ l₀ low asked l =
+    (l ≤ m) × (asked ≡ sum (λ k. getD sums (l + k) 0) (m - l)) × (asked ≤ (m - l) * (mostJobs * mostAtPlace)) × (low ≡ lowest (asksMore (d .0) sums times m) other l (m - l))
+
+abbrev μ-loop : tie.MeasureT-loop
+μ-loop d sums times m other time low₀ asked₀ l₀ low asked l = l
+
+mul-time : tie.Need-mul-time Inv-loop μ-loop
+mul-time c = search needs
+
+shared-slice-read-time : tie.Need-shared-slice-read-time Inv-loop μ-loop
+shared-slice-read-time c = search needs
+
+loop-holds : tie.Need-loop-holds Inv-loop μ-loop
+loop-holds c =
+    (omega arith, sym (let e : c .before .before .before .args .m - c .before .before .before .args .m ≡ 0 = omega arith in ap (sum _) e ∙ sum-start _), omega arith, lowest-end _ _ _)
+
+sub-l : tie.Need-sub-l Inv-loop μ-loop
+sub-l c = omega arith
+
+mul-asked : tie.Need-mul-asked Inv-loop μ-loop
+mul-asked c = omega arith
+
+shared-slice-read-asked : tie.Need-shared-slice-read-asked Inv-loop μ-loop
+shared-slice-read-asked c = omega arith
+
+add-asked : tie.Need-add-asked Inv-loop μ-loop
+add-asked c =
+    omega (arith, c .before .before .before .before .before .before .pre .3 (c .before .before .loop .l - 1) (omega arith), mul-le-mul-right {m = c .before .before .before .before .before .before .args .m - c .before .before .loop .l} {n = mostIntervals} (mostJobs * mostAtPlace) (omega arith))
+
+mul-carried : tie.Need-mul-carried Inv-loop μ-loop
+mul-carried c = search needs
+
+shared-slice-read-carried : tie.Need-shared-slice-read-carried Inv-loop μ-loop
+shared-slice-read-carried c = search needs
+
+carried-requires : tie.Need-carried-requires Inv-loop μ-loop
+carried-requires c κs = search needs
+
+pick-requires : tie.Need-pick-requires Inv-loop μ-loop
+pick-requires c κs = search needs
+
+loop-less : tie.Need-loop-less Inv-loop μ-loop
+loop-less c = search needs
+
+loop-again : tie.Need-loop-again Inv-loop μ-loop
+loop-again c =
+    let a = c .before .before .before .before .before .before .before .before .before .before .args in
+    let turn = column-next (a .d .0) (a .sums .now) (a .times .now) (a .m) (a .other) (c .before .before .before .before .before .before .loop .l) (c .before .before .before .before .before .before .loop .asked) (c .before .before .before .before .before .before .loop .low) (c .pick .result) (omega arith) (omega arith) (c .before .before .before .before .before .before .loop .inv .1) (c .before .before .before .before .before .before .loop .inv .3)
+    (c .pick .ensures ∙ ap (λ n. cond (ltb n (c .before .before .before .before .before .before .loop .asked + getD (a .sums .now) (c .before .before .before .before .before .before .loop .l - 1) 0)) (c .before .before .before .before .before .before .loop .l - 1) (c .before .before .before .before .before .before .loop .low)) (c .before .before .carried .ensures .0)) in
+    let one-more : a .m - (c .before .before .before .before .before .before .loop .l - 1) ≡ a .m - c .before .before .before .before .before .before .loop .l + 1 = omega arith in
+    (omega arith, turn .0, omega (arith, c .before .before .before .before .before .before .before .before .before .before .pre .3 (c .before .before .before .before .before .before .loop .l - 1) (omega arith), ap (λ n. n * (mostJobs * mostAtPlace)) one-more), turn .1)
+
+returns : tie.Need-returns Inv-loop μ-loop
+returns c =
+    let a = c .before .before .before .before .before .args in
+    let end : c .before .loop .l ≡ 0 = omega arith in
+    let all : a .m - 0 ≡ a .m = omega arith in
+    rw (end, all) at (c .before .loop .inv .3)
+
+pub lowest-in-column-spec : {M : Type 1} → statement M
+lowest-in-column-spec =
+    tie.close
+    (tie.spec
+    Inv-loop
+    μ-loop
+    mul-time
+    shared-slice-read-time
+    loop-holds
+    sub-l
+    mul-asked
+    shared-slice-read-asked
+    add-asked
+    mul-carried
+    shared-slice-read-carried
+    carried-requires
+    pick-requires
+    loop-less
+    loop-again
+    returns)
