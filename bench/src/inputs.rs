@@ -1,0 +1,126 @@
+//! Fixed inputs for measuring: plans by formula, and runs at their busiest slot.
+//!
+//! Ends of windows do not come in order, so that no sort finds its work done.
+
+use crate::plan::{Job, Plan, Run, HI, LO, MOST_INTERVALS, MOST_JOBS, PLACES};
+use crate::{step, write};
+
+/// Bytes of the largest file.
+pub const LARGEST_FILE: usize = 30_956;
+
+/// What a plan looks like.
+#[derive(Clone, Copy, PartialEq, Eq)]
+pub enum Shape {
+    /// Two windows share each end, and each job has four rows if its window has four intervals.
+    Usual,
+    /// No two ends coincide, and each interval of each window has a row: no accepted plan has more.
+    Fullest,
+    /// As the fullest, but with a row for every place, which only reader and writer take.
+    LargestFile,
+}
+
+/// A plan with its table, its file, and a run in which all jobs are live.
+pub struct Input {
+    pub plan: Plan,
+    pub table: Vec<u32>,
+    pub file: Vec<u8>,
+    pub run: Run,
+    pub intervals: usize,
+    pub rows: usize,
+}
+
+impl Input {
+    /// The input of so many jobs: a power of two, at most 32.
+    pub fn new(jobs: usize, shape: Shape) -> Input {
+        let releases = match shape {
+            Shape::Usual => jobs / 2 + jobs % 2,
+            _ => jobs,
+        };
+        let intervals = 2 * releases - 1;
+        let mut plan = Plan {
+            n: 1_000,
+            d: 600,
+            count: jobs,
+            ..Plan::default()
+        };
+        let mut table = vec![0; PLACES];
+        for i in 0..jobs {
+            let window = window(i, jobs, releases);
+            let row = &mut table[MOST_INTERVALS * i..][..intervals];
+            lay_down(row, i, window, shape);
+            plan.jobs[i] = job(i, window, row);
+        }
+        Input {
+            file: file_of(&plan, &table),
+            run: run_of(&plan, &table, time(releases - 1)),
+            intervals,
+            rows: table.iter().filter(|&&units| units != 0).count(),
+            plan,
+            table,
+        }
+    }
+}
+
+/// A time for each boundary, rising at uneven distances.
+fn time(boundary: usize) -> u32 {
+    (10 * boundary + boundary * boundary % 7) as u32
+}
+
+/// The boundaries of a job's release and deadline; all releases come before all deadlines.
+fn window(i: usize, jobs: usize, releases: usize) -> (usize, usize) {
+    // Odd times i plus even times its square goes through all numbers below a power of two.
+    let release = (i * (2 * i + 1) + 3) % jobs;
+    let deadline = (i * (6 * i + 5) + 1) % jobs;
+    (
+        release * releases / jobs,
+        releases + deadline * releases / jobs,
+    )
+}
+
+/// Small allotments: those of one interval fit one slot, so that each live job gets its due.
+fn lay_down(row: &mut [u32], i: usize, (first, end): (usize, usize), shape: Shape) {
+    let quarter = ((end - first) / 4).max(1);
+    for (interval, place) in row.iter_mut().enumerate() {
+        let inside = (first..end).contains(&interval);
+        let is_given = match shape {
+            Shape::Usual => {
+                inside && (interval - first) % quarter == 0 && interval < first + 4 * quarter
+            }
+            Shape::Fullest => inside,
+            Shape::LargestFile => true,
+        };
+        if is_given {
+            *place = (5 + (7 * i + 3 * interval) % 25) as u32;
+        }
+    }
+}
+
+fn job(i: usize, (first, end): (usize, usize), row: &[u32]) -> Job {
+    let digits = [b'0' + (i / 10) as u8, b'0' + (i % 10) as u8];
+    let name = [b'm', b'i', b'r', b'r', b'o', b'r', digits[0], digits[1]];
+    Job {
+        name: u64::from_be_bytes(name),
+        grade: if i / 2 % 2 == 0 { HI } else { LO },
+        release: time(first),
+        size: row[first..end].iter().map(|&units| u64::from(units)).sum(),
+        deadline: time(end),
+    }
+}
+
+fn file_of(plan: &Plan, table: &[u32]) -> Vec<u8> {
+    let mut file = vec![0; LARGEST_FILE];
+    let length = write(plan, table, &mut file).expect("a sound plan");
+    file.truncate(length);
+    file
+}
+
+/// The run at normal speed up to a clock.
+fn run_of(plan: &Plan, table: &[u32], clock: u32) -> Run {
+    let mut run = Run::default();
+    let first = plan.jobs[..plan.count].iter().map(|job| job.release).min();
+    run.clock = first.expect("at least one job");
+    while run.clock < clock {
+        step(plan, table, &mut run, plan.n, &mut [0; MOST_JOBS]).expect("a slot of the run");
+    }
+    run
+}

@@ -1,0 +1,23 @@
+//! Fast plain Rust versions of the calls: the yardstick that other code is measured against.
+//!
+//! The rules are those of docs/RULES.md. No call allocates, and none uses unsafe code.
+
+#![forbid(unsafe_code)]
+
+mod bits;
+pub mod inputs;
+mod judge;
+mod plan;
+mod reader;
+pub mod refusal;
+mod slack;
+mod step;
+mod times;
+mod writer;
+
+pub use judge::{judge, Fault, Verdict};
+pub use plan::{Job, Plan, Run, HI, LO, MOST_INTERVALS, MOST_JOBS, PLACES};
+pub use reader::read;
+pub use slack::{slack, Slack};
+pub use step::step;
+pub use writer::write;

@@ -1,0 +1,24 @@
+//! The refusal numbers under their names.
+
+pub const VERSION: u8 = 1;
+pub const CUT_OR_LENGTH: u8 = 2;
+pub const LENGTH_BYTE: u8 = 3;
+pub const RATES: u8 = 4;
+pub const JOB_COUNT: u8 = 5;
+pub const NAME_BYTE: u8 = 6;
+pub const NAME_TWICE: u8 = 7;
+pub const GRADE: u8 = 8;
+pub const TIMES_OR_SIZE: u8 = 9;
+pub const ROW_COUNT: u8 = 10;
+pub const NO_SUCH_JOB: u8 = 11;
+pub const NO_SUCH_INTERVAL: u8 = 12;
+pub const NO_UNITS: u8 = 13;
+pub const ROW_ORDER: u8 = 14;
+pub const OUTSIDE_WINDOW: u8 = 15;
+pub const NOT_THE_SIZE: u8 = 16;
+pub const ABOVE_RATE: u8 = 17;
+pub const FLOOR_RULE: u8 = 18;
+pub const AT_LAST_DEADLINE: u8 = 19;
+pub const SPEED: u8 = 20;
+pub const UNSOUND: u8 = 21;
+pub const TOO_SHORT: u8 = 22;

@@ -1,0 +1,232 @@
+//! Every call on thousands of generated inputs: answers, places, plans, runs and buffers equal the reference's.
+
+use std::process::Command;
+
+use bench::inputs::{Input as Measured, Shape, LARGEST_FILE};
+use bench::{Fault, Job, Plan, Run, Slack, Verdict, MOST_JOBS, PLACES};
+use reference::generate::{generate, STORED_COUNT, STORED_SEED};
+use reference::judge::judge;
+use reference::reader::reader;
+use reference::record::{get, FileInput, HandInput, Input, Lent};
+use reference::refusal::{self, Refusal};
+use reference::run::{start, step};
+use reference::slack::{slack_figure, SlackFigure};
+use reference::writer::writer;
+
+/// Added to a place's number, it marks what a buffer held before a call.
+const MARK: u32 = 3_000_000_000;
+
+fn plan_of(plan: &reference::plan::Plan) -> Plan {
+    let job_of = |job: &reference::plan::Job| Job {
+        name: u64::from_be_bytes(job.name),
+        grade: job.grade,
+        release: job.release,
+        size: job.size,
+        deadline: job.deadline,
+    };
+    Plan {
+        n: plan.n,
+        d: plan.d,
+        count: plan.count as usize,
+        jobs: plan.jobs.map(|job| job_of(&job)),
+    }
+}
+
+fn run_of(run: &reference::run::Run) -> Run {
+    Run {
+        clock: run.clock,
+        slow: run.slow,
+        below_floor: run.below_floor,
+        carried: run.carried,
+    }
+}
+
+fn refusal_of(fault: Fault) -> Refusal {
+    let places = match fault {
+        Fault::TooShort | Fault::Unsound => vec![],
+        Fault::OutsideWindow { job, interval } => vec![job as u64, interval as u64],
+        Fault::NotTheSize { job } => vec![job as u64],
+        Fault::AboveRate { interval } => vec![interval as u64],
+        Fault::FloorRule { interval, deadline } => vec![interval as u64, deadline.into()],
+    };
+    Refusal::at(fault.number(), &places)
+}
+
+fn verdict_of(verdict: Verdict) -> Result<(), Refusal> {
+    match verdict {
+        Verdict::Accepted => Ok(()),
+        Verdict::Refused(fault) => Err(refusal_of(fault)),
+    }
+}
+
+fn figure_of(slack: Slack) -> Result<SlackFigure, Refusal> {
+    match slack {
+        Slack::NoneEssential => Ok(SlackFigure::NoneEssential),
+        Slack::Least {
+            slack,
+            interval,
+            deadline,
+        } => Ok(SlackFigure::Least {
+            slack,
+            interval: interval as u64,
+            deadline,
+        }),
+        Slack::Refused(fault) => Err(refusal_of(fault)),
+    }
+}
+
+fn marked(places: usize) -> Vec<u32> {
+    (0..places as u32).map(|place| MARK + place).collect()
+}
+
+fn marked_output(bytes: usize) -> Vec<u8> {
+    (0..bytes).map(|place| (1 + place % 250) as u8).collect()
+}
+
+fn compare_plan(plan: &reference::plan::Plan, table: &[u32], lent: &Lent) {
+    let ours = plan_of(plan);
+    assert_eq!(verdict_of(bench::judge(&ours, table)), judge(plan, table));
+    assert_eq!(
+        figure_of(bench::slack(&ours, table)),
+        slack_figure(plan, table)
+    );
+    let (mut output, mut expected) = (marked_output(lent.output), marked_output(lent.output));
+    let answer = bench::write(&ours, table, &mut output);
+    assert_eq!(answer, writer(plan, table, &mut expected));
+    assert!(output == expected);
+}
+
+fn compare_steps(
+    plan: &reference::plan::Plan,
+    table: &[u32],
+    mut run: reference::run::Run,
+    lent: &Lent,
+    speeds: &[u16],
+) {
+    let ours = plan_of(plan);
+    let mut our_run = run_of(&run);
+    let (mut our_grants, mut grants) = (marked(lent.grants), marked(lent.grants));
+    for &speed in speeds {
+        let answer = bench::step(&ours, table, &mut our_run, speed, &mut our_grants);
+        let expected = step(plan, table, &mut run, speed, &mut grants);
+        assert_eq!(answer.err().unwrap_or(refusal::DONE), expected);
+        assert_eq!(our_run, run_of(&run));
+        assert_eq!(our_grants, grants);
+    }
+}
+
+fn compare_file(input: &FileInput) {
+    let (mut our_table, mut table) = (marked(input.lent.table), marked(input.lent.table));
+    let answer = bench::read(&input.file, &mut our_table);
+    let (number, plan) = reader(&input.file, &mut table);
+    assert!(our_table == table);
+    if number != refusal::DONE {
+        assert_eq!(answer, Err(number));
+        return;
+    }
+    assert_eq!(answer, Ok(plan_of(&plan)));
+    compare_plan(&plan, &table, &input.lent);
+    if let Ok(run) = start(&plan, &table) {
+        compare_steps(&plan, &table, run, &input.lent, &input.speeds);
+    }
+}
+
+fn compare_hand(input: &HandInput) {
+    let mut table = marked(input.lent.table);
+    table[..input.table.len()].copy_from_slice(&input.table);
+    compare_plan(&input.plan, &table, &input.lent);
+    compare_steps(
+        &input.plan,
+        &table,
+        input.run.clone(),
+        &input.lent,
+        &input.speeds,
+    );
+}
+
+/// Compares all calls on so many inputs of a seed.
+fn compare(seed: u64, count: u64) {
+    let mut bytes = Vec::new();
+    generate(seed, count, &mut bytes).expect("bytes in memory");
+    let mut bytes = bytes.as_slice();
+    let mut compared = 0;
+    while let Some(input) = get(&mut bytes).expect("a whole record") {
+        match input {
+            Input::File(input) => compare_file(&input),
+            Input::Hand(input) => compare_hand(&input),
+        }
+        compared += 1;
+    }
+    assert_eq!(compared, count);
+}
+
+#[test]
+fn stored_set() {
+    compare(STORED_SEED, STORED_COUNT);
+}
+
+#[test]
+fn another_seed() {
+    compare(7_411, 20_000);
+}
+
+/// An input for measuring, taken up by the reference from its file.
+fn compare_measured(input: &Measured, is_accepted: bool) {
+    let lent = Lent {
+        table: PLACES,
+        output: LARGEST_FILE,
+        grants: MOST_JOBS,
+    };
+    compare_file(&FileInput {
+        lent,
+        file: input.file.clone(),
+        speeds: vec![input.plan.n; 700],
+    });
+    let mut table = marked(PLACES);
+    let (number, plan) = reader(&input.file, &mut table);
+    assert_eq!(number, refusal::DONE);
+    assert_eq!(plan_of(&plan), input.plan);
+    assert_eq!(table, input.table);
+    assert_eq!(judge(&plan, &table).is_ok(), is_accepted);
+    let run = reference::run::Run {
+        clock: input.run.clock,
+        slow: input.run.slow,
+        below_floor: input.run.below_floor,
+        carried: input.run.carried,
+    };
+    for speed in [plan.n, plan.n - 1, plan.d - 1, plan.n + 1] {
+        compare_steps(&plan, &table, run.clone(), &lent, &[speed, plan.n]);
+    }
+}
+
+#[test]
+fn inputs_for_measuring() {
+    for jobs in [1, 2, 4, 8, 16, 32] {
+        compare_measured(&Measured::new(jobs, Shape::Usual), true);
+        compare_measured(&Measured::new(jobs, Shape::Fullest), true);
+    }
+    let file = Measured::new(MOST_JOBS, Shape::LargestFile);
+    compare_measured(&file, false);
+    assert_eq!(file.file.len(), LARGEST_FILE);
+}
+
+#[test]
+fn wrong_use_of_calls_ends_with_2() {
+    let status = |words: &[&str]| {
+        let mut calls = Command::new(env!("CARGO_BIN_EXE_calls"));
+        let output = calls.args(words).output().expect("the program runs");
+        output.status.code()
+    };
+    assert_eq!(status(&["read", "8", "3"]), Some(0));
+    assert_eq!(status(&["step", "largest", "0"]), Some(0));
+    for words in [
+        vec![],
+        vec!["read", "8"],
+        vec!["read", "8", "3", "4"],
+        vec!["reads", "8", "3"],
+        vec!["read", "7", "3"],
+        vec!["read", "8", "-1"],
+    ] {
+        assert_eq!(status(&words), Some(2));
+    }
+}
