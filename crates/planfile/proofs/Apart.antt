@@ -1,9 +1,9 @@
 -- The names of jobs that are read differ.
-use mathlib.Core.Path.{_≡_, refl, sym, _∙_, ap}
-use mathlib.Core.Bool.{Bool, true, false, not, _&&_}
+use mathlib.Core.Path.{_≡_, sym, _∙_, ap}
+use mathlib.Core.Bool.{Bool, true, not, _&&_}
 use mathlib.Core.List.{List, [], _∷_, _++_}
 use mathlib.Core.Logic.{⊎-elim}
-use Prim.Native.Nat.{ℕ, zero, suc, _+_, _≤_, _<_}
+use Prim.Native.Nat.{ℕ, zero, suc, _+_, _<_}
 use native.Mathlib.Nat.{eq-or-lt-of-le}
 use native.Mathlib.Omega.{arith}
 use borrow.Author.Tests.{eqb-false, not-true}
@@ -15,7 +15,7 @@ use Rattle.plan.specs.Refusal.{wrongNameByte, nameTaken, wrongGrade, wrongJobBo
 use Rattle.plan.specs.Below.{every}
 use Rattle.plan.specs.Rules.{nameAllowed, isAbsent, gradeAllowed, windowAllowed, sizeAllowed}
 use Rattle.plan.specs.declared.kinds.Job.{Job}
-use Rattle.planfile.specs.Reading.{Step, got, no, field, checked, named, jobName, oneJob, namesOf, allJobs}
+use Rattle.planfile.specs.Reading.{got, field, checked, named, jobName, oneJob, namesOf, allJobs}
 use Rattle.planfile.specs.Answers.{Distinct}
 use Rattle.planfile.proofs.Steps.{both, through, past, checked-is, same-value, same-next}
 use Rattle.planfile.proofs.Roll.{names-snoc, length-snoc}

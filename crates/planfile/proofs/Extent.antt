@@ -42,7 +42,7 @@ named-extent long file at e =
 
 -- A job is as long as its record.
 pub job-extent : (earlier file : List ℕ) (at : ℕ) {j : Job} {next : ℕ} → oneJob earlier file at ≡ got j next
-    → (next ≡ at + 22) × (at + 22 ≤ length file)
+    → (next ≡ at + (1 + jobLength)) × (at + (1 + jobLength) ≤ length file)
 job-extent earlier file at {j} {next} e =
     let r = job-read earlier file at j next e in
     let n = named-extent jobLength file at (r .name) in
@@ -54,7 +54,7 @@ job-extent earlier file at {j} {next} e =
     (omega (arith, x₁ .0, x₂ .0, x₃ .0, x₄ .0, x₅ .0), omega (arith, x₁ .0, x₂ .0, x₃ .0, x₄ .0, x₅ .1))
 
 pub jobs-extent : (n : ℕ) (jobs : List Job) (file : List ℕ) (at : ℕ) (all : List Job) (next : ℕ) → allJobs n jobs file at ≡ got all next
-    → (next ≡ at + n * 22) × (1 ≤ n → at + n * 22 ≤ length file)
+    → (next ≡ at + n * (1 + jobLength)) × (1 ≤ n → at + n * (1 + jobLength) ≤ length file)
 unfolding allJobs
 jobs-extent zero jobs file at all next e = (omega (arith, same-next e), λ h. absurd (omega arith))
 jobs-extent (suc n) jobs file at all next e =
@@ -63,7 +63,7 @@ jobs-extent (suc n) jobs file at all next e =
     let rest = jobs-extent n (jobs ++ (t .value ∷ [])) file (t .next) all next (t .on) in
     (omega (arith, x .0, rest .0), λ h. by n (x .0) (x .1) (rest .1))
   where
-    by : (n : ℕ) {next : ℕ} → next ≡ at + 22 → at + 22 ≤ length file → (1 ≤ n → next + n * 22 ≤ length file) → at + suc n * 22 ≤ length file
+    by : (n : ℕ) {next : ℕ} → next ≡ at + (1 + jobLength) → at + (1 + jobLength) ≤ length file → (1 ≤ n → next + n * (1 + jobLength) ≤ length file) → at + suc n * (1 + jobLength) ≤ length file
     by zero e h rest = omega arith
     by (suc n) e h rest = omega (arith, rest (omega arith))
 

@@ -1,16 +1,16 @@
 -- The laws of a whole written file, and what soundness gives the writer.
-use mathlib.Core.Path.{_≡_, refl, sym, _∙_, ap}
-use mathlib.Core.Bool.{Bool, true, false, not, _&&_}
+use mathlib.Core.Path.{_≡_, refl}
+use mathlib.Core.Bool.{true, false, _&&_}
 use mathlib.Core.List.{List, _++_}
-use Prim.Native.Nat.{ℕ, _+_, _*_, _≤_, _<_, _^_, min}
+use Prim.Native.Nat.{ℕ, _+_, _*_, _≤_, _<_, _^_}
 use native.Mathlib.Omega.{arith}
 use borrow.Author.Tests.{lt-ltb, le-ltb, leb-true}
-use lib.Dec.{leb, ltb}
+use lib.Dec.{leb}
 use lib.ListN.{length, take, length-append}
 use lib.Seq.{sets, length-take-le}
 use Rattle.plan.specs.Edition.{mostJobs, mostIntervals, mostSize, places, jobLength, rowLength}
 use Rattle.plan.specs.Refusal.{unsound, bufferTooShort}
-use Rattle.plan.specs.Rules.{counted, names, release, size, deadline, jobOf, name, nameAllowed, gradeAllowed, windowAllowed, sizeAllowed, sameName, ratesHold, countHolds, namesHold, namesDiffer, gradesHold, boundsHold, rulesHold}
+use Rattle.plan.specs.Rules.{counted, names, release, size, deadline, windowAllowed, sizeAllowed, ratesHold, countHolds, namesHold, namesDiffer, gradesHold, boundsHold, rulesHold}
 use Rattle.plan.specs.Boundaries.{intervals}
 use Rattle.plan.specs.Table.{noStray, sound}
 use Rattle.plan.specs.declared.kinds.Plan.{Plan}

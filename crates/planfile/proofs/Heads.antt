@@ -1,13 +1,13 @@
 -- The laws of a head and of a job, field by field: what is read is what the fields are, and the first fault decides.
-use mathlib.Core.Path.{_≡_, refl, sym, _∙_, ap}
-use mathlib.Core.Bool.{Bool, true, false, _&&_}
+use mathlib.Core.Path.{_≡_}
+use mathlib.Core.Bool.{true, false, _&&_}
 use mathlib.Core.List.{List}
-use Prim.Native.Nat.{ℕ, _+_, _≤_, _<_}
+use Prim.Native.Nat.{ℕ, _+_, _<_}
 use native.Mathlib.Omega.{arith}
 use borrow.Author.Tests.{lt-ltb, le-ltb, eq-eqb, ne-eqb}
-use lib.Dec.{ltb, leb}
+use lib.Dec.{leb}
 use lib.ListN.{length, getD}
-use Rattle.plan.specs.Refusal.{wrongVersion, wrongExtent, wrongRates, wrongJobCount, wrongGrade, wrongJobBounds}
+use Rattle.plan.specs.Refusal.{wrongVersion, wrongExtent, wrongGrade, wrongJobBounds}
 use Rattle.plan.specs.Rules.{ratesAllowed, gradeAllowed, windowAllowed, sizeAllowed}
 use Rattle.plan.specs.declared.kinds.Job.{Job}
 use Rattle.planfile.specs.Reading.{Step, got, no, field, checked, version, extent, opening, Head, head, jobName, oneJob}

@@ -11,3 +11,4 @@ pub mod Extent
 pub mod Sets
 pub mod Pages
 pub mod Files
+pub mod Told

@@ -1,7 +1,7 @@
 -- The laws of reading a count of jobs, turn by turn.
 use mathlib.Core.Path.{_≡_, refl, sym, _∙_, ap}
 use mathlib.Core.List.{List, [], _∷_, _++_, append-assoc}
-use Prim.Native.Nat.{ℕ, zero, suc, _+_, _-_, _≤_, _<_}
+use Prim.Native.Nat.{ℕ, zero, suc, _-_, _≤_, _<_}
 use native.Mathlib.Nat.{sub-zero}
 use native.Mathlib.Omega.{arith}
 use lib.ListN.{length, getD, take, drop, set, replicate, length-append, length-map, length-replicate, length-drop}
@@ -10,7 +10,7 @@ use Rattle.plan.specs.Edition.{mostJobs}
 use Rattle.plan.specs.Rules.{noJob}
 use Rattle.plan.specs.declared.kinds.Job.{Job}
 use Rattle.plan.specs.declared.kinds.Plan.{Plan}
-use Rattle.planfile.specs.Reading.{Step, got, no, oneJob, namesOf, allJobs, planOf, Head}
+use Rattle.planfile.specs.Reading.{got, no, oneJob, namesOf, allJobs, planOf, Head}
 
 -- Jobs in the room that a plan has for them: zero records fill the rest.
 abbrev pub inRoom : List Job → List Job
@@ -75,9 +75,6 @@ roll-start file at first count h =
 
 module _ {file : List ℕ} {at : ℕ} {first : List ℕ} {count : ℕ} {blank : Plan} {names : List ℕ} {plan : Plan} {next i : ℕ}
     (so : Roll file at first count blank names plan next i) where
-  pub roll-room : i ≤ mostJobs → length (plan .jobs) ≡ mostJobs
-  roll-room h = rw (so .made) (room-length (so .jobs) (omega (arith, so .many)))
-
   pub roll-names : length first ≡ mostJobs → i ≤ mostJobs → length names ≡ mostJobs
   roll-names n h =
       rw (so .kept, length-append (namesOf (so .jobs)) (drop i first), names-length (so .jobs), length-drop i first)

@@ -1,6 +1,6 @@
 -- The laws of reading rows.
 use mathlib.Core.Path.{_≡_, refl, sym, _∙_, ap}
-use mathlib.Core.Bool.{Bool, true, false, not}
+use mathlib.Core.Bool.{true, false, not}
 use mathlib.Core.List.{List}
 use Prim.Native.Nat.{ℕ, zero, suc, _+_, _*_, _-_, _≤_, _<_}
 use native.Mathlib.Numerals.{add-one}
@@ -11,7 +11,7 @@ use lib.ListN.{length, set}
 use Rattle.plan.specs.Edition.{mostIntervals, rowLength}
 use Rattle.plan.specs.Refusal.{rowWithoutJob, rowWithoutInterval, rowWithoutUnits, rowOutOfOrder}
 use Rattle.plan.specs.Table.{place}
-use Rattle.planfile.specs.Reading.{Step, got, no, onward, checked, field, named, position, Row, oneRow, allRows}
+use Rattle.planfile.specs.Reading.{Step, got, no, onward, checked, named, position, Row, oneRow, allRows}
 use Rattle.planfile.specs.Answers.{onlyPassed}
 use Rattle.planfile.proofs.Steps.{through, past, checked-is, same-value}
 

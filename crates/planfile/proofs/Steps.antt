@@ -5,7 +5,6 @@ use mathlib.Core.List.{List}
 use Prim.Native.Nat.{ℕ, _+_, _≤_, _<_}
 use native.Mathlib.Omega.{arith}
 use borrow.Author.Tests.{le-leb, lt-leb, not-true, not-false}
-use lib.Dec.{leb}
 use lib.ListN.{length, take, drop}
 use Rattle.plan.specs.Refusal.{wrongExtent}
 use Rattle.planfile.specs.Bytes.{value}

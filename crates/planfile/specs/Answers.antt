@@ -1,4 +1,4 @@
--- What the answers of the code say: for each enum its report, as a step of the reading or as 01's number, and what inner calls promise.
+-- What the answers of the code say: for each enum its report, as a step of the reading or as the rules' number, and what inner calls promise.
 use mathlib.Core.Path.{_≡_}
 use mathlib.Core.List.{List, [], _∷_, _++_}
 use Prim.Native.Nat.{ℕ, _≤_, _<_, _^_}
@@ -117,7 +117,7 @@ abbrev pub countOf : Step rule.Held → ℕ
 countOf (got held next) = held .plan .count
 countOf (no number) = 0
 
--- The reader's answer in 01's terms: nothing for a plan that was read, else the refusal number.
+-- The reader's answer in the rules' terms: nothing for a plan that was read, else the refusal number.
 abbrev pub answerTold : Answer → List ℕ
 answerTold answer.Read = []
 answerTold (answer.Refused number) = number ∷ []
@@ -132,7 +132,7 @@ pub record Writable (p : Plan) (table : List ℕ) : Type 0 where
   pub sized : (i : ℕ) → i < p .count → size p i < 256 ^ 4
   pub exact : length table ≡ places
 
--- The writer's whole result: its answer in 01's terms, and the output as it is left.
+-- The writer's whole result: its answer in the rules' terms, and the output as it is left.
 abbrev pub writtenTold : Written → writing.Answer
 writtenTold (written.Length n) = writing.wrote n
 writtenTold (written.Refused number) = writing.refused number

@@ -1,7 +1,6 @@
 // Reading all that stands before the rows: the header, the jobs and the row count. Reader and lookup share it.
 use crate::field::Field;
 use crate::field::Passed;
-use crate::field::field_refusal;
 use crate::field::passed_refusal;
 use crate::field::read_field;
 use crate::head::Head;

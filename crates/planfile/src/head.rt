@@ -15,7 +15,7 @@ ghost use Rattle.plan.specs.Edition.{mostJobs};
 ghost use Rattle.planfile.specs.Reading.{opening, head};
 ghost use Rattle.planfile.specs.Answers.{fieldTold, headTold, headRefusal};
 
-const VERSION: u8 = 1;
+pub const VERSION: u8 = 1;
 
 pub struct Head {
     pub n: Rate,

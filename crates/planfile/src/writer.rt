@@ -1,4 +1,5 @@
 // The writer of plan files.
+use crate::head::VERSION;
 use crate::put::put;
 use crate::put::put_job;
 use crate::put::put_place;
@@ -14,13 +15,10 @@ ghost use Prim.Native.Nat.{ℕ, _+_, _*_, _≤_, _<_, _^_};
 ghost use lib.Dec.{eqb};
 ghost use lib.ListN.{length};
 ghost use lib.Seq.{sets};
-ghost use Rattle.plan.specs.Edition.{mostJobs, mostIntervals, places, jobLength};
-ghost use Rattle.plan.specs.Rules.{size, names};
-ghost use Rattle.planfile.specs.Bytes.{bytes};
+ghost use Rattle.plan.specs.Edition.{mostJobs, mostIntervals, jobLength};
+ghost use Rattle.plan.specs.Rules.{size};
 ghost use Rattle.planfile.specs.Writing.{jobsBytes, rowsBytes, rowCount, body, written, writer};
 ghost use Rattle.planfile.specs.Answers.{Writable, outputTold};
-
-const VERSION: u64 = 1;
 
 // The version byte and the length field; then both rates and the job count.
 const OPENING_BYTES: usize = 5;
@@ -100,7 +98,7 @@ fn put_file(out: &mut [u8], p: Plan, table: &[u32], rows: usize, follows: usize)
     requires { ⌜ (length (written p (now table)) ≤ length (now out)) × Writable p (now table) × (rows ≡ rowCount (now table)) × (follows ≡ length (body p (now table))) ⌝ }
     ensures { λ r. ⌜ now (out .exit) ≡ sets (now (out .entry)) 0 (written p (now (table .entry))) ⌝ }
 {
-    let after_version = put(out, 0, 1, VERSION);
+    let after_version = put(out, 0, 1, VERSION as u64);
     let after_length = put(out, after_version, 4, follows as u64);
     put_body(out, after_length, p, table, rows);
 }

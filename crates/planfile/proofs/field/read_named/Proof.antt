@@ -1,6 +1,6 @@
 -- `planfile::field::read_named` meets its contract.
 use borrow.Author.Tests.{eq-eqb, ne-eqb}
-use mathlib.Core.Path.{_≡_, refl, sym, _∙_, ap}
+use mathlib.Core.Path.{refl}
 use borrow.Author.Needs.{needs}
 use Rattle.planfile.specs.Reading.{named}
 use Rattle.planfile.specs.Answers.{fieldTold, fieldRefusal}

@@ -1,5 +1,5 @@
 -- `planfile::front::read_front` meets its contract: the head, the jobs and the row count, each reached only through the one before.
-use mathlib.Core.Path.{_≡_, refl, sym, _∙_, ap}
+use mathlib.Core.Path.{refl}
 use mathlib.Core.List.{[]}
 use borrow.Author.Needs.{needs}
 use Rattle.plan.specs.Edition.{mostJobs}

@@ -1,15 +1,15 @@
 -- `planfile::front::read_jobs` meets its contract: after i jobs, what is left gives the whole.
-use mathlib.Core.Path.{_≡_, refl, sym, _∙_, ap}
-use Prim.Native.Nat.{ℕ, _-_, _≤_}
+use mathlib.Core.Path.{_≡_, refl, sym, _∙_}
+use Prim.Native.Nat.{_-_, _≤_}
 use native.Mathlib.Numerals.{add-one}
 use native.Mathlib.Omega.{arith}
 use borrow.Author.Needs.{needs}
-use lib.ListN.{length, length-set}
+use lib.ListN.{length}
 use lib.Seq.{length-take-le}
 use Rattle.plan.specs.Edition.{mostJobs}
 use Rattle.planfile.specs.Answers.{jobTold, jobRefusal, headOf}
 use Rattle.planfile.proofs.Steps.{so, refused}
-use Rattle.planfile.proofs.Roll.{Roll, roll-start, roll-room, roll-names, roll-next, roll-refused, roll-end}
+use Rattle.planfile.proofs.Roll.{Roll, roll-start, roll-names, roll-next, roll-refused, roll-end}
 use Rattle.planfile.proofs.front.read_jobs.Statement.{statement}
 use Rattle.planfile.proofs.front.read_jobs.Tie as tie
 

@@ -1,8 +1,7 @@
 -- `planfile::front::read_row_count` meets its contract.
-use mathlib.Core.Path.{_≡_, refl, sym, _∙_, ap}
 use borrow.Author.Tests.{le-leb, lt-leb}
 use borrow.Author.Needs.{needs}
-use Rattle.planfile.specs.Answers.{fieldTold, fieldRefusal}
+use Rattle.planfile.specs.Answers.{fieldTold}
 use Rattle.planfile.proofs.Steps.{so}
 use Rattle.planfile.proofs.front.read_row_count.Statement.{statement}
 use Rattle.planfile.proofs.front.read_row_count.Tie as tie

@@ -1,7 +1,7 @@
 -- `planfile::head::read_head` meets its contract.
 use Rattle.plan.specs.Edition.{mostJobs}
 use Rattle.planfile.proofs.Heads.{head-whole}
-use mathlib.Core.Path.{_≡_, refl, sym, _∙_, ap}
+use mathlib.Core.Path.{refl}
 use native.Mathlib.Omega.{arith}
 use borrow.Author.Needs.{needs}
 use Rattle.planfile.specs.Answers.{fieldTold, fieldRefusal}

@@ -1,9 +1,9 @@
 -- `planfile::head::read_opening` meets its contract.
 use Rattle.planfile.proofs.Heads.{opening-empty, opening-other, opening-cut, opening-wrong, opening-right}
-use mathlib.Core.Path.{_≡_, refl, sym, _∙_, ap}
+use mathlib.Core.Path.{_∙_, ap}
 use native.Mathlib.Omega.{arith}
 use borrow.Author.Needs.{needs}
-use Rattle.planfile.specs.Answers.{fieldTold, fieldRefusal}
+use Rattle.planfile.specs.Answers.{fieldTold}
 use Rattle.planfile.proofs.Steps.{so}
 use Rattle.planfile.proofs.head.read_opening.Statement.{statement}
 use Rattle.planfile.proofs.head.read_opening.Tie as tie

@@ -1,9 +1,8 @@
 -- `planfile::job::read_grade` meets its contract.
-use mathlib.Core.Path.{_≡_, refl, sym, _∙_, ap}
 use native.Mathlib.Omega.{arith}
 use borrow.Author.Needs.{needs}
 use lib.Dec.{lit<}
-use Rattle.planfile.specs.Answers.{fieldTold, fieldRefusal}
+use Rattle.planfile.specs.Answers.{fieldTold}
 use Rattle.planfile.proofs.Steps.{so, small, failed, held}
 use Rattle.planfile.proofs.job.read_grade.Statement.{statement}
 use Rattle.planfile.proofs.job.read_grade.Tie as tie

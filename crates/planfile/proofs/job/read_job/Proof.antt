@@ -1,6 +1,6 @@
 -- `planfile::job::read_job` meets its contract.
 use Rattle.planfile.proofs.Heads.{job-bounds, job-whole}
-use mathlib.Core.Path.{_≡_, refl, sym, _∙_, ap, ap₂}
+use mathlib.Core.Path.{refl, ap₂}
 use mathlib.Core.Bool.{_&&_}
 use native.Mathlib.Omega.{arith}
 use borrow.Author.Needs.{needs}

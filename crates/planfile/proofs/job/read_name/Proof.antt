@@ -1,7 +1,6 @@
 -- `planfile::job::read_name` meets its contract.
-use mathlib.Core.Path.{_≡_, refl, sym, _∙_, ap}
 use borrow.Author.Needs.{needs}
-use Rattle.planfile.specs.Answers.{fieldTold, fieldRefusal}
+use Rattle.planfile.specs.Answers.{fieldTold}
 use Rattle.planfile.specs.Reading.{jobName}
 use Rattle.planfile.proofs.Steps.{so, failed, held}
 use Rattle.planfile.proofs.job.read_name.Statement.{statement}

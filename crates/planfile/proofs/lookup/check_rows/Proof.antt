@@ -1,12 +1,12 @@
 -- `planfile::lookup::check_rows` meets its contract: after k rows, what is left gives the whole. A table without places stays so.
 use mathlib.Core.Path.{_≡_, refl, sym, _∙_, ap}
-use mathlib.Core.List.{List, []}
-use Prim.Native.Nat.{ℕ, _+_, _-_, _≤_, _<_}
+use mathlib.Core.List.{[]}
+use Prim.Native.Nat.{_-_, _≤_, _<_}
 use native.Mathlib.Nat.{sub-zero}
 use native.Mathlib.Omega.{arith}
 use borrow.Author.Needs.{needs}
 use Rattle.plan.specs.Edition.{mostIntervals, places}
-use Rattle.planfile.specs.Reading.{Step, got, no, oneRow, allRows}
+use Rattle.planfile.specs.Reading.{got, oneRow, allRows}
 use Rattle.planfile.specs.Answers.{rowTold, rowRefusal, onlyPassed}
 use Rattle.planfile.proofs.Steps.{so, refused}
 use Rattle.planfile.proofs.Rows.{row-inside, rows-only, left-next, left-stop, left-done}

@@ -1,7 +1,7 @@
 -- `planfile::put::put` meets its contract: what is left to write, and the bytes already written behind it, are the whole field.
 use mathlib.Core.List.{[], _++_, append-nil}
-use mathlib.Core.Path.{_≡_, refl, sym, _∙_, ap}
-use Prim.Native.Nat.{ℕ, suc, _+_, _-_, _/_, _%_, _≤_, _<_, _^_}
+use mathlib.Core.Path.{_≡_, refl, _∙_, ap}
+use Prim.Native.Nat.{suc, _+_, _-_, _%_, _≤_, _<_, _^_}
 use native.Mathlib.Nat.{add-zero, mod-lt}
 use native.Mathlib.Omega.{arith}
 use borrow.Author.Needs.{needs}

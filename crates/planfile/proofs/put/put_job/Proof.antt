@@ -1,5 +1,5 @@
 -- `planfile::put::put_job` meets its contract: each field stands behind the one before.
-use mathlib.Core.Path.{_≡_, refl, sym, _∙_, ap}
+use mathlib.Core.Path.{refl, _∙_}
 use native.Mathlib.Omega.{arith}
 use borrow.Author.Needs.{needs}
 use Rattle.plan.specs.Edition.{jobLength}

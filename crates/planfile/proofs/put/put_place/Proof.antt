@@ -1,10 +1,10 @@
 -- `planfile::put::put_place` meets its contract.
-use mathlib.Core.Path.{_≡_, refl, sym, _∙_, ap}
-use Prim.Native.Nat.{ℕ, _+_, _*_, _-_, _/_, _%_, _≤_, _<_}
+use mathlib.Core.Path.{refl, sym, ap}
+use Prim.Native.Nat.{_/_, _%_}
 use native.Mathlib.Omega.{arith}
 use native.Mathlib.Nat.{add-zero, mod-lt}
 use borrow.Author.Needs.{needs}
-use lib.ListN.{length, getD, take}
+use lib.ListN.{length, getD}
 use lib.Dec.{lit<}
 use Rattle.plan.specs.Edition.{mostIntervals}
 use Rattle.planfile.proofs.Pages.{place-none, place-row, row-long}

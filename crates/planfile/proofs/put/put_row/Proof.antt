@@ -1,5 +1,5 @@
 -- `planfile::put::put_row` meets its contract: each field stands behind the one before.
-use mathlib.Core.Path.{_≡_, refl, sym, _∙_, ap}
+use mathlib.Core.Path.{refl, _∙_}
 use borrow.Author.Needs.{needs}
 use Rattle.plan.specs.Edition.{rowLength}
 use Rattle.planfile.proofs.Sets.{put-start}

@@ -1,11 +1,10 @@
 -- `planfile::reader::clear` meets its contract: after k places, the first k are 0.
 use mathlib.Core.Path.{_≡_, refl, sym, _∙_, ap}
-use mathlib.Core.List.{List, [], _∷_, _++_}
-use Prim.Native.Nat.{ℕ, _-_, _≤_}
+use Prim.Native.Nat.{_-_, _≤_}
 use native.Mathlib.Numerals.{add-one}
 use native.Mathlib.Omega.{arith}
 use borrow.Author.Needs.{needs}
-use lib.ListN.{length, take, set, replicate, length-set, replicate-append-replicate}
+use lib.ListN.{length, take, replicate, length-set, replicate-append-replicate}
 use lib.Seq.{take-suc-set, take-all}
 use Rattle.planfile.proofs.reader.clear.Statement.{statement}
 use Rattle.planfile.proofs.reader.clear.Tie as tie

@@ -1,6 +1,6 @@
 -- `planfile::reader::fill` meets its contract: front, rows and end, each reached only through the one before.
 use mathlib.Core.Path.{_≡_, refl, sym, _∙_, ap}
-use mathlib.Core.List.{List, _++_}
+use mathlib.Core.List.{_++_}
 use Prim.Native.Nat.{ℕ}
 use borrow.Author.Needs.{needs}
 use lib.ListN.{length, drop, replicate, length-replicate}

@@ -3,7 +3,7 @@ use Rattle.planfile.proofs.Whole.{whole-beyond, reader-short, reader-lo
 use Rattle.planfile.specs.Reading.{readFile}
 use Rattle.plan.specs.Edition.{places}
 use lib.Seq.{length-take-le}
-use mathlib.Core.Path.{_≡_, refl, sym, _∙_, ap}
+use mathlib.Core.Path.{sym, _∙_}
 use borrow.Author.Needs.{needs}
 use Rattle.planfile.proofs.reader.read.Statement.{statement}
 use Rattle.planfile.proofs.reader.read.Tie as tie

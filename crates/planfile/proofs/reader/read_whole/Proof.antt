@@ -1,11 +1,9 @@
 -- `planfile::reader::read_whole` meets its contract: a refusal clears what was stored.
 use Rattle.planfile.proofs.Whole.{whole-read, whole-refused}
 use Rattle.planfile.specs.Reading.{readFile}
-use mathlib.Core.Path.{_≡_, refl, sym, _∙_, ap}
-use Prim.Native.Nat.{ℕ}
+use mathlib.Core.Path.{_∙_, ap}
 use borrow.Author.Needs.{needs}
-use lib.ListN.{length, replicate}
-use Rattle.plan.specs.Edition.{places}
+use lib.ListN.{replicate}
 use Rattle.planfile.proofs.reader.read_whole.Statement.{statement}
 use Rattle.planfile.proofs.reader.read_whole.Tie as tie
 

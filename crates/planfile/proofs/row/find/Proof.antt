@@ -1,5 +1,4 @@
 -- `planfile::row::find` meets its contract: what is found ahead is the position, since names differ; else the search from the start finds it.
-use Prim.Native.Nat.{ℕ}
 use native.Mathlib.Omega.{arith}
 use borrow.Author.Needs.{needs}
 use Rattle.planfile.proofs.Search.{position-first, position-only}

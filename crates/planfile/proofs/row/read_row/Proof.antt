@@ -1,12 +1,11 @@
 -- `planfile::row::read_row` meets its contract.
-use mathlib.Core.Path.{_≡_, refl, sym, _∙_, ap}
+use mathlib.Core.Path.{_≡_, refl, sym}
 use mathlib.Core.Bool.{true, false}
 use Prim.Native.Nat.{ℕ, _≤_, _<_}
 use native.Mathlib.Omega.{arith}
 use borrow.Author.Tests.{lt-ltb, le-ltb}
 use borrow.Author.Needs.{needs}
 use lib.Dec.{ltb}
-use lib.ListN.{length}
 use Rattle.planfile.specs.Answers.{fieldTold, fieldRefusal}
 use Rattle.plan.specs.Edition.{mostIntervals}
 use Rattle.planfile.proofs.Steps.{so, small, refused}

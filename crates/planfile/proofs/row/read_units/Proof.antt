@@ -1,9 +1,8 @@
 -- `planfile::row::read_units` meets its contract.
-use mathlib.Core.Path.{_≡_, refl, sym, _∙_, ap}
 use borrow.Author.Tests.{eq-eqb, ne-eqb}
 use borrow.Author.Needs.{needs}
 use lib.Dec.{lit<}
-use Rattle.planfile.specs.Answers.{fieldTold, fieldRefusal}
+use Rattle.planfile.specs.Answers.{fieldTold}
 use Rattle.planfile.proofs.Steps.{so, small}
 use Rattle.planfile.proofs.row.read_units.Statement.{statement}
 use Rattle.planfile.proofs.row.read_units.Tie as tie

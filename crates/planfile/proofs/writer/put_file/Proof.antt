@@ -1,7 +1,7 @@
 -- `planfile::writer::put_file` meets its contract: the version, the length and the body.
 use Rattle.planfile.specs.Bytes.{bytes}
 use mathlib.Core.List.{_++_}
-use mathlib.Core.Path.{_≡_, refl, sym, _∙_, ap}
+use mathlib.Core.Path.{refl, _∙_, ap}
 use native.Mathlib.Omega.{arith}
 use borrow.Author.Needs.{needs}
 use lib.Dec.{lit<}
@@ -12,6 +12,9 @@ use Rattle.planfile.proofs.Pages.{put-field}
 use Rattle.planfile.proofs.Files.{body-short, written-of, written-long}
 use Rattle.planfile.proofs.writer.put_file.Statement.{statement}
 use Rattle.planfile.proofs.writer.put_file.Tie as tie
+
+cast-put : tie.Need-cast-put
+cast-put c = search needs
 
 put-requires : tie.Need-put-requires
 put-requires c κs =
@@ -38,4 +41,4 @@ returns c =
 
 pub put-file-spec : {M : Type 1} → statement M
 put-file-spec =
-    tie.close (tie.spec put-requires put-requires-2 put-body-requires same-length returns)
+    tie.close (tie.spec cast-put put-requires put-requires-2 put-body-requires same-length returns)

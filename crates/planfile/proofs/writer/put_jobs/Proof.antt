@@ -1,10 +1,9 @@
 -- `planfile::writer::put_jobs` meets its contract: after i jobs, their bytes stand one behind the other.
 use Rattle.plan.specs.Rules.{jobOf}
-use mathlib.Core.Path.{_≡_, refl, sym, _∙_, ap}
-use Prim.Native.Nat.{ℕ, _+_, _*_, _-_, _/_, _%_, _≤_, _<_}
+use mathlib.Core.Path.{_≡_, refl, _∙_}
+use Prim.Native.Nat.{_-_, _≤_}
 use native.Mathlib.Omega.{arith}
 use borrow.Author.Needs.{needs}
-use lib.ListN.{length, getD, take}
 use Rattle.planfile.specs.Writing.{jobBytes, jobsBytes}
 use Rattle.planfile.proofs.Sets.{Put, put-start, put-length, put-on}
 use Rattle.planfile.proofs.Pages.{job-long, jobs-long, jobs-start, jobs-next}

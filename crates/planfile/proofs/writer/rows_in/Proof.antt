@@ -1,9 +1,9 @@
 -- `planfile::writer::rows_in` meets its contract: after q places, their rows are counted.
-use mathlib.Core.Path.{_≡_, refl, sym, _∙_, ap}
-use Prim.Native.Nat.{ℕ, _+_, _*_, _-_, _/_, _%_, _≤_, _<_}
+use mathlib.Core.Path.{_≡_, _∙_, ap}
+use Prim.Native.Nat.{_+_, _-_, _≤_}
 use native.Mathlib.Omega.{arith}
 use borrow.Author.Needs.{needs}
-use lib.ListN.{length, getD, take}
+use lib.ListN.{length, take}
 use lib.ListN.{length-take}
 use lib.Seq.{take-all}
 use Rattle.planfile.specs.Writing.{rowCount}

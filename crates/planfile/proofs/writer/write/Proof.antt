@@ -1,12 +1,12 @@
 -- `planfile::writer::write` meets its contract.
-use mathlib.Core.Path.{_≡_, refl, sym, _∙_, ap}
+use mathlib.Core.Path.{_≡_, sym, _∙_}
 use mathlib.Core.Bool.{true}
-use Prim.Native.Nat.{ℕ, _+_, _*_}
+use Prim.Native.Nat.{_+_, _*_}
 use native.Mathlib.Omega.{arith}
 use borrow.Author.Needs.{needs}
 use lib.ListN.{length, take}
 use lib.Seq.{length-take-le}
-use Rattle.plan.specs.Edition.{places}
+use Rattle.plan.specs.Edition.{places, jobLength, rowLength}
 use Rattle.plan.specs.Table.{sound}
 use Rattle.planfile.specs.Writing.{body, written}
 use Rattle.planfile.specs.Answers.{Writable}
@@ -25,12 +25,12 @@ writable-here c = writable (c .before .before .before .before .before .args .p) 
 
 -- The lengths that the code adds up are those of the file.
 follows-here : (c : tie.After-struct-known)
-    → 5 + c .before .before .before .before .before .before .before .before .args .p .count * 22 + 2 + c .before .rows-in .result * 15 ≡ length (body (c .before .before .before .before .before .before .before .before .args .p) (take places (c .before .before .before .before .before .before .before .before .args .table .now)))
+    → 5 + c .before .before .before .before .before .before .before .before .args .p .count * (1 + jobLength) + 2 + c .before .rows-in .result * (1 + rowLength) ≡ length (body (c .before .before .before .before .before .before .before .before .args .p) (take places (c .before .before .before .before .before .before .before .before .args .table .now)))
 follows-here c =
     rw (c .before .rows-in .ensures) (sym (body-long (c .before .before .before .before .before .before .before .before .args .p) (take places (c .before .before .before .before .before .before .before .before .args .table .now)) (writable-here (c .before .before .before) .few)))
 
 exact : (c : tie.After-struct-known)
-    → length (written (c .before .before .before .before .before .before .before .before .args .p) (take places (c .before .before .before .before .before .before .before .before .args .table .now))) ≡ 5 + (5 + c .before .before .before .before .before .before .before .before .args .p .count * 22 + 2 + c .before .rows-in .result * 15)
+    → length (written (c .before .before .before .before .before .before .before .before .args .p) (take places (c .before .before .before .before .before .before .before .before .args .table .now))) ≡ 5 + (5 + c .before .before .before .before .before .before .before .before .args .p .count * (1 + jobLength) + 2 + c .before .rows-in .result * (1 + rowLength))
 exact c = written-long (c .before .before .before .before .before .before .before .before .args .p) (take places (c .before .before .before .before .before .before .before .before .args .table .now)) ∙ omega (arith, follows-here c)
 
 returns : tie.Need-returns
