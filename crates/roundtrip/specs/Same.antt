@@ -1,0 +1,62 @@
+-- A plan with only its counted records, the others zero: what reading gives back of a plan.
+use mathlib.Core.Path.{_≡_, refl, sym, _∙_, ap, ap₂}
+use mathlib.Core.List.{List, [], _∷_, _++_}
+use Prim.Native.Nat.{ℕ, zero, suc, _-_, _/_, _<_}
+use native.Mathlib.Omega.{arith}
+use lib.ListN.{length, getD, take, replicate, List·getD-map}
+use lib.Seq.{getD-take}
+use Rattle.plan.specs.Edition.{mostJobs}
+use Rattle.plan.specs.Rules.{noJob, jobOf, counted, names, name}
+use Rattle.plan.specs.Boundaries.{insert, boundariesTo, intervals}
+use Rattle.plan.specs.declared.kinds.Job.{Job}
+use Rattle.plan.specs.declared.kinds.Plan.{Plan}
+use Rattle.plan.proofs.Names.{name-at}
+use Rattle.planfile.specs.Reading.{Head, namesOf, planOf}
+use Rattle.planfile.specs.Writing.{rowAt, rowsBytes}
+
+-- Padding with what lies past the end changes nothing.
+pub getD-pad : {A : Type 0} (l : List A) (m k : ℕ) (d : A) → getD (l ++ replicate m d) k d ≡ getD l k d
+getD-pad [] m k d = zeros m k
+  where
+    zeros : (m k : ℕ) → getD (replicate m d) k d ≡ d
+    zeros zero k = refl
+    zeros (suc m) zero = refl
+    zeros (suc m) (suc k) = zeros m k
+getD-pad (x ∷ l) m zero d = refl
+getD-pad (x ∷ l) m (suc k) d = getD-pad l m k d
+
+-- The names of a plan that was read are those of its jobs, and nothing past them.
+pub names-read : (h : Head) (jobs : List Job) (k : ℕ) → getD (names (planOf h jobs)) k 0 ≡ getD (namesOf jobs) k 0
+names-read h jobs k =
+    name-at (planOf h jobs) k ∙ ap (λ (j : Job). j .name .0) (getD-pad jobs (mostJobs - length jobs) k noJob)
+    ∙ sym (List·getD-map (λ (j : Job). j .name .0) jobs k noJob)
+
+-- Rows are written by the names alone.
+pub rows-names : (width : ℕ) (a b : List ℕ) → ((k : ℕ) → getD a k 0 ≡ getD b k 0) → (q : ℕ) (l : List ℕ) → rowsBytes width a q l ≡ rowsBytes width b q l
+unfolding rowsBytes
+rows-names width a b same q [] = refl
+rows-names width a b same q (u ∷ l) = rw (same (q / width)) (ap (λ r. rowAt width b q u ++ r) (rows-names width a b same (suc q) l))
+
+-- The plan as it is read back.
+abbrev pub kept : Plan → Plan
+kept p = planOf (record { n = p .n .0; d = p .d .0; count = p .count }) (take (p .count) (p .jobs))
+
+pub kept-job : (p : Plan) (i : ℕ) → i < p .count → jobOf (kept p) i ≡ jobOf p i
+kept-job p i h =
+    getD-pad (take (p .count) (p .jobs)) (mostJobs - length (take (p .count) (p .jobs))) i noJob ∙ getD-take (p .count) (p .jobs) i noJob h
+
+boundaries-same : (p q : Plan) (n : ℕ) → ((i : ℕ) → i < n → jobOf p i ≡ jobOf q i) → boundariesTo p n ≡ boundariesTo q n
+unfolding boundariesTo
+boundaries-same p q zero h = refl
+boundaries-same p q (suc n) h =
+    let e = h n (omega arith) in
+    ap₂ insert (ap (λ (j : Job). j .deadline .0) e)
+    (ap₂ insert (ap (λ (j : Job). j .release .0) e) (boundaries-same p q n (λ i l. h i (omega arith))))
+
+pub kept-intervals : (p : Plan) → intervals (kept p) ≡ intervals p
+kept-intervals p = ap (λ l. length l - 1) (boundaries-same (kept p) p (counted p) (λ i h. kept-job p i (omega arith)))
+
+-- The names of the first jobs.
+pub names-front : (jobs : List Job) (n k : ℕ) → k < n → getD (namesOf (take n jobs)) k 0 ≡ getD jobs k noJob .name .0
+names-front jobs n k h =
+    List·getD-map (λ (j : Job). j .name .0) (take n jobs) k noJob ∙ ap (λ (j : Job). j .name .0) (getD-take n jobs k noJob h)
