@@ -53,7 +53,7 @@ returns c =
 
 short-from-requires : tie.Need-short-from-requires
 short-from-requires c κs =
-    (c .before .before .before .before .before .before .before .before .before .pre .0, c .if1 .left, c .before .before .before .before .before .before .before .before .before .pre .1)
+    (c .before .before .before .before .before .before .before .before .before .pre .0, omega arith, c .before .before .before .before .before .before .before .before .before .pre .1)
 
 returns-2 : tie.Need-returns-2
 returns-2 c =
