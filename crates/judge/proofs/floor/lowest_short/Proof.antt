@@ -5,9 +5,10 @@ use native.Mathlib.Numerals.{add-one}
 use native.Mathlib.Omega.{arith}
 use lib.ListN.{length, getD}
 use Rattle.plan.specs.Edition.{mostIntervals}
-use Rattle.plan.specs.Boundaries.{intervals}
+use Rattle.plan.specs.Boundaries.{boundary, intervals}
 use Rattle.plan.specs.Rules.{counted}
 use Rattle.plan.proofs.Rising.{boundaries-few}
+use Rattle.judge.specs.Verdict.{isHiDeadline}
 use Rattle.judge.specs.Columns.{Lowest}
 use Rattle.judge.proofs.Hand.{zeros-at}
 use Rattle.judge.proofs.Passes.{columnSum, column-none, column-bound, due-is, columns-are, lowest-start, lowest-next}
@@ -56,19 +57,33 @@ slice-aggregate-lowered : tie.Need-slice-aggregate-lowered Inv-loop μ-loop
 slice-aggregate-lowered c =
     sym (c .before .before .before .add-rows .ensures .1 ∙ c .before .before .before .before .before .before .before .loop .inv .1)
 
+-- After the rows of a boundary are added, the column sums are those of the jobs due by it.
+in-time : (c : tie.After-add-rows Inv-loop μ-loop) → c .before .before .before .before .loop .m ≤ intervals (c .before .before .before .before .before .before .before .before .before .args .p)
+in-time c = omega (arith, c .before .before .before .before .before .before .before .before .before .pre .are-intervals)
+
+columns : (c : tie.After-add-rows Inv-loop μ-loop) → (j : ℕ) → j < intervals (c .before .before .before .before .before .before .before .before .before .args .p)
+    → getD (c .add-rows .last .0) j 0 ≡ columnSum (c .before .before .before .before .before .before .before .before .before .args .p) (c .before .before .before .before .before .before .before .before .before .args .table .now) (suc (c .before .before .before .before .loop .m)) j
+columns c =
+    let a = c .before .before .before .before .before .before .before .before .before .args in
+    columns-are (a .p) (a .table .now) (a .times .now) (a .deadlines .now) (a .grades .now) (a .spans) (c .before .before .before .before .before .before .before .before .before .pre) (c .before .before .before .before .loop .m) (in-time c)
+    (c .before .before .before .before .loop .sums) (c .add-rows .last .0) (c .add-rows .ensures .2) (c .before .before .before .before .loop .inv .2)
+
+due : (c : tie.After-add-rows Inv-loop μ-loop) → c .add-rows .result ≡ isHiDeadline (c .before .before .before .before .before .before .before .before .before .args .p) (boundary (c .before .before .before .before .before .before .before .before .before .args .p) (c .before .before .before .before .loop .m))
+due c =
+    let a = c .before .before .before .before .before .before .before .before .before .args in
+    due-is (a .p) (a .table .now) (a .times .now) (a .deadlines .now) (a .grades .now) (a .spans) (c .before .before .before .before .before .before .before .before .before .pre) (c .before .before .before .before .loop .m) (in-time c)
+    (c .add-rows .ensures .0)
+
 lowered-requires : tie.Need-lowered-requires Inv-loop μ-loop
 lowered-requires c κs =
-    let r = c .before .before .before .before .before .before .before .before .before .before .before .before .pre in
-    let p = c .before .before .before .before .before .before .before .before .before .before .before .before .args .p in
-    let in-time : c .before .before .before .before .before .before .before .loop .m ≤ intervals p = omega (arith, r .are-intervals) in (
+    let r = c .before .before .before .before .before .before .before .before .before .before .before .before .pre in (
       omega (arith, r .some),
       omega (arith, c .before .before .before .add-rows .ensures .1, c .before .before .before .before .before .before .before .loop .inv .1, few (c .before .before .before .before .before .before .before .before .before .before .before .before)),
       omega (arith, few (c .before .before .before .before .before .before .before .before .before .before .before .before)),
       λ j l. omega (
         arith,
-        columns-are p (c .before .before .before .before .before .before .before .before .before .before .before .before .args .table .now) (c .before .before .before .before .before .before .before .before .before .before .before .before .args .times .now) (c .before .before .before .before .before .before .before .before .before .before .before .before .args .deadlines .now) (c .before .before .before .before .before .before .before .before .before .before .before .before .args .grades .now) (c .before .before .before .before .before .before .before .before .before .before .before .before .args .spans) r (c .before .before .before .before .before .before .before .loop .m) in-time
-            (c .before .before .before .before .before .before .before .loop .sums) (c .before .before .before .add-rows .last .0) (c .before .before .before .add-rows .ensures .2) (c .before .before .before .before .before .before .before .loop .inv .2) j (omega (arith, r .are-intervals)),
-        column-bound p (c .before .before .before .before .before .before .before .before .before .before .before .before .args .table .now) (suc (c .before .before .before .before .before .before .before .loop .m)) j (λ q. omega (arith, c .before .before .before .before .before .before .before .before .before .before .before .shared-slice-known .given q)),
+        columns (c .before .before .before) j (omega (arith, r .are-intervals)),
+        column-bound (c .before .before .before .before .before .before .before .before .before .before .before .before .args .p) (c .before .before .before .before .before .before .before .before .before .before .before .before .args .table .now) (suc (c .before .before .before .before .before .before .before .loop .m)) j (λ q. omega (arith, c .before .before .before .before .before .before .before .before .before .before .before .shared-slice-known .given q)),
       ),
     )
 
@@ -81,16 +96,14 @@ loop-less c = omega arith
 
 loop-again : tie.Need-loop-again Inv-loop μ-loop
 loop-again c =
-    let r = c .before .before .before .before .before .before .before .before .before .before .before .before .before .pre in
     let a = c .before .before .before .before .before .before .before .before .before .before .before .before .before .args in
-    let m = c .before .before .before .before .before .before .before .before .loop .m in
-    let in-time : m ≤ intervals (a .p) = omega (arith, r .are-intervals) in
-    let columns = columns-are (a .p) (a .table .now) (a .times .now) (a .deadlines .now) (a .grades .now) (a .spans) r m in-time (c .before .before .before .before .before .before .before .before .loop .sums) (c .before .before .before .before .add-rows .last .0) (c .before .before .before .before .add-rows .ensures .2) (c .before .before .before .before .before .before .before .before .loop .inv .2) in (
+    let m = c .before .before .before .before .before .before .before .before .loop .m in (
       omega arith,
       c .before .before .before .before .add-rows .ensures .1 ∙ c .before .before .before .before .before .before .before .before .loop .inv .1,
-      λ j l. columns j (omega (arith, r .are-intervals)) ∙ ap (λ n. columnSum (a .p) (a .table .now) n j) (sym (add-one m)),
-      lowest-next (a .p) (a .table .now) (c .before .before .before .before .add-rows .last .0) (a .times .now) m (c .before .before .before .before .before .before .before .before .loop .low) (c .lowered .result) (c .before .before .before .before .add-rows .result) (r .are-boundaries) in-time columns
-          (due-is (a .p) (a .table .now) (a .times .now) (a .deadlines .now) (a .grades .now) (a .spans) r m in-time (c .before .before .before .before .add-rows .ensures .0)) (c .lowered .ensures) (c .before .before .before .before .before .before .before .before .loop .inv .3),
+      λ j l. columns (c .before .before .before .before) j (omega (arith, c .before .before .before .before .before .before .before .before .before .before .before .before .before .pre .are-intervals))
+          ∙ ap (λ n. columnSum (a .p) (a .table .now) n j) (sym (add-one m)),
+      lowest-next (a .p) (a .table .now) (c .before .before .before .before .add-rows .last .0) (a .times .now) m (c .before .before .before .before .before .before .before .before .loop .low) (c .lowered .result)
+          (c .before .before .before .before .add-rows .result) (c .before .before .before .before .before .before .before .before .before .before .before .before .before .pre .are-boundaries) (in-time (c .before .before .before .before)) (columns (c .before .before .before .before)) (due (c .before .before .before .before)) (c .lowered .ensures) (c .before .before .before .before .before .before .before .before .loop .inv .3),
     )
 
 returns : tie.Need-returns Inv-loop μ-loop

@@ -1,6 +1,6 @@
 -- `judge::windows::outside_window` meets its contract: the first i rows have nothing outside.
-use mathlib.Core.Path.{refl, sym, _∙_, _≡_}
-use mathlib.Core.Bool.{_||_, Bool}
+use mathlib.Core.Path.{ap₂, refl, sym, _∙_, _≡_}
+use mathlib.Core.Bool.{Bool, not, _||_}
 use mathlib.Core.List.{[], _∷_, List}
 use Prim.Native.Nat.{_-_, _≤_, ℕ}
 use native.Mathlib.Omega.{arith}
@@ -59,9 +59,13 @@ outside-in-row-requires c κs =
 returns : tie.Need-returns Inv-loop μ-loop
 unfolding outsideFault
 returns c =
-    let row = row-none (c .before .before .before .before .before .before .before .before .before .before .before .args .t1) (c .before .before .before .before .before .before .before .before .before .before .before .args .table .now) (c .before .before .before .before .before .before .before .before .before .before .before .args .times .now) (c .before .before .before .before .before .before .before .before .before .before .before .args .spans) (c .before .before .before .before .before .before .before .loop .i) (c .before .before .before .before .before .before .before .before .before .before .before .pre .0) (c .before .before .before .before .before .before .before .before .before .before .before .pre .1) (c .before .before .row-inside .ensures) in
-    c .outside-in-row .ensures ∙ rw (c .before .before .before .before .before .before .before .before .before .before .before .pre .0, c .before .before .before .before .before .before .before .before .before .before .before .pre .1) refl
-    ∙ sym (first-found _ _ _ (c .before .before .before .before .before .before .before .loop .inv .1) (omega arith) (row ∙ not-true _ (c .before .if1 .taken)))
+    let a = c .before .before .before .before .before .before .before .before .before .before .before .args in
+    let i = c .before .before .before .before .before .before .before .loop .i in
+    let row = row-none (a .t1) (a .table .now) (a .times .now) (a .spans) i (c .before .before .before .before .before .before .before .before .before .before .before .pre .0) (c .before .before .before .before .before .before .before .before .before .before .before .pre .1) (c .before .before .row-inside .ensures) in
+    c .outside-in-row .ensures
+    ∙ ap₂ (λ t n. first (λ j. fault (not (within t (release (a .t1) i) (deadline (a .t1) i) j || eqb (units (a .table .now) i j) 0)) (outsideWindow ∷ i ∷ j ∷ [])) n)
+    (c .before .before .before .before .before .before .before .before .before .before .before .pre .0) (c .before .before .before .before .before .before .before .before .before .before .before .pre .1)
+    ∙ sym (first-found _ i _ (c .before .before .before .before .before .before .before .loop .inv .1) (omega arith) (row ∙ not-true _ (c .before .if1 .taken)))
 
 add-i : tie.Need-add-i Inv-loop μ-loop
 add-i c = search needs
@@ -70,11 +74,11 @@ loop-less : tie.Need-loop-less Inv-loop μ-loop
 loop-less c = search needs
 
 loop-again : tie.Need-loop-again Inv-loop μ-loop
-loop-again c = (
-  omega arith,
-  first-next _ (c .before .before .before .before .before .before .loop .i) (c .before .before .before .before .before .before .loop .inv .1)
-      (none-empty _ (row-none (c .before .before .before .before .before .before .before .before .before .before .args .t1) (c .before .before .before .before .before .before .before .before .before .before .args .table .now) (c .before .before .before .before .before .before .before .before .before .before .args .times .now) (c .before .before .before .before .before .before .before .before .before .before .args .spans) (c .before .before .before .before .before .before .loop .i) (c .before .before .before .before .before .before .before .before .before .before .pre .0) (c .before .before .before .before .before .before .before .before .before .before .pre .1) (c .before .row-inside .ensures) ∙ not-false _ (c .if1 .left))),
-)
+loop-again c =
+    let a = c .before .before .before .before .before .before .before .before .before .before .args in
+    let i = c .before .before .before .before .before .before .loop .i in
+    let row = row-none (a .t1) (a .table .now) (a .times .now) (a .spans) i (c .before .before .before .before .before .before .before .before .before .before .pre .0) (c .before .before .before .before .before .before .before .before .before .before .pre .1) (c .before .row-inside .ensures) in
+    (omega arith, first-next _ i (c .before .before .before .before .before .before .loop .inv .1) (none-empty _ (row ∙ not-false _ (c .if1 .left))))
 
 returns-2 : tie.Need-returns-2 Inv-loop μ-loop
 unfolding outsideFault
