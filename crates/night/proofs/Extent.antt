@@ -1,0 +1,18 @@
+-- A plan file holds all of its first bytes, and no more than the largest file.
+use mathlib.Core.Path.{_≡_}
+use mathlib.Core.Bool.{true, false}
+use mathlib.Core.List.{List}
+use Prim.Native.Nat.{ℕ, _≤_, _<_}
+use native.Mathlib.Decide.{decLt}
+use native.Mathlib.Omega.{arith}
+use borrow.Author.Tests.{lt-ltb, le-ltb}
+use lib.ListN.{length}
+use Rattle.night.specs.Output.{headBytes, largestFile, fileBytes}
+
+pub file-fits : (l : List ℕ) → length l ≤ headBytes → (length l ≤ fileBytes l) × (fileBytes l ≤ largestFile)
+unfolding fileBytes
+file-fits l h = go (decLt (length l) headBytes)
+  where
+    go : Dec (length l < headBytes) → (length l ≤ fileBytes l) × (fileBytes l ≤ largestFile)
+    go (yes p) = rw (lt-ltb (length l) headBytes p) (omega arith, omega arith)
+    go (no p) = let q : headBytes ≤ length l = omega arith in rw (le-ltb (length l) headBytes q) (omega arith, omega arith)

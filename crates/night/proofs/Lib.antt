@@ -1,0 +1,3 @@
+pub mod Endings
+pub mod Slots
+pub mod Extent

@@ -1,0 +1,224 @@
+// The turns behind the first: a slot, the header of the outcomes, and an outcome for each job.
+use crate::Night;
+use crate::Phase;
+use crate::Turn;
+use dispatch::Run;
+use dispatch::answers::Answer;
+use dispatch::answers::Outcome;
+use dispatch::outcome::outcome;
+use dispatch::step::step;
+use lines::Printed;
+use lines::outcome_header;
+use lines::outcome_line;
+use lines::refused_slot_line;
+use lines::slot_line;
+use lines::stray_line;
+use plan::edition::Edition;
+use plan::kinds::Name;
+use plan::kinds::Plan;
+use plan::rules::counted_of;
+ghost use mathlib.Core.Path.{_≡_};
+ghost use Prim.Native.Nat.{_<_};
+ghost use Rattle.plan.specs.Rules.{name};
+ghost use Rattle.dispatch.specs.Dues.{carriedOf};
+ghost use Rattle.dispatch.specs.Answers.{ending};
+ghost use Rattle.lines.specs.Answers.{answer, printed};
+ghost use Rattle.lines.specs.Lines.{strayLine};
+ghost use Rattle.night.specs.Output.{slotOf, slotText, isRefused, jobText};
+ghost use Rattle.night.specs.Turns.{night, closes, slotTurn, afterJob, jobTurn, turned, reads, over};
+ghost use Rattle.night.specs.declared.Phase.the-variants.{Slots, Closing};
+
+// A slot at a speed.
+fn serve(p: Plan, table: &[u32], run: Run, v: u16, out: &mut [u8]) -> Turn
+    ensures { λ r. ⌜ (r .night ≡ night Slots p (slotOf p (now (table .entry)) run v .run)) × (record { answer = answer (r .printed); out = now (out .exit) } ≡ printed (slotText p run v (slotOf p (now (table .entry)) run v .answer) (slotOf p (now (table .entry)) run v)) (now (out .entry))) ⌝ }
+{
+    let mut grants = [0u32; Edition::MOST_JOBS];
+    let stepped = step(p, table, run, v, &mut grants);
+    let said = stepped.answer;
+    let next = stepped.run;
+    let clock = run.clock;
+    let on = Night {
+        phase: Phase::Slots,
+        plan: p,
+        run: next,
+    };
+    match said {
+        Answer::Done => {
+            let printed = slot_line(clock, v, next.slow, p, &grants, out);
+            Turn { night: on, printed }
+        }
+        Answer::Refused(number) => {
+            let printed = refused_slot_line(clock, v, number, out);
+            Turn { night: on, printed }
+        }
+    }
+}
+
+// The speeds are over.
+fn close(p: Plan, run: Run, out: &mut [u8]) -> Turn
+    ensures { λ r. ⌜ (r .night ≡ closes p run .night) × (record { answer = answer (r .printed); out = now (out .exit) } ≡ printed (closes p run .line) (now (out .entry))) ⌝ }
+{
+    let printed = outcome_header(out);
+    let next = Night {
+        phase: Phase::Job(0),
+        plan: p,
+        run,
+    };
+    Turn {
+        night: next,
+        printed,
+    }
+}
+
+// An odd last byte.
+fn stray(p: Plan, run: Run, out: &mut [u8]) -> Turn
+    ensures { λ r. ⌜ (r .night ≡ night Closing p run) × (record { answer = answer (r .printed); out = now (out .exit) } ≡ printed strayLine (now (out .entry))) ⌝ }
+{
+    let printed = stray_line(out);
+    let next = Night {
+        phase: Phase::Closing,
+        plan: p,
+        run,
+    };
+    Turn {
+        night: next,
+        printed,
+    }
+}
+
+fn wide(byte: u8) -> u16
+    ensures { λ r. ⌜ (r ≡ byte) × (r < 256) ⌝ }
+{
+    byte as u16
+}
+
+// What the bytes that came bring: a slot, an odd byte, or the end of the speeds.
+fn take_slot(p: Plan, table: &[u32], run: Run, bytes: &[u8], out: &mut [u8]) -> Turn
+    ensures { λ r. ⌜ (r .night ≡ slotTurn p (now (table .entry)) run (now (bytes .entry)) .night) × (record { answer = answer (r .printed); out = now (out .exit) } ≡ printed (slotTurn p (now (table .entry)) run (now (bytes .entry)) .line) (now (out .entry))) ⌝ }
+{
+    if bytes.len() == 0 {
+        return close(p, run, out);
+    }
+    if bytes.len() == 1 {
+        return stray(p, run, out);
+    }
+    let v = wide(bytes[0]) * 256 + wide(bytes[1]);
+    serve(p, table, run, v, out)
+}
+
+// The units carried for a job.
+fn carried_of(run: Run, i: usize) -> u32
+    ensures { λ r. ⌜ r ≡ carriedOf run i ⌝ }
+{
+    if i < Edition::MOST_JOBS { run.carried[i] } else { 0 }
+}
+
+// The name of a job; zeros where there is none.
+fn name_of(p: Plan, i: usize) -> Name
+    ensures { λ r. ⌜ r .0 ≡ name p i ⌝ }
+{
+    if Edition::MOST_JOBS <= i {
+        return Name(0);
+    }
+    let job = p.jobs[i];
+    job.name
+}
+
+// Whether an outcome is refused.
+fn is_refused(ended: Outcome) -> bool
+    ensures { λ r. ⌜ r ≡ isRefused (ending ended) ⌝ }
+{
+    match ended {
+        Outcome::Met => false,
+        Outcome::Discarded => false,
+        Outcome::Missed => false,
+        Outcome::Open => false,
+        Outcome::Refused(_) => true,
+    }
+}
+
+// What comes behind the outcome of a job.
+fn next_job(p: Plan, i: usize) -> Phase
+    ensures { λ r. ⌜ r ≡ afterJob p i ⌝ }
+{
+    let jobs = counted_of(p);
+    if jobs <= i {
+        return Phase::Over;
+    }
+    if i + 1 < jobs {
+        Phase::Job(i + 1)
+    } else {
+        Phase::Over
+    }
+}
+
+// The line of a job's outcome; a refused outcome has none.
+fn job_line(p: Plan, run: Run, i: usize, out: &mut [u8]) -> Printed
+    ensures { λ r. ⌜ record { answer = answer r; out = now (out .exit) } ≡ printed (jobText p run i) (now (out .entry)) ⌝ }
+{
+    let ended = outcome(p, run, i);
+    if is_refused(ended) {
+        return Printed::Length(0);
+    }
+    outcome_line(name_of(p, i), ended, carried_of(run, i), out)
+}
+
+// A job's outcome; then comes the next job's, if there is one.
+fn tell_job(p: Plan, run: Run, i: usize, out: &mut [u8]) -> Turn
+    ensures { λ r. ⌜ (r .night ≡ jobTurn p run i .night) × (record { answer = answer (r .printed); out = now (out .exit) } ≡ printed (jobTurn p run i .line) (now (out .entry))) ⌝ }
+{
+    let printed = job_line(p, run, i, out);
+    let next = Night {
+        phase: next_job(p, i),
+        plan: p,
+        run,
+    };
+    Turn {
+        night: next,
+        printed,
+    }
+}
+
+// A turn of a night, with the bytes that came for it.
+pub fn advance(n: Night, table: &[u32], bytes: &[u8], out: &mut [u8]) -> Turn
+    ensures { λ r. ⌜ (r .night ≡ turned n (now (table .entry)) (now (bytes .entry)) .night) × (record { answer = answer (r .printed); out = now (out .exit) } ≡ printed (turned n (now (table .entry)) (now (bytes .entry)) .line) (now (out .entry))) ⌝ }
+{
+    let phase = n.phase;
+    let p = n.plan;
+    let run = n.run;
+    match phase {
+        Phase::Slots => take_slot(p, table, run, bytes, out),
+        Phase::Closing => close(p, run, out),
+        Phase::Job(i) => tell_job(p, run, i, out),
+        Phase::Over => Turn {
+            night: n,
+            printed: Printed::Length(0),
+        },
+    }
+}
+
+// Whether the next turn takes a speed.
+pub fn is_reading(n: Night) -> bool
+    ensures { λ r. ⌜ r ≡ reads (n .phase) ⌝ }
+{
+    let phase = n.phase;
+    match phase {
+        Phase::Slots => true,
+        Phase::Closing => false,
+        Phase::Job(_) => false,
+        Phase::Over => false,
+    }
+}
+
+// Whether nothing more is printed.
+pub fn is_over(n: Night) -> bool
+    ensures { λ r. ⌜ r ≡ over (n .phase) ⌝ }
+{
+    let phase = n.phase;
+    match phase {
+        Phase::Slots => false,
+        Phase::Closing => false,
+        Phase::Job(_) => false,
+        Phase::Over => true,
+    }
+}
