@@ -4,16 +4,15 @@ mod file;
 mod opening;
 mod turns;
 
+use dispatch::Run;
 pub use file::HEAD_BYTES;
 pub use file::file_bytes;
+use lines::Printed;
 pub use opening::open;
+use plan::kinds::Plan;
 pub use turns::advance;
 pub use turns::is_over;
 pub use turns::is_reading;
-
-use dispatch::Run;
-use lines::Printed;
-use plan::kinds::Plan;
 
 // What the next turn prints: a slot, the header of the outcomes, the outcome of a job, or nothing more.
 pub enum Phase {

@@ -110,7 +110,11 @@ fn take_slot(p: Plan, table: &[u32], run: Run, bytes: &[u8], out: &mut [u8]) -> 
 fn carried_of(run: Run, i: usize) -> u32
     ensures { λ r. ⌜ r ≡ carriedOf run i ⌝ }
 {
-    if i < Edition::MOST_JOBS { run.carried[i] } else { 0 }
+    if i < Edition::MOST_JOBS {
+        run.carried[i]
+    } else {
+        0
+    }
 }
 
 // The name of a job; zeros where there is none.
