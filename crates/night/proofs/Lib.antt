@@ -1,3 +1,4 @@
 pub mod Endings
 pub mod Slots
 pub mod Extent
+pub mod Whole
