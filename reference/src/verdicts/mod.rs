@@ -175,7 +175,6 @@ impl<'a, W: Write> Printer<'a, W> {
             checksum.add(part.length as u32);
             if part.length > 0 {
                 shown += 1;
-                checksum.add(part.offset as u32);
                 checksum.add_bytes(&file[part.offset..part.offset + part.length]);
             }
         }

@@ -84,7 +84,7 @@ fn set_and_verdicts_are_those_that_the_format_names() {
     assert_eq!((stored.len(), sum_of(&stored)), (3_188_400, 239_666_904));
     assert_eq!(
         (text.len(), sum_of(text.as_bytes())),
-        (1_840_855, 325_798_996)
+        (1_840_759, 548_068_875)
     );
 }
 

@@ -1,0 +1,75 @@
+// The reader's refusals, each on plan E's file with one change.
+use crate::example::BYTES;
+use crate::example::lay_changed;
+use crate::example::read_changed;
+use plan::edition::Edition;
+use planfile::lookup::name_of;
+use planfile::reader::Reading;
+use planfile::reader::read;
+use report::answers::read_number;
+use report::text::end_line;
+use report::text::part;
+use report::text::print;
+use report::text::put_next_number;
+use report::text::put_next_word;
+use report::text::put_word;
+
+const LINE: usize = 80;
+
+fn reader_line(text: &mut [u8], name: &[u8], r: Reading) -> usize {
+    let answer = r.answer;
+    let begun = put_word(text, 0, b"reader, ");
+    let named = put_word(text, begun, name);
+    let told = put_next_number(text, named, read_number(answer) as u64);
+    end_line(text, told)
+}
+
+fn print_reading(name: &[u8], r: Reading) -> bool {
+    let mut text = [0u8; LINE];
+    let length = reader_line(&mut text, name, r);
+    print(&text, length)
+}
+
+// Plan E with other bytes at a place.
+pub fn changed(name: &[u8], at: usize, bytes: &[u8]) -> bool {
+    let mut table = [0u32; Edition::PLACES];
+    print_reading(name, read_changed(at, bytes, &mut table))
+}
+
+// The first bytes of plan E's file.
+pub fn cut(name: &[u8], length: usize) -> bool {
+    let mut file = [0u8; BYTES];
+    let mut table = [0u32; Edition::PLACES];
+    lay_changed(&mut file, 0, b"");
+    print_reading(name, read(part(&file, length), &mut table))
+}
+
+// Plan E's file and a byte more.
+pub fn longer(name: &[u8]) -> bool {
+    let mut file = [0u8; BYTES + 1];
+    let mut table = [0u32; Edition::PLACES];
+    lay_changed(&mut file, 0, b"\x01\x00\x00\x00\x70");
+    print_reading(name, read(&file, &mut table))
+}
+
+// Plan E and a table with a place too few.
+pub fn short_table(name: &[u8]) -> bool {
+    let mut table = [0u32; Edition::PLACES - 1];
+    print_reading(name, read_changed(0, b"", &mut table))
+}
+
+fn name_line(text: &mut [u8], position: usize, name: &[u8]) -> usize {
+    let begun = put_word(text, 0, b"name of");
+    let placed = put_next_number(text, begun, position as u64);
+    let told = put_next_word(text, placed, name);
+    end_line(text, told)
+}
+
+// The name that plan E's file shows at a position.
+pub fn name_at(position: usize) -> bool {
+    let mut file = [0u8; BYTES];
+    let mut text = [0u8; LINE];
+    lay_changed(&mut file, 0, b"");
+    let length = name_line(&mut text, position, name_of(&file, position));
+    print(&text, length)
+}
