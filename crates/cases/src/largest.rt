@@ -8,7 +8,7 @@ use plan::kinds::Rate;
 use plan::kinds::Slots;
 use plan::kinds::Units;
 use planfile::reader::read;
-use planfile::writer::write;
+use planwriter::writer::write;
 use report::answers::put_written;
 use report::answers::read_number;
 use report::checksum::FIRST;

@@ -6,7 +6,7 @@ use judge::figure::slack;
 use judge::judge;
 use plan::edition::Edition;
 use plan::kinds::Plan;
-use planfile::writer::write;
+use planwriter::writer::write;
 use report::answers::put_slack;
 use report::answers::put_verdict;
 use report::answers::put_written;

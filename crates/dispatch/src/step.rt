@@ -14,6 +14,7 @@ use plan::rules::counted_of;
 ghost use mathlib.Core.Path.{_≡_};
 ghost use Rattle.dispatch.specs.Step.{stepped};
 ghost use Rattle.dispatch.specs.Answers.{report};
+ghost use Rattle.dispatch.specs.declared.answers.Answer.the-variants as answer;
 
 // What a slot's call hands back; a refusal stands beside the run as it was.
 pub struct Stepped {
@@ -21,36 +22,34 @@ pub struct Stepped {
     pub run: Run,
 }
 
+// A refusal: its number beside the run as it was.
+fn refused(number: u8, run: Run) -> Stepped
+    ensures { λ r. ⌜ r ≡ record { answer = answer.Refused number; run = run } ⌝ }
+{
+    Stepped {
+        answer: Answer::Refused(number),
+        run,
+    }
+}
+
 // Carries one slot at speed v. The grants go into the lent row, a place for each job.
 pub fn step(p: Plan, table: &[u32], run: Run, v: u16, grants: &mut [u32]) -> Stepped
     ensures { λ r. ⌜ record { answer = report (r .answer); run = r .run; grants = now (grants .exit) } ≡ stepped p (now (table .entry)) run v (now (grants .entry)) ⌝ }
 {
     if !slot_sound(p, run) {
-        return Stepped {
-            answer: Answer::Refused(UNSOUND),
-            run,
-        };
+        return refused(UNSOUND, run);
     }
     if (table.len() < Edition::PLACES) | (grants.len() < counted_of(p)) {
-        return Stepped {
-            answer: Answer::Refused(BUFFER_TOO_SHORT),
-            run,
-        };
+        return refused(BUFFER_TOO_SHORT, run);
     }
     let clock = run.clock;
     let last = last_deadline(p);
     if clock.0 == last.0 {
-        return Stepped {
-            answer: Answer::Refused(CLOCK_AT_END),
-            run,
-        };
+        return refused(CLOCK_AT_END, run);
     }
     let n = p.n;
     if n.0 < v {
-        return Stepped {
-            answer: Answer::Refused(SPEED_ABOVE_NORMAL),
-            run,
-        };
+        return refused(SPEED_ABOVE_NORMAL, run);
     }
     let next = serve(p, table, run, v, grants);
     Stepped {

@@ -3,6 +3,9 @@
 pub struct Edition();
 
 impl Edition {
+    // The first byte of a plan file.
+    pub const VERSION: u8 = 1;
+
     pub const MOST_JOBS: usize = 32;
 
     pub const MOST_BOUNDARIES: usize = 2 * Self::MOST_JOBS;

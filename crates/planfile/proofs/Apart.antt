@@ -12,25 +12,17 @@ use lib.ListN.{length, getD, length-append, List·getD-append}
 use lib.Seq.{getD-at}
 use Rattle.plan.specs.Edition.{jobLength}
 use Rattle.plan.specs.Refusal.{wrongNameByte, nameTaken, wrongGrade, wrongJobBounds}
-use Rattle.plan.specs.Below.{every}
 use Rattle.plan.specs.Rules.{nameAllowed, isAbsent, gradeAllowed, windowAllowed, sizeAllowed}
 use Rattle.plan.specs.declared.kinds.Job.{Job}
+use Rattle.plan.proofs.Below.{every-at}
 use Rattle.planfile.specs.Reading.{got, field, checked, named, jobName, oneJob, namesOf, allJobs}
 use Rattle.planfile.specs.Answers.{Distinct}
-use Rattle.planfile.proofs.Steps.{both, through, past, checked-is, same-value, same-next}
+use Rattle.planfile.proofs.Steps.{through, past, checked-is, same-value, same-next}
 use Rattle.planfile.proofs.Roll.{names-snoc, length-snoc}
-
--- A test that holds at every number below a length holds at each.
-pub every-each : (test : ℕ → Bool) (n : ℕ) → every test n ≡ true → (k : ℕ) → k < n → test k ≡ true
-unfolding every
-every-each test zero e k h = absurd (omega arith)
-every-each test (suc n) e k h =
-    let t = both (every test n) (test n) e in
-    ⊎-elim (λ same. rw same (t .1)) (λ lt. every-each test n (t .0) k lt) (eq-or-lt-of-le {n = k} {m = n} (omega arith))
 
 pub absent-each : (l : List ℕ) (x k : ℕ) → isAbsent l x ≡ true → k < length l → getD l k 0 ≡ x → ⊥
 unfolding isAbsent
-absent-each l x k e h = eqb-false (getD l k 0) x (not-true (eqb (getD l k 0) x) (every-each (λ k. not (eqb (getD l k 0) x)) (length l) e k h))
+absent-each l x k e h = eqb-false (getD l k 0) x (not-true (eqb (getD l k 0) x) (every-at (λ k. not (eqb (getD l k 0) x)) (length l) k e h))
 
 -- One more name that is not among them.
 pub distinct-snoc : (l : List ℕ) (x : ℕ) → Distinct l → isAbsent l x ≡ true → Distinct (l ++ (x ∷ []))

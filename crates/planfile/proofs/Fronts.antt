@@ -13,6 +13,7 @@ use Rattle.plan.specs.Rules.{ratesAllowed, counted}
 use Rattle.plan.specs.Boundaries.{intervals}
 use Rattle.plan.specs.declared.kinds.Job.{Job}
 use Rattle.plan.specs.declared.kinds.Plan.{Plan}
+use Rattle.plan.proofs.Below.{both}
 use Rattle.planfile.specs.Reading.{Step, got, no, field, checked, opening, Head, head, namesOf, allJobs, planOf, Front, front}
 use Rattle.planfile.specs.Answers.{Distinct, fieldTold, JobsAnswer, FrontAnswer}
 use Rattle.planfile.specs.declared.field.Field.{Field}
@@ -23,7 +24,7 @@ use Rattle.planfile.specs.declared.front.Jobs.{Jobs}
 use Rattle.plan.proofs.Rising.{boundaries-few}
 use Rattle.planfile.proofs.Roll.{names-length}
 use Rattle.planfile.proofs.Apart.{jobs-apart}
-use Rattle.planfile.proofs.Steps.{both, through, past, checked-is, same-value}
+use Rattle.planfile.proofs.Steps.{through, past, checked-is, same-value}
 
 -- A head that is read has a job, and no more jobs than there is room for.
 pub head-count : (most : ℕ) (file : List ℕ) (at : ℕ) {h : Head} {next : ℕ} → head most file at ≡ got h next

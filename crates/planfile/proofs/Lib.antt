@@ -8,7 +8,4 @@ pub mod Apart
 pub mod Fronts
 pub mod Whole
 pub mod Extent
-pub mod Sets
-pub mod Pages
-pub mod Files
 pub mod Told

@@ -90,8 +90,3 @@ passed-number e h = e ∙ ap passed.Refused (sym (h ∙ ap passedRefusal e))
 
 pub field-number : {f : Field} {x k : ℕ} → f ≡ field.Refused k → x ≡ fieldRefusal f → f ≡ field.Refused x
 field-number e h = e ∙ ap field.Refused (sym (h ∙ ap fieldRefusal e))
-
--- Both halves of a test that holds.
-pub both : (a b : Bool) → (a && b) ≡ true → (a ≡ true) × (b ≡ true)
-both true b e = (refl, e)
-both false b e = absurd (let z : _≡_ {A = ℕ} 0 1 = cc in omega arith)

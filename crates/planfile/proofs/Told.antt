@@ -1,16 +1,13 @@
--- The reports of the reader's and the writer's answers tell all answers apart: equal reports are equal answers.
+-- The reports of the reader's answers tell all answers apart: equal reports are equal answers.
 use mathlib.Core.Path.{_≡_, refl, ap}
 use mathlib.Core.List.{List}
 use Prim.Native.Nat.{ℕ}
 use native.Mathlib.Omega.{arith}
 use Rattle.planfile.specs.Reading.{Left}
-use Rattle.planfile.specs.Writing as writing
-use Rattle.planfile.specs.Answers.{answerTold, readTold, writtenTold, outputTold}
+use Rattle.planfile.specs.Answers.{answerTold, readTold}
 use Rattle.planfile.specs.declared.reader.Answer.{Answer}
 use Rattle.planfile.specs.declared.reader.Answer.the-variants as answer
 use Rattle.planfile.specs.declared.reader.Reading.{Reading}
-use Rattle.planfile.specs.declared.writer.Written.{Written}
-use Rattle.planfile.specs.declared.writer.Written.the-variants as written
 
 pub answers-apart : (a b : Answer) → answerTold a ≡ answerTold b → a ≡ b
 answers-apart answer.Read answer.Read e = refl
@@ -22,13 +19,3 @@ pub readings-apart : (r s : Reading) (t u : List ℕ) → readTold r t ≡ readT
 readings-apart r s t u e =
     let a = answers-apart (r .answer) (s .answer) (ap (λ (l : Left). l .answer) e) in
     ((λ i. record { answer = a i; plan = (ap (λ (l : Left). l .plan) e) i }), ap (λ (l : Left). l .table) e)
-
-pub written-apart : (a b : Written) → writtenTold a ≡ writtenTold b → a ≡ b
-written-apart (written.Length m) (written.Length n) e = cc
-written-apart (written.Length m) (written.Refused n) e = absurd (let z : _≡_ {A = ℕ} 0 1 = cc in omega arith)
-written-apart (written.Refused m) (written.Length n) e = absurd (let z : _≡_ {A = ℕ} 0 1 = cc in omega arith)
-written-apart (written.Refused m) (written.Refused n) e = cc
-
-pub outputs-apart : (a b : Written) (t u : List ℕ) → outputTold a t ≡ outputTold b u → (a ≡ b) × (t ≡ u)
-outputs-apart a b t u e =
-    (written-apart a b (ap (λ (o : writing.Output). o .answer) e), ap (λ (o : writing.Output). o .out) e)

@@ -1,12 +1,9 @@
 -- What the answers of the code say: for each enum its report, as a step of the reading or as the rules' number, and what inner calls promise.
 use mathlib.Core.Path.{_≡_}
 use mathlib.Core.List.{List, [], _∷_, _++_}
-use Prim.Native.Nat.{ℕ, _≤_, _<_, _^_}
+use Prim.Native.Nat.{ℕ, _<_}
 use lib.ListN.{length, getD, drop}
-use Rattle.plan.specs.Edition.{mostJobs, places}
-use Rattle.plan.specs.Rules.{size}
 use Rattle.plan.specs.declared.kinds.Job.{Job}
-use Rattle.plan.specs.declared.kinds.Plan.{Plan}
 use Rattle.planfile.specs.declared.field.Field.{Field}
 use Rattle.planfile.specs.declared.field.Field.the-variants as field
 use Rattle.planfile.specs.declared.field.Passed.{Passed}
@@ -23,10 +20,7 @@ use Rattle.planfile.specs.declared.front.Front.{Front}
 use Rattle.planfile.specs.declared.reader.Answer.{Answer}
 use Rattle.planfile.specs.declared.reader.Answer.the-variants as answer
 use Rattle.planfile.specs.declared.reader.Reading.{Reading}
-use Rattle.planfile.specs.declared.writer.Written.{Written}
-use Rattle.planfile.specs.declared.writer.Written.the-variants as written
 use Rattle.planfile.specs.Reading as rule
-use Rattle.planfile.specs.Writing as writing
 use Rattle.planfile.specs.Reading.{Step, got, no}
 
 -- No two of some numbers are equal.
@@ -125,17 +119,3 @@ answerTold (answer.Refused number) = number ∷ []
 -- The reader's whole result: its answer, the plan and the table as it is left.
 abbrev pub readTold : Reading → List ℕ → rule.Left
 readTold r left = record { answer = answerTold (r .answer); plan = r .plan; table = left }
-
--- What the writer needs to know of a plan and its table to write them; soundness gives it.
-pub record Writable (p : Plan) (table : List ℕ) : Type 0 where
-  pub few : p .count ≤ mostJobs
-  pub sized : (i : ℕ) → i < p .count → size p i < 256 ^ 4
-  pub exact : length table ≡ places
-
--- The writer's whole result: its answer in the rules' terms, and the output as it is left.
-abbrev pub writtenTold : Written → writing.Answer
-writtenTold (written.Length n) = writing.wrote n
-writtenTold (written.Refused number) = writing.refused number
-
-abbrev pub outputTold : Written → List ℕ → writing.Output
-outputTold r out = record { answer = writtenTold r; out = out }

@@ -1,4 +1,3 @@
 pub mod Bytes
 pub mod Reading
-pub mod Writing
 pub mod Answers

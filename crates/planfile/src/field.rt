@@ -21,7 +21,7 @@ pub enum Passed {
 // No refusal has this number.
 pub const NONE: u8 = 0;
 
-pub fn field_refusal(f: Field) -> u8
+pub(crate) fn field_refusal(f: Field) -> u8
     ensures { λ r. ⌜ r ≡ fieldRefusal f ⌝ }
 {
     match f {
@@ -30,7 +30,7 @@ pub fn field_refusal(f: Field) -> u8
     }
 }
 
-pub fn passed_refusal(p: Passed) -> u8
+pub(crate) fn passed_refusal(p: Passed) -> u8
     ensures { λ r. ⌜ r ≡ passedRefusal p ⌝ }
 {
     match p {
@@ -40,7 +40,7 @@ pub fn passed_refusal(p: Passed) -> u8
 }
 
 // A field of w bytes, the highest first.
-pub fn read_field(file: &[u8], at: usize, w: usize) -> Field
+pub(crate) fn read_field(file: &[u8], at: usize, w: usize) -> Field
     requires { ⌜ w ≤ 8 ⌝ }
     ensures { λ r. ⌜ (fieldTold r ≡ field w (now (file .entry)) at) × (fieldValue r < 256 ^ w) ⌝ }
 {
@@ -60,7 +60,7 @@ pub fn read_field(file: &[u8], at: usize, w: usize) -> Field
 }
 
 // The name of a record whose length byte is to say a given length.
-pub fn read_named(file: &[u8], at: usize, length: u64) -> Field
+pub(crate) fn read_named(file: &[u8], at: usize, length: u64) -> Field
     ensures { λ r. ⌜ fieldTold r ≡ named length (now (file .entry)) at ⌝ }
 {
     let long = read_field(file, at, 1);
@@ -74,7 +74,7 @@ pub fn read_named(file: &[u8], at: usize, length: u64) -> Field
 }
 
 // The end of the file, where no bytes may remain.
-pub fn read_end(file: &[u8], at: usize) -> Passed
+pub(crate) fn read_end(file: &[u8], at: usize) -> Passed
     ensures { λ r. ⌜ passedTold r ≡ ended (now (file .entry)) at ⌝ }
 {
     if at != file.len() {

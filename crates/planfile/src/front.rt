@@ -61,7 +61,7 @@ fn plan_with(head: Head) -> Plan
     }
 }
 
-pub fn no_plan() -> Plan
+pub(crate) fn no_plan() -> Plan
     ensures { λ r. ⌜ r ≡ noPlan ⌝ }
 {
     plan_with(Head {
@@ -113,7 +113,7 @@ fn read_row_count(file: &[u8], at: usize) -> Field
     two
 }
 
-pub fn read_front(file: &[u8], names: &mut [u64]) -> Front
+pub(crate) fn read_front(file: &[u8], names: &mut [u64]) -> Front
     requires { ⌜ length (now names) ≡ mostJobs ⌝ }
     ensures { λ r. ⌜ FrontAnswer (now (names .entry)) (front (now (file .entry)) 0) r (now (names .exit)) ⌝ }
 {

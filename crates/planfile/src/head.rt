@@ -3,6 +3,7 @@ use crate::field::Field;
 use crate::field::NONE;
 use crate::field::field_refusal;
 use crate::field::read_field;
+use plan::edition::Edition;
 use plan::kinds::Rate;
 use plan::refusal::WRONG_EXTENT;
 use plan::refusal::WRONG_JOB_COUNT;
@@ -15,8 +16,6 @@ ghost use Rattle.plan.specs.Edition.{mostJobs};
 ghost use Rattle.planfile.specs.Reading.{opening, head};
 ghost use Rattle.planfile.specs.Answers.{fieldTold, headTold, headRefusal};
 
-pub const VERSION: u8 = 1;
-
 pub struct Head {
     pub n: Rate,
     pub d: Rate,
@@ -28,7 +27,7 @@ pub enum HeadRead {
     Refused(u8),
 }
 
-pub fn head_refusal(h: HeadRead) -> u8
+pub(crate) fn head_refusal(h: HeadRead) -> u8
     ensures { λ r. ⌜ r ≡ headRefusal h ⌝ }
 {
     match h {
@@ -44,7 +43,7 @@ fn read_opening(file: &[u8]) -> Field
     if file.len() == 0 {
         return Field::Refused(WRONG_VERSION);
     }
-    if file[0] != VERSION {
+    if file[0] != Edition::VERSION {
         return Field::Refused(WRONG_VERSION);
     }
     let length = read_field(file, 1, 4);
@@ -60,7 +59,7 @@ fn read_opening(file: &[u8]) -> Field
     length
 }
 
-pub fn read_head(file: &[u8]) -> HeadRead
+pub(crate) fn read_head(file: &[u8]) -> HeadRead
     ensures { λ r. ⌜ headTold r ≡ head mostJobs (now (file .entry)) 0 ⌝ }
 {
     let opening = read_opening(file);

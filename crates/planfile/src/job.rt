@@ -30,7 +30,7 @@ pub enum JobRead {
     Refused(u8),
 }
 
-pub fn job_refusal(j: JobRead) -> u8
+pub(crate) fn job_refusal(j: JobRead) -> u8
     ensures { λ r. ⌜ r ≡ jobRefusal j ⌝ }
 {
     match j {
@@ -69,7 +69,7 @@ fn read_grade(file: &[u8], at: usize) -> Field
     byte
 }
 
-pub fn read_job(file: &[u8], at: usize, earlier: &[u64]) -> JobRead
+pub(crate) fn read_job(file: &[u8], at: usize, earlier: &[u64]) -> JobRead
     ensures { λ r. ⌜ jobTold r ≡ oneJob (now (earlier .entry)) (now (file .entry)) at ⌝ }
 {
     let named = read_name(file, at, earlier);

@@ -31,7 +31,7 @@ pub enum RowRead {
     Refused(u8),
 }
 
-pub fn row_refusal(r: RowRead) -> u8
+pub(crate) fn row_refusal(r: RowRead) -> u8
     ensures { λ n. ⌜ n ≡ rowRefusal r ⌝ }
 {
     match r {
@@ -95,7 +95,7 @@ fn read_units(file: &[u8], at: usize) -> Field
 }
 
 // One row of a plan with these names and this many intervals. Its place is to be no lower than low; the search starts at job start.
-pub fn read_row(
+pub(crate) fn read_row(
     file: &[u8],
     at: usize,
     names: &[u64],

@@ -15,7 +15,7 @@ use plan::refusal::OVER_CAPACITY;
 use plan::refusal::UNSOUND;
 use plan::refusal::WRONG_TOTAL;
 use planfile::reader;
-use planfile::writer::Written;
+use planwriter::writer::Written;
 
 pub const DONE: u8 = 0;
 

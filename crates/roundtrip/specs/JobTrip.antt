@@ -14,11 +14,12 @@ use Rattle.plan.specs.Refusal.{wrongGrade}
 use Rattle.plan.specs.Rules.{nameAllowed, isAbsent, gradeAllowed, windowAllowed, sizeAllowed, noJob, jobOf}
 use Rattle.plan.specs.declared.kinds.Job.{Job}
 use Rattle.plan.specs.declared.kinds.Plan.{Plan}
+use Rattle.plan.proofs.Below.{both}
 use Rattle.planfile.specs.Bytes.{bytes}
 use Rattle.planfile.specs.Reading.{got, field, checked, named, jobName, oneJob, namesOf, allJobs}
-use Rattle.planfile.specs.Writing.{jobBytes, jobsBytes}
+use Rattle.planwriter.specs.Writing.{jobBytes, jobsBytes}
 use Rattle.planfile.proofs.Digits.{Octets}
-use Rattle.planfile.proofs.Steps.{both, through, same-value, same-next}
+use Rattle.planfile.proofs.Steps.{through, same-value, same-next}
 use Rattle.planfile.proofs.Heads.{job-whole}
 use Rattle.planfile.proofs.Apart.{job-read}
 use Rattle.planfile.proofs.Extent.{named-extent}

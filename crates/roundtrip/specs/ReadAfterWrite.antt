@@ -17,20 +17,19 @@ use Rattle.plan.specs.Boundaries.{intervals}
 use Rattle.plan.specs.Table.{noStray, sound}
 use Rattle.plan.specs.declared.kinds.Job.{Job}
 use Rattle.plan.specs.declared.kinds.Plan.{Plan}
-use Rattle.plan.proofs.Below.{every-ext}
+use Rattle.plan.proofs.Below.{every-ext, both, every-at}
 use Rattle.plan.proofs.Names.{name-at}
 use Rattle.plan.proofs.Rising.{boundaries-few}
 use Rattle.planfile.specs.Bytes.{bytes}
 use Rattle.planfile.specs.Reading.{got, field, checked, opening, Head, head, namesOf, allJobs, planOf, front, allRows, ended, readFile}
-use Rattle.planfile.specs.Writing.{jobsBytes, rowBytes, rowsBytes, rowCount, body, written}
-use Rattle.planfile.specs.Answers.{Writable}
+use Rattle.planwriter.specs.Writing.{jobsBytes, rowBytes, rowsBytes, rowCount, body, written}
+use Rattle.planwriter.specs.Answers.{Writable}
 use Rattle.planfile.proofs.Digits.{length-bytes}
-use Rattle.planfile.proofs.Steps.{both}
 use Rattle.planfile.proofs.Heads.{opening-right, head-whole}
-use Rattle.planfile.proofs.Apart.{every-each, jobs-apart}
+use Rattle.planfile.proofs.Apart.{jobs-apart}
 use Rattle.planfile.proofs.Whole.{file-whole}
-use Rattle.planfile.proofs.Files.{Sound, sound-parts, count-bounds, counted-is, writable, body-of, body-short, written-of, written-long}
-use Rattle.planfile.proofs.Pages.{count-few}
+use Rattle.planwriter.proofs.Files.{Sound, sound-parts, count-bounds, counted-is, writable, body-of, body-short, written-of, written-long}
+use Rattle.planwriter.proofs.Pages.{count-few}
 use Rattle.roundtrip.specs.Stands.{Stands, stands-at, stands-as, stands-first, stands-rest, field-back}
 use Rattle.roundtrip.specs.JobTrip.{Readable, span-whole, jobs-back}
 use Rattle.roundtrip.specs.RowTrip.{rows-back}
@@ -47,14 +46,14 @@ readable p table s long fits k h =
     = length-map (take k (p .jobs)) (λ (j : Job). j .name .0) ∙ length-take-le k (p .jobs) (omega (arith, long, few)) in
     record {
       fits = fits k h;
-      allowed = every-each (λ i. nameAllowed (name p i)) (counted p) (s .named) k h′;
+      allowed = every-at (λ i. nameAllowed (name p i)) (counted p) k (s .named) h′;
       absent =
           rw n
           (every-ext (λ i. not (eqb (getD (namesOf (take k (p .jobs))) i 0) (name p k))) (λ i. not (sameName (name p i) (name p k))) k
           (λ i l. ap (λ x. not (eqb x (name p k))) (names-front (p .jobs) k i l))
-          ∙ every-each (λ i. every (λ j. not (sameName (name p j) (name p i))) i) (counted p) (s .differ) k h′);
-      graded = every-each (λ i. gradeAllowed (jobOf p i .grade)) (counted p) (s .grades) k h′;
-      bounds = every-each (λ i. windowAllowed (release p i) (deadline p i) && sizeAllowed (size p i)) (counted p) (s .bounds) k h′;
+          ∙ every-at (λ i. every (λ j. not (sameName (name p j) (name p i))) i) (counted p) k (s .differ) h′);
+      graded = every-at (λ i. gradeAllowed (jobOf p i .grade)) (counted p) k (s .grades) h′;
+      bounds = every-at (λ i. windowAllowed (release p i) (deadline p i) && sizeAllowed (size p i)) (counted p) k (s .bounds) h′;
     }
 
 -- Rows of a table without stray places are written by the counted names alone.

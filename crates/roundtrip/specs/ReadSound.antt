@@ -18,11 +18,11 @@ use Rattle.plan.specs.declared.kinds.Job.{Job}
 use Rattle.plan.specs.declared.kinds.Plan.{Plan}
 use Rattle.plan.proofs.Below.{every-ext}
 use Rattle.planfile.specs.Reading.{got, oneJob, namesOf, allJobs, planOf, Held, readFile}
-use Rattle.planfile.specs.Writing.{written}
+use Rattle.planwriter.specs.Writing.{written}
 use Rattle.planfile.proofs.Digits.{Octets}
 use Rattle.planfile.proofs.Steps.{through, same-value}
 use Rattle.planfile.proofs.Roll.{length-snoc, room-length}
-use Rattle.planfile.proofs.Files.{counted-is}
+use Rattle.planwriter.proofs.Files.{counted-is}
 use Rattle.roundtrip.specs.JobTrip.{Readable, job-again}
 use Rattle.roundtrip.specs.Same.{getD-pad, names-front, kept}
 use Rattle.roundtrip.specs.ReadAfterWrite.{read-own}

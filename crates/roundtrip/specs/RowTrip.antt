@@ -13,15 +13,16 @@ use lib.Seq.{set-at}
 use Rattle.plan.specs.Edition.{mostIntervals, rowLength}
 use Rattle.plan.specs.Refusal.{rowWithoutJob, rowWithoutInterval, rowWithoutUnits, rowOutOfOrder}
 use Rattle.plan.specs.Table.{place, noStray}
+use Rattle.plan.proofs.Below.{both}
 use Rattle.planfile.specs.Bytes.{bytes}
 use Rattle.planfile.specs.Reading.{got, field, checked, named, position, Row, oneRow, allRows}
-use Rattle.planfile.specs.Writing.{rowBytes, rowsBytes, rowCount}
+use Rattle.planwriter.specs.Writing.{rowBytes, rowsBytes, rowCount}
 use Rattle.planfile.specs.Answers.{Distinct}
 use Rattle.planfile.proofs.Digits.{Octets}
-use Rattle.planfile.proofs.Steps.{both, through, past, checked-is, same-value, same-next}
+use Rattle.planfile.proofs.Steps.{through, past, checked-is, same-value, same-next}
 use Rattle.planfile.proofs.Search.{position-only, position-found}
 use Rattle.planfile.proofs.Rows.{row-whole, row-inside, rows-step, rows-done}
-use Rattle.planfile.proofs.Pages.{rows-split, count-split}
+use Rattle.planwriter.proofs.Pages.{rows-split, count-split}
 use Rattle.roundtrip.specs.Stands.{Stands, stands-none, stands-then, stands-first, stands-rest, stands-at, field-back, field-again}
 use Rattle.roundtrip.specs.JobTrip.{named-back, named-again}
 

@@ -12,7 +12,7 @@ use Rattle.plan.specs.declared.kinds.Job.{Job}
 use Rattle.plan.specs.declared.kinds.Plan.{Plan}
 use Rattle.plan.proofs.Names.{name-at}
 use Rattle.planfile.specs.Reading.{Head, namesOf, planOf}
-use Rattle.planfile.specs.Writing.{rowAt, rowsBytes}
+use Rattle.planwriter.specs.Writing.{rowAt, rowsBytes}
 
 -- Padding with what lies past the end changes nothing.
 pub getD-pad : {A : Type 0} (l : List A) (m k : ℕ) (d : A) → getD (l ++ replicate m d) k d ≡ getD l k d

@@ -10,9 +10,9 @@ use Rattle.plan.specs.Rules.{noJob, jobOf, name}
 use Rattle.plan.specs.declared.kinds.Plan.{Plan}
 use Rattle.planfile.specs.Bytes.{bytes}
 use Rattle.planfile.specs.Reading.{got, planOf, Held, readFile, nameShown}
-use Rattle.planfile.specs.Writing.{jobBytes, jobsBytes}
+use Rattle.planwriter.specs.Writing.{jobBytes, jobsBytes}
 use Rattle.planfile.proofs.Digits.{Octets, length-bytes}
-use Rattle.planfile.proofs.Pages.{jobs-long}
+use Rattle.planwriter.proofs.Pages.{jobs-long}
 use Rattle.planfile.proofs.Whole.{shown-part}
 use Rattle.roundtrip.specs.Stands.{Stands, stands-first, stands-rest, stands-as}
 use Rattle.roundtrip.specs.JobTrip.{spanBytes, span-on, span-whole, jobs-again}

@@ -16,12 +16,12 @@ use Rattle.plan.specs.declared.kinds.Job.{Job}
 use Rattle.plan.specs.declared.kinds.Plan.{Plan}
 use Rattle.planfile.specs.Bytes.{bytes}
 use Rattle.planfile.specs.Reading.{got, no, checked, Head, head, namesOf, allJobs, planOf, Front, front, allRows, ended, Held, planFile, readFile}
-use Rattle.planfile.specs.Writing.{rowsBytes, rowCount, body, written}
+use Rattle.planwriter.specs.Writing.{rowsBytes, rowCount, body, written}
 use Rattle.planfile.proofs.Digits.{Octets}
 use Rattle.planfile.proofs.Steps.{through, checked-is, same-value, same-next}
 use Rattle.planfile.proofs.Fronts.{Fine, front-fine}
 use Rattle.planfile.proofs.Extent.{HeadRead, head-read, opening-extent}
-use Rattle.planfile.proofs.Files.{body-of, written-of}
+use Rattle.planwriter.proofs.Files.{body-of, written-of}
 use Rattle.roundtrip.specs.Stands.{Stands, stands-then, field-again}
 use Rattle.roundtrip.specs.JobTrip.{span-whole, jobs-again}
 use Rattle.roundtrip.specs.RowTrip.{Filled, rows-again}

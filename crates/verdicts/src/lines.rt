@@ -23,7 +23,7 @@ use plan::kinds::Slots;
 use plan::rules::counted_of;
 use planfile::lookup::name_of;
 use planfile::reader::Reading;
-use planfile::writer::write;
+use planwriter::writer::write;
 use report::answers::DONE;
 use report::answers::answer_number;
 use report::answers::put_outcome;

@@ -1,0 +1,4 @@
+pub mod Sets
+pub mod Pages
+pub mod Files
+pub mod Told

@@ -1,0 +1,85 @@
+-- `planwriter::writer::put_body` meets its contract: each part stands behind the one before.
+use Prim.Native.Nat.{_+_}
+use mathlib.Core.Path.{_≡_, refl, sym, _∙_, ap}
+use native.Mathlib.Omega.{arith}
+use borrow.Author.Needs.{needs}
+use lib.ListN.{length}
+use lib.Seq.{sets}
+use Rattle.plan.specs.Edition.{mostJobs, mostIntervals}
+use Rattle.planwriter.specs.Writing.{jobsBytes, rowsBytes}
+use Rattle.planwriter.proofs.Sets.{put-start, put-on}
+use Rattle.planwriter.proofs.Pages.{put-field, jobs-long, rows-long, count-few}
+use Rattle.planwriter.proofs.Files.{body-of, body-long}
+use Rattle.planwriter.proofs.writer.put_body.Statement.{statement}
+use Rattle.planwriter.proofs.writer.put_body.Tie as tie
+
+cast-put : tie.Need-cast-put
+cast-put c = search needs
+
+put-requires : tie.Need-put-requires
+put-requires c κs =
+    (omega (arith, body-long (c .before .before .before .before .before .before .args .p) (c .before .before .before .before .before .before .args .table .now) (c .before .before .before .before .before .before .pre .1 .few), c .before .before .before .before .before .before .pre .0, c .before .before .before .before .before .before .pre .1 .few), search needs)
+
+cast-put-2 : tie.Need-cast-put-2
+cast-put-2 c = search needs
+
+put-requires-2 : tie.Need-put-requires-2
+put-requires-2 c κs =
+    (omega (arith, body-long (c .before .before .before .before .before .before .before .before .before .before .before .args .p) (c .before .before .before .before .before .before .before .before .before .before .before .args .table .now) (c .before .before .before .before .before .before .before .before .before .before .before .pre .1 .few), c .before .before .before .before .before .before .before .before .before .before .before .pre .0, c .before .before .before .before .before .before .before .before .before .before .before .pre .1 .few, c .before .before .before .before .put .ensures .0, c .before .before .before .before .put .kept .0), search needs)
+
+put-requires-3 : tie.Need-put-requires-3
+put-requires-3 c κs =
+    (omega (arith, body-long (c .before .before .before .before .before .before .before .before .before .before .before .before .before .before .before .args .p) (c .before .before .before .before .before .before .before .before .before .before .before .before .before .before .before .args .table .now) (c .before .before .before .before .before .before .before .before .before .before .before .before .before .before .before .pre .1 .few), c .before .before .before .before .before .before .before .before .before .before .before .before .before .before .before .pre .0, c .before .before .before .before .before .before .before .before .before .before .before .before .before .before .before .pre .1 .few, c .before .before .before .before .before .before .before .before .put .ensures .0, c .before .before .before .before .before .before .before .before .put .kept .0, c .before .before .before .put2 .ensures .0, c .before .before .before .put2 .kept .0), omega (arith, c .before .before .before .before .before .before .before .before .before .before .before .before .before .before .before .pre .1 .few))
+
+put-jobs-requires : tie.Need-put-jobs-requires
+put-jobs-requires c κs =
+    (omega (arith, body-long (c .before .before .before .before .before .before .before .before .before .before .before .before .before .before .before .before .before .before .before .args .p) (c .before .before .before .before .before .before .before .before .before .before .before .before .before .before .before .before .before .before .before .args .table .now) (c .before .before .before .before .before .before .before .before .before .before .before .before .before .before .before .before .before .before .before .pre .1 .few), c .before .before .before .before .before .before .before .before .before .before .before .before .before .before .before .before .before .before .before .pre .0, c .before .before .before .before .before .before .before .before .before .before .before .before .before .before .before .before .before .before .before .pre .1 .few, c .before .before .before .before .before .before .before .before .before .before .before .before .put .ensures .0, c .before .before .before .before .before .before .before .before .before .before .before .before .put .kept .0, c .before .before .before .before .before .before .before .put2 .ensures .0, c .before .before .before .before .before .before .before .put2 .kept .0, c .before .before .before .put3 .ensures .0, c .before .before .before .put3 .kept .0), c .before .before .before .before .before .before .before .before .before .before .before .before .before .before .before .before .before .before .before .pre .1 .few, c .before .before .before .before .before .before .before .before .before .before .before .before .before .before .before .before .before .before .before .pre .1 .sized)
+
+put-requires-4 : tie.Need-put-requires-4
+put-requires-4 c κs =
+    (omega (arith, body-long (c .before .before .before .before .before .before .before .before .before .before .before .before .before .before .before .before .before .before .before .before .before .before .before .args .p) (c .before .before .before .before .before .before .before .before .before .before .before .before .before .before .before .before .before .before .before .before .before .before .before .args .table .now) (c .before .before .before .before .before .before .before .before .before .before .before .before .before .before .before .before .before .before .before .before .before .before .before .pre .1 .few), c .before .before .before .before .before .before .before .before .before .before .before .before .before .before .before .before .before .before .before .before .before .before .before .pre .0, c .before .before .before .before .before .before .before .before .before .before .before .before .before .before .before .before .before .before .before .before .before .before .before .pre .1 .few, c .before .before .before .before .before .before .before .before .before .before .before .before .before .before .before .before .put .ensures .0, c .before .before .before .before .before .before .before .before .before .before .before .before .before .before .before .before .put .kept .0, c .before .before .before .before .before .before .before .before .before .before .before .put2 .ensures .0, c .before .before .before .before .before .before .before .before .before .before .before .put2 .kept .0, c .before .before .before .before .before .before .before .put3 .ensures .0, c .before .before .before .before .before .before .before .put3 .kept .0, c .before .before .before .put-jobs .ensures .0, c .before .before .before .put-jobs .kept .0), omega (arith, c .before .before .before .before .before .before .before .before .before .before .before .before .before .before .before .before .before .before .before .before .before .before .before .pre .2, count-few (c .before .before .before .before .before .before .before .before .before .before .before .before .before .before .before .before .before .before .before .before .before .before .before .args .table .now), c .before .before .before .before .before .before .before .before .before .before .before .before .before .before .before .before .before .before .before .before .before .before .before .pre .1 .exact))
+
+names-of-requires : tie.Need-names-of-requires
+names-of-requires c κs = search needs
+
+slice-aggregate-put-rows : tie.Need-slice-aggregate-put-rows
+slice-aggregate-put-rows c = search needs
+
+put-rows-requires : tie.Need-put-rows-requires
+put-rows-requires c κs =
+    let ns = c .before .before .names-of .result in
+    let n : length ns ≡ mostJobs = c .before .before .names-of .ok .1 .0 .1 in
+    let a = c .before .before .before .before .before .before .before .before .before .before .before .before .before .before .before .before .before .before .before .before .before .before .before .before .before .before .before .before .before .args in
+    (omega (arith, body-long (c .before .before .before .before .before .before .before .before .before .before .before .before .before .before .before .before .before .before .before .before .before .before .before .before .before .before .before .before .before .args .p) (c .before .before .before .before .before .before .before .before .before .before .before .before .before .before .before .before .before .before .before .before .before .before .before .before .before .before .before .before .before .args .table .now) (c .before .before .before .before .before .before .before .before .before .before .before .before .before .before .before .before .before .before .before .before .before .before .before .before .before .before .before .before .before .pre .1 .few), c .before .before .before .before .before .before .before .before .before .before .before .before .before .before .before .before .before .before .before .before .before .before .before .before .before .before .before .before .before .pre .0, c .before .before .before .before .before .before .before .before .before .before .before .before .before .before .before .before .before .before .before .before .before .before .before .before .before .before .before .before .before .pre .1 .few, c .before .before .before .before .before .before .before .before .before .before .before .before .before .before .before .before .before .before .before .before .before .before .put .ensures .0, c .before .before .before .before .before .before .before .before .before .before .before .before .before .before .before .before .before .before .before .before .before .before .put .kept .0, c .before .before .before .before .before .before .before .before .before .before .before .before .before .before .before .before .before .put2 .ensures .0, c .before .before .before .before .before .before .before .before .before .before .before .before .before .before .before .before .before .put2 .kept .0, c .before .before .before .before .before .before .before .before .before .before .before .before .before .put3 .ensures .0, c .before .before .before .before .before .before .before .before .before .before .before .before .before .put3 .kept .0, c .before .before .before .before .before .before .before .before .before .put-jobs .ensures .0, c .before .before .before .before .before .before .before .before .before .put-jobs .kept .0, c .before .before .before .before .before .put4 .ensures .0, c .before .before .before .before .before .put4 .kept .0, rows-long mostIntervals ns 0 (a .table .now)), omega (arith, n, c .before .before .before .before .before .before .before .before .before .before .before .before .before .before .before .before .before .before .before .before .before .before .before .before .before .before .before .before .before .pre .1 .exact))
+
+same-length : tie.Need-same-length
+same-length c = search needs
+
+returns : tie.Need-returns
+returns c =
+    let a = c .before .before .before .before .before .before .before .before .before .before .before .before .before .before .before .before .before .before .before .before .before .before .before .before .before .before .before .before .before .before .before .before .args in
+    let ns = c .before .before .before .before .before .names-of in
+    let p1 = put-field (put-start (a .out .now) (a .at)) 2 (a .p .n .0) (c .before .before .before .before .before .before .before .before .before .before .before .before .before .before .before .before .before .before .before .before .before .before .before .before .before .put .ensures .0) (c .before .before .before .before .before .before .before .before .before .before .before .before .before .before .before .before .before .before .before .before .before .before .before .before .before .put .ensures .1) in
+    let p2 = put-field p1 2 (a .p .d .0) (c .before .before .before .before .before .before .before .before .before .before .before .before .before .before .before .before .before .before .before .before .put2 .ensures .0) (c .before .before .before .before .before .before .before .before .before .before .before .before .before .before .before .before .before .before .before .before .put2 .ensures .1) in
+    let p3 = put-field p2 1 (a .p .count) (c .before .before .before .before .before .before .before .before .before .before .before .before .before .before .before .before .put3 .ensures .0) (c .before .before .before .before .before .before .before .before .before .before .before .before .before .before .before .before .put3 .ensures .1) in
+    let p4 = put-on p3 (jobsBytes (a .p) (a .p .count)) (c .before .before .before .before .before .before .before .before .before .before .before .before .put-jobs .ensures .0 ∙ ap (λ n. c .before .before .before .before .before .before .before .before .before .before .before .before .before .before .before .before .put3 .result + n) (sym (jobs-long (a .p) (a .p .count)))) (c .before .before .before .before .before .before .before .before .before .before .before .before .put-jobs .ensures .1) in
+    let p5 = put-field p4 2 (a .rows) (c .before .before .before .before .before .before .before .before .put4 .ensures .0) (c .before .before .before .before .before .before .before .before .put4 .ensures .1) in
+    let p6 = put-on p5 (rowsBytes mostIntervals (ns .result) 0 (a .table .now)) refl (c .before .before .put-rows .ensures) in
+    p6 .stands ∙ ap (sets (a .out .now) (a .at)) (body-of (a .p) (a .table .now) (c .before .before .before .before .before .before .before .before .before .before .before .before .before .before .before .before .before .before .before .before .before .before .before .before .before .before .before .before .before .before .before .before .pre .1 .few) (c .before .before .before .before .before .before .before .before .before .before .before .before .before .before .before .before .before .before .before .before .before .before .before .before .before .before .before .before .before .before .before .before .pre .2) (ns .ensures))
+
+pub put-body-spec : {M : Type 1} → statement M
+put-body-spec =
+    tie.close
+    (tie.spec
+    cast-put
+    put-requires
+    cast-put-2
+    put-requires-2
+    put-requires-3
+    put-jobs-requires
+    put-requires-4
+    names-of-requires
+    slice-aggregate-put-rows
+    put-rows-requires
+    same-length
+    returns)

@@ -1,0 +1,44 @@
+-- `planwriter::writer::put_file` meets its contract: the version, the length and the body.
+use Rattle.planfile.specs.Bytes.{bytes}
+use mathlib.Core.List.{_++_}
+use mathlib.Core.Path.{refl, _∙_, ap}
+use native.Mathlib.Omega.{arith}
+use borrow.Author.Needs.{needs}
+use lib.Dec.{lit<}
+use lib.Seq.{sets}
+use Rattle.planwriter.specs.Writing.{body}
+use Rattle.planwriter.proofs.Sets.{put-start, put-on}
+use Rattle.planwriter.proofs.Pages.{put-field}
+use Rattle.planwriter.proofs.Files.{body-short, written-of, written-long}
+use Rattle.planwriter.proofs.writer.put_file.Statement.{statement}
+use Rattle.planwriter.proofs.writer.put_file.Tie as tie
+
+cast-put : tie.Need-cast-put
+cast-put c = search needs
+
+put-requires : tie.Need-put-requires
+put-requires c κs =
+    (omega (arith, written-long (c .before .before .before .args .p) (c .before .before .before .args .table .now), c .before .before .before .pre .0), lit< tt)
+
+put-requires-2 : tie.Need-put-requires-2
+put-requires-2 c κs =
+    (omega (arith, written-long (c .before .before .before .before .before .before .before .args .p) (c .before .before .before .before .before .before .before .args .table .now), c .before .before .before .before .before .before .before .pre .0, c .before .before .before .put .ensures .0, c .before .before .before .put .kept .0), omega (arith, c .before .before .before .before .before .before .before .pre .3, body-short (c .before .before .before .before .before .before .before .args .p) (c .before .before .before .before .before .before .before .args .table .now) (c .before .before .before .before .before .before .before .pre .1)))
+
+put-body-requires : tie.Need-put-body-requires
+put-body-requires c κs =
+    (omega (arith, written-long (c .before .before .before .before .before .before .before .before .before .before .before .args .p) (c .before .before .before .before .before .before .before .before .before .before .before .args .table .now), c .before .before .before .before .before .before .before .before .before .before .before .pre .0, c .before .before .before .before .before .before .before .put .ensures .0, c .before .before .before .before .before .before .before .put .kept .0, c .before .before .before .put2 .ensures .0, c .before .before .before .put2 .kept .0), c .before .before .before .before .before .before .before .before .before .before .before .pre .1, c .before .before .before .before .before .before .before .before .before .before .before .pre .2)
+
+same-length : tie.Need-same-length
+same-length c = search needs
+
+returns : tie.Need-returns
+returns c =
+    let a = c .before .before .before .before .before .before .before .before .before .before .before .before .before .before .args in
+    let p1 = put-field (put-start (a .out .now) 0) 1 1 (c .before .before .before .before .before .before .before .before .before .before .put .ensures .0) (c .before .before .before .before .before .before .before .before .before .before .put .ensures .1) in
+    let p2 = put-field p1 4 (a .follows) (c .before .before .before .before .before .before .put2 .ensures .0) (c .before .before .before .before .before .before .put2 .ensures .1) in
+    let p3 = put-on p2 (body (a .p) (a .table .now)) refl (c .before .before .put-body .ensures) in
+    p3 .stands ∙ ap (sets (a .out .now) 0) (ap (λ n. bytes 1 1 ++ bytes 4 n ++ body (a .p) (a .table .now)) (c .before .before .before .before .before .before .before .before .before .before .before .before .before .before .pre .3) ∙ written-of (a .p) (a .table .now))
+
+pub put-file-spec : {M : Type 1} → statement M
+put-file-spec =
+    tie.close (tie.spec cast-put put-requires put-requires-2 put-body-requires same-length returns)

@@ -1,0 +1,78 @@
+-- `planwriter::writer::put_rows` meets its contract: after q places, their rows stand one behind the other.
+use lib.Seq.{sets, take-all}
+use mathlib.Core.Path.{_∙_, ap}
+use Prim.Native.Nat.{_-_, _≤_}
+use native.Mathlib.Omega.{arith}
+use borrow.Author.Needs.{needs}
+use lib.ListN.{length, getD, take}
+use Rattle.plan.specs.Edition.{mostIntervals}
+use Rattle.planwriter.specs.Writing.{rowAt, rowsBytes}
+use Rattle.planwriter.proofs.Sets.{Put, put-start, put-length, put-on}
+use Rattle.planwriter.proofs.Pages.{rows-next, rows-fit, rows-none}
+use Rattle.planwriter.proofs.writer.put_rows.Statement.{statement}
+use Rattle.planwriter.proofs.writer.put_rows.Tie as tie
+
+abbrev Inv-loop : tie.InvT-loop
+Inv-loop out₀ at names table next₀ q₀ out next q = (q ≤ length table) × Put out₀ at (rowsBytes mostIntervals names 0 (take q table)) out next
+
+abbrev μ-loop : tie.MeasureT-loop
+μ-loop out₀ at names table next₀ q₀ out next q = length table - q
+
+loop-holds : tie.Need-loop-holds Inv-loop μ-loop
+loop-holds c =
+    let a = c .before .before .before .args in
+    (omega arith, rw (rows-none mostIntervals (a .names .now) 0) (put-start (a .out .now) (a .at)))
+
+mul-put-place : tie.Need-mul-put-place Inv-loop μ-loop
+mul-put-place c = search needs
+
+shared-slice-read-put-place : tie.Need-shared-slice-read-put-place Inv-loop μ-loop
+shared-slice-read-put-place c = search needs
+
+put-place-requires : tie.Need-put-place-requires Inv-loop μ-loop
+put-place-requires c κs =
+    let l = c .before .before .before .loop in
+    let a = c .before .before .before .before .before .before .before .args in
+    let pre = c .before .before .before .before .before .before .before .pre in
+    (omega (arith, pre .0, l .inv .1 .ends, put-length (l .inv .1), rows-fit mostIntervals (a .names .now) (a .table .now) (l .q) (c .before .before .loop-test .taken)), omega (arith, pre .1))
+
+add-q : tie.Need-add-q Inv-loop μ-loop
+add-q c = search needs
+
+loop-less : tie.Need-loop-less Inv-loop μ-loop
+loop-less c = search needs
+
+loop-again : tie.Need-loop-again Inv-loop μ-loop
+loop-again c =
+    let l = c .before .before .before .before .before .before .loop in
+    let a = c .before .before .before .before .before .before .before .before .before .before .args in
+    let put = c .before .before .put-place .ensures in (
+      omega arith,
+      rw (← (rows-next mostIntervals (a .names .now) (a .table .now) (l .q) (c .before .before .before .before .before .loop-test .taken)))
+          (put-on (l .inv .1) (rowAt mostIntervals (a .names .now) (l .q) (getD (a .table .now) (l .q) 0)) (put .0) (put .1)),
+    )
+
+same-length : tie.Need-same-length Inv-loop μ-loop
+same-length c = put-length (c .before .loop .inv .1)
+
+returns : tie.Need-returns Inv-loop μ-loop
+returns c =
+    let l = c .before .loop in
+    let a = c .before .before .before .before .before .args in
+    l .inv .1 .stands ∙ ap (λ t. sets (a .out .now) (a .at) (rowsBytes mostIntervals (a .names .now) 0 t)) (take-all (l .q) (a .table .now) (omega arith))
+
+pub put-rows-spec : {M : Type 1} → statement M
+put-rows-spec =
+    tie.close
+    (tie.spec
+    Inv-loop
+    μ-loop
+    loop-holds
+    mul-put-place
+    shared-slice-read-put-place
+    put-place-requires
+    add-q
+    loop-less
+    loop-again
+    same-length
+    returns)

@@ -1,0 +1,3 @@
+// Plan to bytes: the writer of plan files.
+mod put;
+pub mod writer;

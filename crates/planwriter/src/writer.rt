@@ -1,0 +1,127 @@
+// The writer of plan files.
+use crate::put::put;
+use crate::put::put_job;
+use crate::put::put_place;
+use plan::edition::Edition;
+use plan::kinds::Plan;
+use plan::refusal::BUFFER_TOO_SHORT;
+use plan::refusal::UNSOUND;
+use plan::rules::names_of;
+use plan::table::sound_of;
+ghost use mathlib.Core.Path.{_≡_};
+ghost use mathlib.Core.Bool.{cond};
+ghost use Prim.Native.Nat.{ℕ, _+_, _*_, _≤_, _<_, _^_};
+ghost use lib.Dec.{eqb};
+ghost use lib.ListN.{length};
+ghost use lib.Seq.{sets};
+ghost use Rattle.plan.specs.Edition.{mostJobs, mostIntervals, jobLength};
+ghost use Rattle.plan.specs.Rules.{size};
+ghost use Rattle.planwriter.specs.Writing.{jobsBytes, rowsBytes, rowCount, body, written, writer};
+ghost use Rattle.planwriter.specs.Answers.{Writable, outputTold};
+
+// The version byte and the length field; then both rates and the job count.
+const OPENING_BYTES: usize = 5;
+
+const BODY_HEAD_BYTES: usize = Edition::HEADER_BYTES - OPENING_BYTES;
+
+// The file's length, or the refusal.
+pub enum Written {
+    Length(usize),
+    Refused(u8),
+}
+
+fn put_jobs(out: &mut [u8], at: usize, p: Plan) -> usize
+    requires { ⌜ (at + p .count * (1 + jobLength) ≤ length (now out)) × (p .count ≤ mostJobs) × ((i : ℕ) → i < p .count → size p i < 256 ^ 4) ⌝ }
+    ensures { λ r. ⌜ (r ≡ at + p .count * (1 + jobLength)) × (now (out .exit) ≡ sets (now (out .entry)) at (jobsBytes p (p .count))) ⌝ }
+{
+    let count = p.count;
+    let mut next = at;
+    let mut i = 0;
+    while i < count {
+        let job = p.jobs[i];
+        next = put_job(out, next, job);
+        i += 1;
+    }
+    next
+}
+
+fn put_rows(out: &mut [u8], at: usize, names: &[u64], table: &[u32]) -> usize
+    requires { ⌜ (at + length (rowsBytes mostIntervals (now names) 0 (now table)) ≤ length (now out)) × (length (now table) ≤ mostIntervals * length (now names)) ⌝ }
+    ensures { λ r. ⌜ now (out .exit) ≡ sets (now (out .entry)) at (rowsBytes mostIntervals (now (names .entry)) 0 (now (table .entry))) ⌝ }
+{
+    let mut next = at;
+    let mut q = 0;
+    while q < table.len() {
+        next = put_place(out, next, names, q, table[q]);
+        q += 1;
+    }
+    next
+}
+
+// 1 for an allotment that has a row.
+fn row_of(units: u32) -> usize
+    ensures { λ r. ⌜ r ≡ cond (eqb units 0) 0 1 ⌝ }
+{
+    if units == 0 { 0 } else { 1 }
+}
+
+fn rows_in(table: &[u32]) -> usize
+    ensures { λ r. ⌜ r ≡ rowCount (now (table .entry)) ⌝ }
+{
+    let mut rows = 0;
+    let mut q = 0;
+    while q < table.len() {
+        rows += row_of(table[q]);
+        q += 1;
+    }
+    rows
+}
+
+// All that follows the length field.
+fn put_body(out: &mut [u8], at: usize, p: Plan, table: &[u32], rows: usize) -> usize
+    requires { ⌜ (at + length (body p (now table)) ≤ length (now out)) × Writable p (now table) × (rows ≡ rowCount (now table)) ⌝ }
+    ensures { λ r. ⌜ now (out .exit) ≡ sets (now (out .entry)) at (body p (now (table .entry))) ⌝ }
+{
+    let n = p.n;
+    let d = p.d;
+    let after_n = put(out, at, 2, n.0 as u64);
+    let after_d = put(out, after_n, 2, d.0 as u64);
+    let after_count = put(out, after_d, 1, p.count as u64);
+    let after_jobs = put_jobs(out, after_count, p);
+    let after_rows = put(out, after_jobs, 2, rows as u64);
+    let names = names_of(p);
+    put_rows(out, after_rows, &names, table)
+}
+
+fn put_file(out: &mut [u8], p: Plan, table: &[u32], rows: usize, follows: usize)
+    requires { ⌜ (length (written p (now table)) ≤ length (now out)) × Writable p (now table) × (rows ≡ rowCount (now table)) × (follows ≡ length (body p (now table))) ⌝ }
+    ensures { λ r. ⌜ now (out .exit) ≡ sets (now (out .entry)) 0 (written p (now (table .entry))) ⌝ }
+{
+    let after_version = put(out, 0, 1, Edition::VERSION as u64);
+    let after_length = put(out, after_version, 4, follows as u64);
+    put_body(out, after_length, p, table, rows);
+}
+
+// Writes the plan file of a sound plan and its table.
+pub fn write(p: Plan, table: &[u32], out: &mut [u8]) -> Written
+    ensures { λ r. ⌜ outputTold r (now (out .exit)) ≡ writer p (now (table .entry)) (now (out .entry)) ⌝ }
+{
+    if table.len() < Edition::PLACES {
+        return Written::Refused(BUFFER_TOO_SHORT);
+    }
+    if !sound_of(p, table) {
+        return Written::Refused(UNSOUND);
+    }
+    let rows = rows_in(&table[..Edition::PLACES]);
+    let jobs = p.count * (1 + Edition::JOB_LENGTH);
+    let follows = BODY_HEAD_BYTES
+        + jobs
+        + Edition::ROW_COUNT_BYTES
+        + rows * (1 + Edition::ROW_LENGTH);
+    let length = OPENING_BYTES + follows;
+    if out.len() < length {
+        return Written::Refused(BUFFER_TOO_SHORT);
+    }
+    put_file(out, p, &table[..Edition::PLACES], rows, follows);
+    Written::Length(length)
+}
