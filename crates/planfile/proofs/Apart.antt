@@ -15,9 +15,10 @@ use Rattle.plan.specs.Refusal.{wrongNameByte, nameTaken, wrongGrade, wrongJobBo
 use Rattle.plan.specs.Rules.{nameAllowed, isAbsent, gradeAllowed, windowAllowed, sizeAllowed}
 use Rattle.plan.specs.declared.kinds.Job.{Job}
 use Rattle.plan.proofs.Below.{every-at}
-use Rattle.planfile.specs.Reading.{got, field, checked, named, jobName, oneJob, namesOf, allJobs}
+use Rattle.planfields.specs.Fields.{got, field, checked, named, jobName, oneJob}
+use Rattle.planfile.specs.Reading.{namesOf, allJobs}
 use Rattle.planfile.specs.Answers.{Distinct}
-use Rattle.planfile.proofs.Steps.{through, past, checked-is, same-value, same-next}
+use Rattle.planfields.proofs.Steps.{through, past, checked-is, same-value, same-next}
 use Rattle.planfile.proofs.Roll.{names-snoc, length-snoc}
 
 pub absent-each : (l : List ℕ) (x k : ℕ) → isAbsent l x ≡ true → k < length l → getD l k 0 ≡ x → ⊥

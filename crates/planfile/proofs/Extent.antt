@@ -12,10 +12,11 @@ use Rattle.plan.specs.Refusal.{wrongExtent, wrongVersion, wrongRecordLength, wr
 use Rattle.plan.specs.Rules.{ratesAllowed}
 use Rattle.plan.specs.Boundaries.{intervals}
 use Rattle.plan.specs.declared.kinds.Job.{Job}
-use Rattle.planfile.specs.Bytes.{value}
-use Rattle.planfile.specs.Reading.{Step, got, no, onward, field, checked, version, extent, opening, Head, head, named, oneJob, namesOf, allJobs, Front, front, allRows, ended, Held, planFile, readFile, nameAt}
+use Rattle.planfields.specs.Bytes.{value}
+use Rattle.planfields.specs.Fields.{Step, got, no, onward, field, checked, version, extent, opening, Head, head, named, oneJob, ended}
+use Rattle.planfile.specs.Reading.{namesOf, allJobs, Front, front, allRows, Held, planFile, readFile, nameAt}
 use Rattle.planfile.specs.Answers.{countOf}
-use Rattle.planfile.proofs.Steps.{through, past, checked-is, same-value, same-next}
+use Rattle.planfields.proofs.Steps.{through, past, checked-is, same-value, same-next}
 use Rattle.planfile.proofs.Apart.{job-read}
 
 -- A field ends a width further on, inside the file.

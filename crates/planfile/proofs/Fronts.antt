@@ -14,17 +14,19 @@ use Rattle.plan.specs.Boundaries.{intervals}
 use Rattle.plan.specs.declared.kinds.Job.{Job}
 use Rattle.plan.specs.declared.kinds.Plan.{Plan}
 use Rattle.plan.proofs.Below.{both}
-use Rattle.planfile.specs.Reading.{Step, got, no, field, checked, opening, Head, head, namesOf, allJobs, planOf, Front, front}
-use Rattle.planfile.specs.Answers.{Distinct, fieldTold, JobsAnswer, FrontAnswer}
-use Rattle.planfile.specs.declared.field.Field.{Field}
-use Rattle.planfile.specs.declared.field.Field.the-variants as field
-use Rattle.planfile.specs.declared.field.Passed.the-variants as passed
+use Rattle.planfields.specs.Fields.{Step, got, no, field, checked, opening, Head, head}
+use Rattle.planfile.specs.Reading.{namesOf, allJobs, planOf, Front, front}
+use Rattle.planfields.specs.Answers.{fieldTold}
+use Rattle.planfile.specs.Answers.{Distinct, JobsAnswer, FrontAnswer}
+use Rattle.planfields.specs.declared.field.Field.{Field}
+use Rattle.planfields.specs.declared.field.Field.the-variants as field
+use Rattle.planfields.specs.declared.field.Passed.the-variants as passed
 use Rattle.planfile.specs.declared.front.Front.{Front as Fronted}
 use Rattle.planfile.specs.declared.front.Jobs.{Jobs}
 use Rattle.plan.proofs.Rising.{boundaries-few}
 use Rattle.planfile.proofs.Roll.{names-length}
 use Rattle.planfile.proofs.Apart.{jobs-apart}
-use Rattle.planfile.proofs.Steps.{through, past, checked-is, same-value}
+use Rattle.planfields.proofs.Steps.{through, past, checked-is, same-value}
 
 -- A head that is read has a job, and no more jobs than there is room for.
 pub head-count : (most : ℕ) (file : List ℕ) (at : ℕ) {h : Head} {next : ℕ} → head most file at ≡ got h next

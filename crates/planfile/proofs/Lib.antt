@@ -1,6 +1,3 @@
-pub mod Digits
-pub mod Steps
-pub mod Heads
 pub mod Search
 pub mod Roll
 pub mod Rows

@@ -10,7 +10,8 @@ use Rattle.plan.specs.Edition.{mostJobs}
 use Rattle.plan.specs.Rules.{noJob}
 use Rattle.plan.specs.declared.kinds.Job.{Job}
 use Rattle.plan.specs.declared.kinds.Plan.{Plan}
-use Rattle.planfile.specs.Reading.{got, no, oneJob, namesOf, allJobs, planOf, Head}
+use Rattle.planfields.specs.Fields.{got, no, oneJob, Head}
+use Rattle.planfile.specs.Reading.{namesOf, allJobs, planOf}
 
 -- Jobs in the room that a plan has for them: zero records fill the rest.
 abbrev pub inRoom : List Job → List Job

@@ -11,9 +11,10 @@ use lib.ListN.{length, set}
 use Rattle.plan.specs.Edition.{mostIntervals, rowLength}
 use Rattle.plan.specs.Refusal.{rowWithoutJob, rowWithoutInterval, rowWithoutUnits, rowOutOfOrder}
 use Rattle.plan.specs.Table.{place}
-use Rattle.planfile.specs.Reading.{Step, got, no, onward, checked, named, position, Row, oneRow, allRows}
+use Rattle.planfields.specs.Fields.{Step, got, no, onward, checked, named}
+use Rattle.planfile.specs.Reading.{position, Row, oneRow, allRows}
 use Rattle.planfile.specs.Answers.{onlyPassed}
-use Rattle.planfile.proofs.Steps.{through, past, checked-is, same-value}
+use Rattle.planfields.proofs.Steps.{through, past, checked-is, same-value}
 
 -- One row, field by field: the first fault decides.
 module _ (width : ℕ) (names : List ℕ) (spans low : ℕ) (file : List ℕ) (at : ℕ) where

@@ -10,10 +10,12 @@ use Rattle.plan.specs.Edition.{mostJobs, mostIntervals, places}
 use Rattle.plan.specs.Refusal.{bufferTooShort}
 use Rattle.plan.specs.Boundaries.{intervals}
 use Rattle.plan.specs.declared.kinds.Plan.{Plan}
-use Rattle.planfile.specs.Reading.{Step, got, no, Front, front, allRows, ended, Held, planFile, readFile, Left, noPlan, leaves, reader, nameAt, shownBy}
-use Rattle.planfile.specs.Answers.{Distinct, RowsAnswer, FillAnswer, onlyPassed, passedTold, answerTold, readTold, countOf}
-use Rattle.planfile.specs.declared.field.Passed.{Passed}
-use Rattle.planfile.specs.declared.field.Passed.the-variants as passed
+use Rattle.planfields.specs.Fields.{Step, got, no, ended}
+use Rattle.planfile.specs.Reading.{Front, front, allRows, Held, planFile, readFile, Left, noPlan, leaves, reader, nameAt, shownBy}
+use Rattle.planfields.specs.Answers.{passedTold}
+use Rattle.planfile.specs.Answers.{Distinct, RowsAnswer, FillAnswer, onlyPassed, answerTold, readTold, countOf}
+use Rattle.planfields.specs.declared.field.Passed.{Passed}
+use Rattle.planfields.specs.declared.field.Passed.the-variants as passed
 use Rattle.planfile.specs.declared.reader.Answer.the-variants as answer
 use Rattle.planfile.specs.declared.reader.Reading.{Reading}
 use Rattle.planfile.proofs.Fronts.{front-fine}

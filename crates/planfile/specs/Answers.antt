@@ -4,15 +4,10 @@ use mathlib.Core.List.{List, [], _∷_, _++_}
 use Prim.Native.Nat.{ℕ, _<_}
 use lib.ListN.{length, getD, drop}
 use Rattle.plan.specs.declared.kinds.Job.{Job}
-use Rattle.planfile.specs.declared.field.Field.{Field}
-use Rattle.planfile.specs.declared.field.Field.the-variants as field
-use Rattle.planfile.specs.declared.field.Passed.{Passed}
-use Rattle.planfile.specs.declared.field.Passed.the-variants as passed
-use Rattle.planfile.specs.declared.head.Head.{Head}
-use Rattle.planfile.specs.declared.head.HeadRead.{HeadRead}
-use Rattle.planfile.specs.declared.head.HeadRead.the-variants as head
-use Rattle.planfile.specs.declared.job.JobRead.{JobRead}
-use Rattle.planfile.specs.declared.job.JobRead.the-variants as job
+use Rattle.planfields.specs.declared.field.Field.{Field}
+use Rattle.planfields.specs.declared.field.Field.the-variants as field
+use Rattle.planfields.specs.declared.field.Passed.{Passed}
+use Rattle.planfields.specs.declared.field.Passed.the-variants as passed
 use Rattle.planfile.specs.declared.row.RowRead.{RowRead}
 use Rattle.planfile.specs.declared.row.RowRead.the-variants as row
 use Rattle.planfile.specs.declared.front.Jobs.{Jobs}
@@ -21,54 +16,11 @@ use Rattle.planfile.specs.declared.reader.Answer.{Answer}
 use Rattle.planfile.specs.declared.reader.Answer.the-variants as answer
 use Rattle.planfile.specs.declared.reader.Reading.{Reading}
 use Rattle.planfile.specs.Reading as rule
-use Rattle.planfile.specs.Reading.{Step, got, no}
+use Rattle.planfields.specs.Fields.{Step, Head, got, no}
 
 -- No two of some numbers are equal.
 abbrev pub Distinct : List ℕ → Type 0
 Distinct l = (i j : ℕ) → i < length l → j < length l → getD l i 0 ≡ getD l j 0 → i ≡ j
-
--- What a field read says.
-abbrev pub fieldTold : Field → Step ℕ
-fieldTold (field.Value v next) = got v next
-fieldTold (field.Refused number) = no number
-
-abbrev pub fieldValue : Field → ℕ
-fieldValue (field.Value v next) = v
-fieldValue (field.Refused number) = 0
-
-abbrev pub fieldRefusal : Field → ℕ
-fieldRefusal (field.Value v next) = 0
-fieldRefusal (field.Refused number) = number
-
--- What a reading that only goes on says.
-abbrev pub passedTold : Passed → Step (Unit {0})
-passedTold (passed.Next next) = got tt next
-passedTold (passed.Refused number) = no number
-
-abbrev pub passedRefusal : Passed → ℕ
-passedRefusal (passed.Next next) = 0
-passedRefusal (passed.Refused number) = number
-
--- What the reading of a head says.
-abbrev pub headOf : Head → rule.Head
-headOf h = record { n = h .n .0; d = h .d .0; count = h .count }
-
-abbrev pub headTold : HeadRead → Step rule.Head
-headTold (head.Head h next) = got (headOf h) next
-headTold (head.Refused number) = no number
-
-abbrev pub headRefusal : HeadRead → ℕ
-headRefusal (head.Head h next) = 0
-headRefusal (head.Refused number) = number
-
--- What the reading of a job says.
-abbrev pub jobTold : JobRead → Step Job
-jobTold (job.Job j next) = got j next
-jobTold (job.Refused number) = no number
-
-abbrev pub jobRefusal : JobRead → ℕ
-jobRefusal (job.Job j next) = 0
-jobRefusal (job.Refused number) = number
 
 -- What the reading of a row says.
 abbrev pub rowTold : RowRead → Step rule.Row
@@ -80,7 +32,7 @@ rowRefusal (row.Row r next) = 0
 rowRefusal (row.Refused number) = number
 
 -- The reading of the jobs gives the plan and keeps the names; after a refusal it promises the number alone.
-abbrev pub JobsAnswer : rule.Head → List ℕ → Step (List Job) → Jobs → List ℕ → Type 0
+abbrev pub JobsAnswer : Head → List ℕ → Step (List Job) → Jobs → List ℕ → Type 0
 JobsAnswer h first (got jobs next) r names =
     (r .answer ≡ passed.Next next) × (r .plan ≡ rule.planOf h jobs) × (names ≡ rule.namesOf jobs ++ drop (h .count) first)
 JobsAnswer h first (no number) r names = r .answer ≡ passed.Refused number

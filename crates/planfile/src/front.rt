@@ -1,15 +1,4 @@
 // Reading all that stands before the rows: the header, the jobs and the row count. Reader and lookup share it.
-use crate::field::Field;
-use crate::field::Passed;
-use crate::field::passed_refusal;
-use crate::field::read_field;
-use crate::head::Head;
-use crate::head::HeadRead;
-use crate::head::head_refusal;
-use crate::head::read_head;
-use crate::job::JobRead;
-use crate::job::job_refusal;
-use crate::job::read_job;
 use plan::edition::Edition;
 use plan::kinds::Job;
 use plan::kinds::Name;
@@ -17,16 +6,25 @@ use plan::kinds::Plan;
 use plan::kinds::Rate;
 use plan::kinds::Slots;
 use plan::kinds::Units;
-use plan::refusal::TOO_MANY_ROWS;
+use planfields::field::Field;
+use planfields::field::Passed;
+use planfields::field::passed_refusal;
+use planfields::head::Head;
+use planfields::head::HeadRead;
+use planfields::head::head_refusal;
+use planfields::head::read_head;
+use planfields::job::JobRead;
+use planfields::job::job_refusal;
+use planfields::job::read_job;
+use planfields::numbers::read_row_count;
 ghost use mathlib.Core.Path.{_≡_};
 ghost use mathlib.Core.List.{[]};
 ghost use Prim.Native.Nat.{_≤_};
 ghost use lib.ListN.{length};
-ghost use lib.Dec.{leb};
-ghost use Rattle.plan.specs.Edition.{mostJobs, mostRows};
-ghost use Rattle.plan.specs.Refusal.{tooManyRows};
-ghost use Rattle.planfile.specs.Reading.{allJobs, checked, front, planOf, noPlan};
-ghost use Rattle.planfile.specs.Answers.{fieldTold, headOf, JobsAnswer, FrontAnswer};
+ghost use Rattle.plan.specs.Edition.{mostJobs};
+ghost use Rattle.planfile.specs.Reading.{allJobs, front, planOf, noPlan};
+ghost use Rattle.planfields.specs.Answers.{headOf};
+ghost use Rattle.planfile.specs.Answers.{JobsAnswer, FrontAnswer};
 
 pub struct Jobs {
     pub answer: Passed,
@@ -98,19 +96,6 @@ fn read_jobs(file: &[u8], at: usize, head: Head, names: &mut [u64]) -> Jobs
         answer: Passed::Next(next),
         plan,
     }
-}
-
-fn read_row_count(file: &[u8], at: usize) -> Field
-    ensures { λ r. ⌜ fieldTold r ≡ checked 2 (λ n. leb n mostRows) tooManyRows (now (file .entry)) at ⌝ }
-{
-    let two = read_field(file, at, 2);
-    let Field::Value(rows, next) = two else {
-        return two;
-    };
-    if rows > Edition::MOST_ROWS as u64 {
-        return Field::Refused(TOO_MANY_ROWS);
-    }
-    two
 }
 
 pub(crate) fn read_front(file: &[u8], names: &mut [u64]) -> Front

@@ -1,20 +1,21 @@
 // The name of a job, as the part of the caller's file in which it stands.
-use crate::field::Field;
-use crate::field::Passed;
-use crate::field::read_end;
 use crate::front::read_front;
 use crate::row::RowRead;
 use crate::row::read_row;
 use crate::row::row_refusal;
 use plan::boundaries::intervals_of;
 use plan::edition::Edition;
+use planfields::field::Field;
+use planfields::field::Passed;
+use planfields::field::read_end;
 ghost use mathlib.Core.Path.{_≡_};
 ghost use mathlib.Core.List.{List};
 ghost use Prim.Native.Nat.{ℕ, _≤_};
 ghost use lib.ListN.{length};
 ghost use Rattle.plan.specs.Edition.{mostJobs, mostIntervals};
 ghost use Rattle.planfile.specs.Reading.{allRows, readFile, nameShown};
-ghost use Rattle.planfile.specs.Answers.{Distinct, passedTold, onlyPassed, countOf};
+ghost use Rattle.planfields.specs.Answers.{passedTold};
+ghost use Rattle.planfile.specs.Answers.{Distinct, onlyPassed, countOf};
 
 const NAME_BYTES: usize = 8;
 

@@ -1,9 +1,4 @@
 // The reader of plan files.
-use crate::field::Field;
-use crate::field::Passed;
-use crate::field::field_refusal;
-use crate::field::passed_refusal;
-use crate::field::read_end;
 use crate::front::no_plan;
 use crate::front::read_front;
 use crate::row::RowRead;
@@ -13,6 +8,11 @@ use plan::boundaries::intervals_of;
 use plan::edition::Edition;
 use plan::kinds::Plan;
 use plan::refusal::BUFFER_TOO_SHORT;
+use planfields::field::Field;
+use planfields::field::Passed;
+use planfields::field::field_refusal;
+use planfields::field::passed_refusal;
+use planfields::field::read_end;
 ghost use mathlib.Core.Path.{_≡_};
 ghost use mathlib.Core.List.{[]};
 ghost use Prim.Native.Nat.{_≤_};

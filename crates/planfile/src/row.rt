@@ -1,23 +1,19 @@
 // Reading one row, and the search for its job.
-use crate::field::Field;
-use crate::field::NONE;
-use crate::field::field_refusal;
-use crate::field::read_field;
-use crate::field::read_named;
 use plan::edition::Edition;
 use plan::refusal::ROW_OUT_OF_ORDER;
-use plan::refusal::ROW_WITHOUT_INTERVAL;
 use plan::refusal::ROW_WITHOUT_JOB;
-use plan::refusal::ROW_WITHOUT_UNITS;
+use planfields::field::Field;
+use planfields::field::NONE;
+use planfields::field::field_refusal;
+use planfields::field::read_named;
+use planfields::numbers::read_interval;
+use planfields::numbers::read_units;
 ghost use mathlib.Core.Path.{_≡_};
-ghost use Prim.Native.Nat.{ℕ, _≤_, _<_, _^_};
-ghost use mathlib.Core.Bool.{not};
-ghost use lib.Dec.{ltb, eqb};
+ghost use Prim.Native.Nat.{ℕ, _≤_, _<_};
 ghost use lib.ListN.{length, getD};
 ghost use Rattle.plan.specs.Edition.{mostJobs, mostIntervals};
-ghost use Rattle.plan.specs.Refusal.{rowWithoutInterval, rowWithoutUnits};
-ghost use Rattle.planfile.specs.Reading.{position, checked, oneRow};
-ghost use Rattle.planfile.specs.Answers.{Distinct, fieldTold, fieldValue, rowTold, rowRefusal};
+ghost use Rattle.planfile.specs.Reading.{position, oneRow};
+ghost use Rattle.planfile.specs.Answers.{Distinct, rowTold, rowRefusal};
 
 // The place of a row, the job that it is a place of, and the units that stand there.
 pub struct Row {
@@ -66,32 +62,6 @@ fn find(names: &[u64], name: u64, start: usize) -> usize
         return ahead;
     }
     find_from(names, name, 0)
-}
-
-fn read_interval(file: &[u8], at: usize, spans: usize) -> Field
-    ensures { λ r. ⌜ (fieldTold r ≡ checked 2 (λ j. ltb j spans) rowWithoutInterval (now (file .entry)) at) × (fieldValue r < 256 ^ 2) ⌝ }
-{
-    let two = read_field(file, at, 2);
-    let Field::Value(interval, next) = two else {
-        return two;
-    };
-    if interval as usize >= spans {
-        return Field::Refused(ROW_WITHOUT_INTERVAL);
-    }
-    two
-}
-
-fn read_units(file: &[u8], at: usize) -> Field
-    ensures { λ r. ⌜ (fieldTold r ≡ checked 4 (λ u. not (eqb u 0)) rowWithoutUnits (now (file .entry)) at) × (fieldValue r < 256 ^ 4) ⌝ }
-{
-    let four = read_field(file, at, 4);
-    let Field::Value(units, next) = four else {
-        return four;
-    };
-    if units == 0 {
-        return Field::Refused(ROW_WITHOUT_UNITS);
-    }
-    four
 }
 
 // One row of a plan with these names and this many intervals. Its place is to be no lower than low; the search starts at job start.

@@ -15,10 +15,10 @@ use Rattle.plan.specs.Boundaries.{intervals}
 use Rattle.plan.specs.Table.{noStray, sound}
 use Rattle.plan.specs.declared.kinds.Plan.{Plan}
 use Rattle.plan.proofs.Below.{every-at, both}
-use Rattle.planfile.specs.Bytes.{bytes}
+use Rattle.planfields.specs.Bytes.{bytes}
 use Rattle.planwriter.specs.Writing.{Output, wrote, withheld, jobsBytes, rowsBytes, rowCount, body, written, writer}
 use Rattle.planwriter.specs.Answers.{Writable}
-use Rattle.planfile.proofs.Digits.{length-bytes}
+use Rattle.planfields.proofs.Digits.{length-bytes}
 use Rattle.planwriter.proofs.Pages.{jobs-long, rows-long, count-few}
 use Rattle.planwriter.proofs.Sets.{sets-whole}
 

@@ -14,9 +14,9 @@ use Rattle.plan.specs.Edition.{jobLength, rowLength}
 use Rattle.plan.specs.Rules.{jobOf}
 use Rattle.plan.specs.declared.kinds.Job.{Job}
 use Rattle.plan.specs.declared.kinds.Plan.{Plan}
-use Rattle.planfile.specs.Bytes.{bytes}
+use Rattle.planfields.specs.Bytes.{bytes}
 use Rattle.planwriter.specs.Writing.{jobBytes, jobsBytes, rowBytes, rowAt, rowsBytes, rowCount}
-use Rattle.planfile.proofs.Digits.{length-bytes}
+use Rattle.planfields.proofs.Digits.{length-bytes}
 use Rattle.planwriter.proofs.Sets.{Put, put-on}
 
 -- A field behind what was written.

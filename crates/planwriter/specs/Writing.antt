@@ -10,7 +10,7 @@ use Rattle.plan.specs.Rules.{counted, names, jobOf}
 use Rattle.plan.specs.Table.{sound}
 use Rattle.plan.specs.declared.kinds.Job.{Job}
 use Rattle.plan.specs.declared.kinds.Plan.{Plan}
-use Rattle.planfile.specs.Bytes.{bytes}
+use Rattle.planfields.specs.Bytes.{bytes}
 
 -- The bytes of a job.
 abbrev pub jobBytes : Job → List ℕ

@@ -6,7 +6,7 @@ ghost use Prim.Native.Nat.{_+_, _*_, _/_, _≤_, _<_, _^_};
 ghost use lib.ListN.{length};
 ghost use lib.Seq.{sets};
 ghost use Rattle.plan.specs.Edition.{mostIntervals, jobLength, rowLength};
-ghost use Rattle.planfile.specs.Bytes.{bytes};
+ghost use Rattle.planfields.specs.Bytes.{bytes};
 ghost use Rattle.planwriter.specs.Writing.{jobBytes, rowBytes, rowAt};
 
 // Writes a number as a field of w bytes, the highest first; the next place.

@@ -15,12 +15,13 @@ use Rattle.plan.specs.Rules.{nameAllowed, isAbsent, gradeAllowed, windowAllowed
 use Rattle.plan.specs.declared.kinds.Job.{Job}
 use Rattle.plan.specs.declared.kinds.Plan.{Plan}
 use Rattle.plan.proofs.Below.{both}
-use Rattle.planfile.specs.Bytes.{bytes}
-use Rattle.planfile.specs.Reading.{got, field, checked, named, jobName, oneJob, namesOf, allJobs}
+use Rattle.planfields.specs.Bytes.{bytes}
+use Rattle.planfields.specs.Fields.{got, field, checked, named, jobName, oneJob}
+use Rattle.planfile.specs.Reading.{namesOf, allJobs}
 use Rattle.planwriter.specs.Writing.{jobBytes, jobsBytes}
-use Rattle.planfile.proofs.Digits.{Octets}
-use Rattle.planfile.proofs.Steps.{through, same-value, same-next}
-use Rattle.planfile.proofs.Heads.{job-whole}
+use Rattle.planfields.proofs.Digits.{Octets}
+use Rattle.planfields.proofs.Steps.{through, same-value, same-next}
+use Rattle.planfields.proofs.Heads.{job-whole}
 use Rattle.planfile.proofs.Apart.{job-read}
 use Rattle.planfile.proofs.Extent.{named-extent}
 use Rattle.planfile.proofs.Roll.{length-snoc, jobs-step, jobs-done}

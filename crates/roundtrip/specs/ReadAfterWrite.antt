@@ -20,12 +20,13 @@ use Rattle.plan.specs.declared.kinds.Plan.{Plan}
 use Rattle.plan.proofs.Below.{every-ext, both, every-at}
 use Rattle.plan.proofs.Names.{name-at}
 use Rattle.plan.proofs.Rising.{boundaries-few}
-use Rattle.planfile.specs.Bytes.{bytes}
-use Rattle.planfile.specs.Reading.{got, field, checked, opening, Head, head, namesOf, allJobs, planOf, front, allRows, ended, readFile}
+use Rattle.planfields.specs.Bytes.{bytes}
+use Rattle.planfields.specs.Fields.{got, field, checked, opening, Head, head, ended}
+use Rattle.planfile.specs.Reading.{namesOf, allJobs, planOf, front, allRows, readFile}
 use Rattle.planwriter.specs.Writing.{jobsBytes, rowBytes, rowsBytes, rowCount, body, written}
 use Rattle.planwriter.specs.Answers.{Writable}
-use Rattle.planfile.proofs.Digits.{length-bytes}
-use Rattle.planfile.proofs.Heads.{opening-right, head-whole}
+use Rattle.planfields.proofs.Digits.{length-bytes}
+use Rattle.planfields.proofs.Heads.{opening-right, head-whole}
 use Rattle.planfile.proofs.Apart.{jobs-apart}
 use Rattle.planfile.proofs.Whole.{file-whole}
 use Rattle.planwriter.proofs.Files.{Sound, sound-parts, count-bounds, counted-is, writable, body-of, body-short, written-of, written-long}

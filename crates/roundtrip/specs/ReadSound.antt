@@ -17,10 +17,11 @@ use Rattle.plan.specs.Table.{noStray, sound}
 use Rattle.plan.specs.declared.kinds.Job.{Job}
 use Rattle.plan.specs.declared.kinds.Plan.{Plan}
 use Rattle.plan.proofs.Below.{every-ext}
-use Rattle.planfile.specs.Reading.{got, oneJob, namesOf, allJobs, planOf, Held, readFile}
+use Rattle.planfields.specs.Fields.{got, oneJob}
+use Rattle.planfile.specs.Reading.{namesOf, allJobs, planOf, Held, readFile}
 use Rattle.planwriter.specs.Writing.{written}
-use Rattle.planfile.proofs.Digits.{Octets}
-use Rattle.planfile.proofs.Steps.{through, same-value}
+use Rattle.planfields.proofs.Digits.{Octets}
+use Rattle.planfields.proofs.Steps.{through, same-value}
 use Rattle.planfile.proofs.Roll.{length-snoc, room-length}
 use Rattle.planwriter.proofs.Files.{counted-is}
 use Rattle.roundtrip.specs.JobTrip.{Readable, job-again}

@@ -11,7 +11,8 @@ use Rattle.plan.specs.Boundaries.{insert, boundariesTo, intervals}
 use Rattle.plan.specs.declared.kinds.Job.{Job}
 use Rattle.plan.specs.declared.kinds.Plan.{Plan}
 use Rattle.plan.proofs.Names.{name-at}
-use Rattle.planfile.specs.Reading.{Head, namesOf, planOf}
+use Rattle.planfields.specs.Fields.{Head}
+use Rattle.planfile.specs.Reading.{namesOf, planOf}
 use Rattle.planwriter.specs.Writing.{rowAt, rowsBytes}
 
 -- Padding with what lies past the end changes nothing.

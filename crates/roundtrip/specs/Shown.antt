@@ -8,10 +8,11 @@ use lib.Seq.{take-at}
 use Rattle.plan.specs.Edition.{mostJobs, jobLength}
 use Rattle.plan.specs.Rules.{noJob, jobOf, name}
 use Rattle.plan.specs.declared.kinds.Plan.{Plan}
-use Rattle.planfile.specs.Bytes.{bytes}
-use Rattle.planfile.specs.Reading.{got, planOf, Held, readFile, nameShown}
+use Rattle.planfields.specs.Bytes.{bytes}
+use Rattle.planfields.specs.Fields.{got}
+use Rattle.planfile.specs.Reading.{planOf, Held, readFile, nameShown}
 use Rattle.planwriter.specs.Writing.{jobBytes, jobsBytes}
-use Rattle.planfile.proofs.Digits.{Octets, length-bytes}
+use Rattle.planfields.proofs.Digits.{Octets, length-bytes}
 use Rattle.planwriter.proofs.Pages.{jobs-long}
 use Rattle.planfile.proofs.Whole.{shown-part}
 use Rattle.roundtrip.specs.Stands.{Stands, stands-first, stands-rest, stands-as}

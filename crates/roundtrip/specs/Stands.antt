@@ -7,10 +7,10 @@ use native.Mathlib.Omega.{arith}
 use lib.Dec.{lit<}
 use lib.ListN.{length, take, drop, length-append, length-drop, take-append-drop}
 use lib.Seq.{take-at, drop-at, drop-drop, getD-drop, length-take-le}
-use Rattle.planfile.specs.Bytes.{bytes, value}
-use Rattle.planfile.specs.Reading.{got, field}
-use Rattle.planfile.proofs.Digits.{Octets, length-bytes, value-bytes, value-below, bytes-value}
-use Rattle.planfile.proofs.Steps.{field-whole}
+use Rattle.planfields.specs.Bytes.{bytes, value}
+use Rattle.planfields.specs.Fields.{got, field}
+use Rattle.planfields.proofs.Digits.{Octets, length-bytes, value-bytes, value-below, bytes-value}
+use Rattle.planfields.proofs.Steps.{field-whole}
 use Rattle.planfile.proofs.Extent.{field-extent}
 
 -- These bytes stand in the file at a place, and end at the next.

@@ -14,11 +14,12 @@ use Rattle.plan.specs.Rules.{noJob, names}
 use Rattle.plan.specs.Boundaries.{intervals}
 use Rattle.plan.specs.declared.kinds.Job.{Job}
 use Rattle.plan.specs.declared.kinds.Plan.{Plan}
-use Rattle.planfile.specs.Bytes.{bytes}
-use Rattle.planfile.specs.Reading.{got, no, checked, Head, head, namesOf, allJobs, planOf, Front, front, allRows, ended, Held, planFile, readFile}
+use Rattle.planfields.specs.Bytes.{bytes}
+use Rattle.planfields.specs.Fields.{got, no, checked, Head, head, ended}
+use Rattle.planfile.specs.Reading.{namesOf, allJobs, planOf, Front, front, allRows, Held, planFile, readFile}
 use Rattle.planwriter.specs.Writing.{rowsBytes, rowCount, body, written}
-use Rattle.planfile.proofs.Digits.{Octets}
-use Rattle.planfile.proofs.Steps.{through, checked-is, same-value, same-next}
+use Rattle.planfields.proofs.Digits.{Octets}
+use Rattle.planfields.proofs.Steps.{through, checked-is, same-value, same-next}
 use Rattle.planfile.proofs.Fronts.{Fine, front-fine}
 use Rattle.planfile.proofs.Extent.{HeadRead, head-read, opening-extent}
 use Rattle.planwriter.proofs.Files.{body-of, written-of}

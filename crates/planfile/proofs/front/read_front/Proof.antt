@@ -4,8 +4,8 @@ use mathlib.Core.List.{[]}
 use borrow.Author.Needs.{needs}
 use Rattle.plan.specs.Edition.{mostJobs}
 use Rattle.planfile.specs.Reading.{allJobs}
-use Rattle.planfile.specs.Answers.{headTold, headRefusal, headOf}
-use Rattle.planfile.proofs.Steps.{so, refused, passed-number}
+use Rattle.planfields.specs.Answers.{headTold, headRefusal, headOf}
+use Rattle.planfields.proofs.Steps.{so, refused, passed-number}
 use Rattle.planfile.proofs.Fronts.{head-count, jobs-refused, jobs-got, front-headless, front-jobless, front-whole}
 use Rattle.planfile.proofs.front.read_front.Statement.{statement}
 use Rattle.planfile.proofs.front.read_front.Tie as tie

@@ -7,8 +7,8 @@ use borrow.Author.Needs.{needs}
 use lib.ListN.{length}
 use lib.Seq.{length-take-le}
 use Rattle.plan.specs.Edition.{mostJobs}
-use Rattle.planfile.specs.Answers.{jobTold, jobRefusal, headOf}
-use Rattle.planfile.proofs.Steps.{so, refused}
+use Rattle.planfields.specs.Answers.{jobTold, jobRefusal, headOf}
+use Rattle.planfields.proofs.Steps.{so, refused}
 use Rattle.planfile.proofs.Roll.{Roll, roll-start, roll-names, roll-next, roll-refused, roll-end}
 use Rattle.planfile.proofs.front.read_jobs.Statement.{statement}
 use Rattle.planfile.proofs.front.read_jobs.Tie as tie

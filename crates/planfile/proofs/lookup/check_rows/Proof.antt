@@ -6,9 +6,10 @@ use native.Mathlib.Nat.{sub-zero}
 use native.Mathlib.Omega.{arith}
 use borrow.Author.Needs.{needs}
 use Rattle.plan.specs.Edition.{mostIntervals, places}
-use Rattle.planfile.specs.Reading.{got, oneRow, allRows}
+use Rattle.planfields.specs.Fields.{got}
+use Rattle.planfile.specs.Reading.{oneRow, allRows}
 use Rattle.planfile.specs.Answers.{rowTold, rowRefusal, onlyPassed}
-use Rattle.planfile.proofs.Steps.{so, refused}
+use Rattle.planfields.proofs.Steps.{so, refused}
 use Rattle.planfile.proofs.Rows.{row-inside, rows-only, left-next, left-stop, left-done}
 use Rattle.planfile.proofs.lookup.check_rows.Statement.{statement}
 use Rattle.planfile.proofs.lookup.check_rows.Tie as tie

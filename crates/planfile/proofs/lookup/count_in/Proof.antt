@@ -5,9 +5,11 @@ use borrow.Author.Needs.{needs}
 use lib.ListN.{drop, replicate}
 use Rattle.plan.specs.Edition.{mostJobs, mostIntervals, places}
 use Rattle.plan.specs.Boundaries.{intervals}
-use Rattle.planfile.specs.Reading.{got, Front, front, allRows}
-use Rattle.planfile.specs.Answers.{onlyPassed, passedTold}
-use Rattle.planfile.proofs.Steps.{so}
+use Rattle.planfields.specs.Fields.{got}
+use Rattle.planfile.specs.Reading.{Front, front, allRows}
+use Rattle.planfields.specs.Answers.{passedTold}
+use Rattle.planfile.specs.Answers.{onlyPassed}
+use Rattle.planfields.proofs.Steps.{so}
 use Rattle.planfile.proofs.Fronts.{front-refused, front-got}
 use Rattle.planfile.proofs.Whole.{only-refused, only-got, file-frontless, file-rowless, file-endless, file-whole, taken-length, count-within, rows-asked, rows-same}
 use Rattle.plan.specs.declared.kinds.Plan.{Plan}

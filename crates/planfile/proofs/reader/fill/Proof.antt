@@ -6,9 +6,11 @@ use borrow.Author.Needs.{needs}
 use lib.ListN.{length, drop, replicate, length-replicate}
 use Rattle.plan.specs.Edition.{mostJobs, mostIntervals, places}
 use Rattle.plan.specs.Boundaries.{intervals}
-use Rattle.planfile.specs.Reading.{got, Front, front, allRows}
-use Rattle.planfile.specs.Answers.{RowsAnswer, passedTold, passedRefusal}
-use Rattle.planfile.proofs.Steps.{so, refused, passed-number, field-number}
+use Rattle.planfields.specs.Fields.{got}
+use Rattle.planfile.specs.Reading.{Front, front, allRows}
+use Rattle.planfields.specs.Answers.{passedTold, passedRefusal}
+use Rattle.planfile.specs.Answers.{RowsAnswer}
+use Rattle.planfields.proofs.Steps.{so, refused, passed-number, field-number}
 use Rattle.planfile.proofs.Fronts.{front-refused, front-got}
 use Rattle.planfile.proofs.Whole.{rows-refused, rows-got, file-frontless, file-rowless, file-endless, file-whole, taken-length, count-within, rows-asked, rows-same}
 use Rattle.planfile.proofs.reader.fill.Statement.{statement}

@@ -1,5 +1,5 @@
 -- `planwriter::writer::put_file` meets its contract: the version, the length and the body.
-use Rattle.planfile.specs.Bytes.{bytes}
+use Rattle.planfields.specs.Bytes.{bytes}
 use mathlib.Core.List.{_++_}
 use mathlib.Core.Path.{refl, _∙_, ap}
 use native.Mathlib.Omega.{arith}

@@ -10,7 +10,7 @@ use Rattle.plan.specs.Edition.{places, jobLength, rowLength}
 use Rattle.plan.specs.Table.{sound}
 use Rattle.planwriter.specs.Writing.{body, written}
 use Rattle.planwriter.specs.Answers.{Writable}
-use Rattle.planfile.proofs.Steps.{failed, held}
+use Rattle.planfields.proofs.Steps.{failed, held}
 use Rattle.planwriter.proofs.Pages.{count-few}
 use Rattle.planwriter.proofs.Files.{writable, body-long, written-long, writer-short, writer-unsound, writer-tight, writer-whole}
 use Rattle.planwriter.proofs.writer.write.Statement.{statement}

@@ -1,0 +1,114 @@
+-- The laws of numbers as bytes, over any width: the value of the bytes, and the bytes of the value.
+use mathlib.Core.Path.{_≡_, refl, sym, _∙_, ap, ap₂}
+use mathlib.Core.List.{List, [], _∷_, _++_, append-assoc}
+use Prim.Native.Nat.{ℕ, zero, suc, _+_, _*_, _/_, _%_, _^_, _≤_, _<_}
+use native.Mathlib.Nat.{pow-suc, pow-succ', pow-le-pow-right, one-le-pow, mod-lt, mod-eq-of-lt, div-one, div-add-mod', div-div-eq-div-mul, mul-assoc, add-mul, add-assoc, zero-mul, div-lt-iff-lt-mul}
+use native.Mathlib.Omega.{arith}
+use lib.Arith.{digits-lt, digits-div, digits-mod, mod-mul}
+use lib.Dec.{lit<}
+use lib.ListN.{length, getD, take, drop}
+use lib.Seq.{take-suc, drop-at}
+use Rattle.planfields.specs.Bytes.{bytes, value}
+
+-- One more byte behind the others, as a loop reads it.
+pub value-snoc : (a : ℕ) (l : List ℕ) (b : ℕ) → value a (l ++ (b ∷ [])) ≡ value a l * 256 + b
+unfolding value
+value-snoc a [] b = refl
+value-snoc a (x ∷ l) b = value-snoc (a * 256 + x) l b
+
+pub value-next : (l : List ℕ) (k : ℕ) {so-far : ℕ} → k < length l → so-far ≡ value 0 (take k l)
+    → so-far * 256 + getD l k 0 ≡ value 0 (take (suc k) l)
+value-next l k h e = rw (take-suc l k 0 h, value-snoc 0 (take k l) (getD l k 0), e)
+
+pub value-start : (l : List ℕ) → 0 ≡ value 0 (take 0 l)
+unfolding value
+value-start l = refl
+
+-- A byte more keeps within a byte more.
+pub within : {v b : ℕ} (k : ℕ) → v < 256 ^ k → b < 256 → v * 256 + b < 256 ^ suc k
+within {v} {b} k h l = rw (pow-suc 256 k) (digits-lt h l)
+
+pub width-eight : (k : ℕ) → k ≤ 8 → 256 ^ k ≤ 256 ^ 8
+width-eight k h = pow-le-pow-right (lit< tt) h
+
+-- While fewer than eight bytes are read, a byte more fits a word.
+pub room : {v : ℕ} (k : ℕ) → v < 256 ^ k → k < 8 → v * 256 + 255 < 2 ^ 64
+room k h l =
+    let more : 256 ^ suc k ≤ 256 ^ 8 = width-eight (suc k) l in
+    omega (arith, within k h (lit< {m = 255} tt), more)
+
+pub length-bytes : (w x : ℕ) → length (bytes w x) ≡ w
+unfolding bytes
+length-bytes zero x = refl
+length-bytes (suc w) x = ap suc (length-bytes w (x % 256 ^ w))
+
+-- The last byte stands behind the bytes of what is before it, as a loop writes it.
+pub bytes-snoc : (w x : ℕ) → x < 256 ^ suc w → bytes (suc w) x ≡ bytes w (x / 256) ++ (x % 256 ∷ [])
+unfolding bytes
+bytes-snoc zero x h = rw (div-one x, mod-eq-of-lt h)
+bytes-snoc (suc w) x h =
+    let split : x % 256 ^ suc w ≡ x / 256 % 256 ^ w * 256 + x % 256
+    = rw (pow-suc 256 w) (mod-mul x (one-le-pow w 256 (lit< tt)) (lit< tt)) in
+    let quot : x % 256 ^ suc w / 256 ≡ x / 256 % 256 ^ w = rw split (digits-div (x / 256 % 256 ^ w) (mod-lt x (lit< tt))) in
+    let last : x % 256 ^ suc w % 256 ≡ x % 256 = rw split (digits-mod (x / 256 % 256 ^ w) (mod-lt x (lit< tt))) in
+    let first : x / 256 ^ suc w ≡ x / 256 / 256 ^ w = rw (pow-succ' 256 w) (sym (div-div-eq-div-mul x 256 (256 ^ w))) in
+    ap₂ (λ (q : ℕ) (l : List ℕ). q ∷ l) first
+    (bytes-snoc w (x % 256 ^ suc w) (mod-lt x (one-le-pow (suc w) 256 (lit< tt)))
+    ∙ ap₂ (λ (y z : ℕ). bytes w y ++ (z ∷ [])) quot last)
+
+-- The value of a number's bytes is the number, behind what was read before them.
+pub value-bytes-on : (w a x : ℕ) → x < 256 ^ w → value a (bytes w x) ≡ a * 256 ^ w + x
+unfolding bytes value
+value-bytes-on zero a x h = omega arith
+value-bytes-on (suc w) a x h =
+    let p = 256 ^ w in
+    value-bytes-on w (a * 256 + x / p) (x % p) (mod-lt x (one-le-pow w 256 (lit< tt)))
+    ∙ rw (add-mul (a * 256) (x / p) p, mul-assoc a 256 p, ← (pow-succ' 256 w), add-assoc (a * 256 ^ suc w) (x / p * p) (x % p), div-add-mod' x p) refl
+
+pub value-bytes : (w x : ℕ) → x < 256 ^ w → value 0 (bytes w x) ≡ x
+value-bytes w x h = value-bytes-on w 0 x h ∙ omega (arith, zero-mul (256 ^ w))
+
+-- The bytes of a value are the bytes that it was read from.
+abbrev pub Octets : List ℕ → Type 0
+Octets l = (k : ℕ) → getD l k 0 < 256
+
+pub value-on : (l : List ℕ) (a : ℕ) → value a l ≡ a * 256 ^ length l + value 0 l
+unfolding value
+value-on [] a = omega arith
+value-on (b ∷ l) a =
+    let p = 256 ^ length l in
+    value-on l (a * 256 + b)
+    ∙ rw (add-mul (a * 256) b p, mul-assoc a 256 p, ← (pow-succ' 256 (length l)), add-assoc (a * 256 ^ suc (length l)) (b * p) (value 0 l))
+    (ap (λ v. a * 256 ^ suc (length l) + v) (sym (value-on l (0 * 256 + b) ∙ ap (λ c. c * p + value 0 l) (omega arith))))
+
+pub value-below : (l : List ℕ) → Octets l → value 0 l < 256 ^ length l
+unfolding value
+value-below [] h = lit< tt
+value-below (b ∷ l) h =
+    rw (value-on l (0 * 256 + b), pow-succ' 256 (length l))
+    (digits-lt {q = 0 * 256 + b} {m = 256} {r = value 0 l} {c = 256 ^ length l} (omega (arith, h 0)) (value-below l (λ k. h (suc k))))
+
+pub bytes-value : (l : List ℕ) → Octets l → bytes (length l) (value 0 l) ≡ l
+unfolding bytes value
+bytes-value [] h = refl
+bytes-value (b ∷ l) h =
+    let v = value 0 l in
+    let p = 256 ^ length l in
+    let low : v < p = value-below l (λ k. h (suc k)) in
+    let is : value (0 * 256 + b) l ≡ b * p + v = value-on l (0 * 256 + b) ∙ ap (λ c. c * p + v) (omega arith) in
+    rw is
+    (ap₂ (λ (q : ℕ) (r : List ℕ). q ∷ r) (digits-div b low)
+    (ap (bytes (length l)) (digits-mod b low) ∙ bytes-value l (λ k. h (suc k))))
+
+-- A byte written before the bytes behind it.
+pub bytes-turn : (w x rest k : ℕ) → rest < 256 ^ suc k → bytes (suc k) rest ++ drop (suc k) (bytes w x) ≡ bytes w x
+    → (rest / 256 < 256 ^ k) × (drop k (bytes w x) ≡ rest % 256 ∷ drop (suc k) (bytes w x))
+    × (bytes k (rest / 256) ++ drop k (bytes w x) ≡ bytes w x)
+bytes-turn w x rest k h e =
+    let b = bytes w x in
+    let whole : bytes k (rest / 256) ++ (rest % 256 ∷ drop (suc k) b) ≡ b
+    = sym (append-assoc (bytes k (rest / 256)) (rest % 256 ∷ []) (drop (suc k) b))
+    ∙ ap (λ l. l ++ drop (suc k) b) (sym (bytes-snoc k rest h)) ∙ e in
+    let tail : drop k b ≡ rest % 256 ∷ drop (suc k) b
+    = ap (drop k) (sym whole) ∙ drop-at (bytes k (rest / 256)) (rest % 256 ∷ drop (suc k) b) k (length-bytes k (rest / 256)) in
+    (div-lt-iff-lt-mul (lit< tt) .1 (rw (pow-suc 256 k) at h), tail, ap (λ l. bytes k (rest / 256) ++ l) tail ∙ whole)

@@ -1,0 +1,173 @@
+-- `planfields::job::read_job` meets its contract.
+use Rattle.planfields.proofs.Heads.{job-bounds, job-whole}
+use mathlib.Core.Path.{refl, ap₂}
+use mathlib.Core.Bool.{_&&_}
+use native.Mathlib.Omega.{arith}
+use borrow.Author.Needs.{needs}
+use Rattle.planfields.specs.Answers.{fieldTold, fieldRefusal}
+use Rattle.planfields.specs.Fields.{oneJob}
+use Rattle.planfields.proofs.Steps.{so, small, refused, failed, held}
+use Rattle.planfields.proofs.job.read_job.Statement.{statement}
+use Rattle.planfields.proofs.job.read_job.Tie as tie
+
+read-name-requires : tie.Need-read-name-requires
+read-name-requires c κs = search needs
+
+enum-known-named : tie.Need-enum-known-named
+enum-known-named c = search needs
+
+enum-told : tie.Need-enum-told
+enum-told c = search needs
+
+field-refusal-requires : tie.Need-field-refusal-requires
+field-refusal-requires c κs = search needs
+
+returns : tie.Need-returns
+unfolding oneJob
+returns c =
+    simp (refused fieldTold fieldRefusal (c .before .before .before .read-name .ensures) (c .before .enum-told .given .1) refl refl (c .field-refusal .ensures))
+
+read-grade-requires : tie.Need-read-grade-requires
+read-grade-requires c κs = search needs
+
+enum-known-graded : tie.Need-enum-known-graded
+enum-known-graded c = search needs
+
+enum-told-2 : tie.Need-enum-told-2
+enum-told-2 c = search needs
+
+field-refusal-requires-2 : tie.Need-field-refusal-requires-2
+field-refusal-requires-2 c κs = search needs
+
+returns-2 : tie.Need-returns-2
+unfolding oneJob
+returns-2 c =
+    simp (so fieldTold (c .before .before .before .before .before .before .before .read-name .ensures) (c .before .before .before .before .before .named .given .1), refused fieldTold fieldRefusal (c .before .before .before .read-grade .ensures .0) (c .before .enum-told2 .given .1) refl refl (c .field-refusal2 .ensures))
+
+read-field-requires : tie.Need-read-field-requires
+read-field-requires c κs = search needs
+
+enum-known-released : tie.Need-enum-known-released
+enum-known-released c = search needs
+
+enum-told-3 : tie.Need-enum-told-3
+enum-told-3 c = search needs
+
+field-refusal-requires-3 : tie.Need-field-refusal-requires-3
+field-refusal-requires-3 c κs = search needs
+
+returns-3 : tie.Need-returns-3
+unfolding oneJob
+returns-3 c =
+    simp (so fieldTold (c .before .before .before .before .before .before .before .before .before .before .before .read-name .ensures) (c .before .before .before .before .before .before .before .before .before .named .given .1), so fieldTold (c .before .before .before .before .before .before .before .read-grade .ensures .0) (c .before .before .before .before .before .graded .given .1), refused fieldTold fieldRefusal (c .before .before .before .read-field .ensures .0) (c .before .enum-told3 .given .1) refl refl (c .field-refusal3 .ensures))
+
+read-field-requires-2 : tie.Need-read-field-requires-2
+read-field-requires-2 c κs = search needs
+
+enum-known-sized : tie.Need-enum-known-sized
+enum-known-sized c = search needs
+
+enum-told-4 : tie.Need-enum-told-4
+enum-told-4 c = search needs
+
+field-refusal-requires-4 : tie.Need-field-refusal-requires-4
+field-refusal-requires-4 c κs = search needs
+
+returns-4 : tie.Need-returns-4
+unfolding oneJob
+returns-4 c =
+    simp (so fieldTold (c .before .before .before .before .before .before .before .before .before .before .before .before .before .before .before .read-name .ensures) (c .before .before .before .before .before .before .before .before .before .before .before .before .before .named .given .1), so fieldTold (c .before .before .before .before .before .before .before .before .before .before .before .read-grade .ensures .0) (c .before .before .before .before .before .before .before .before .before .graded .given .1), so fieldTold (c .before .before .before .before .before .before .before .read-field .ensures .0) (c .before .before .before .before .before .released .given .1), refused fieldTold fieldRefusal (c .before .before .before .read-field2 .ensures .0) (c .before .enum-told4 .given .1) refl refl (c .field-refusal4 .ensures))
+
+read-field-requires-3 : tie.Need-read-field-requires-3
+read-field-requires-3 c κs = search needs
+
+enum-known-dead : tie.Need-enum-known-dead
+enum-known-dead c = search needs
+
+enum-told-5 : tie.Need-enum-told-5
+enum-told-5 c = search needs
+
+field-refusal-requires-5 : tie.Need-field-refusal-requires-5
+field-refusal-requires-5 c κs = search needs
+
+returns-5 : tie.Need-returns-5
+unfolding oneJob
+returns-5 c =
+    simp (so fieldTold (c .before .before .before .before .before .before .before .before .before .before .before .before .before .before .before .before .before .before .before .read-name .ensures) (c .before .before .before .before .before .before .before .before .before .before .before .before .before .before .before .before .before .named .given .1), so fieldTold (c .before .before .before .before .before .before .before .before .before .before .before .before .before .before .before .read-grade .ensures .0) (c .before .before .before .before .before .before .before .before .before .before .before .before .before .graded .given .1), so fieldTold (c .before .before .before .before .before .before .before .before .before .before .before .read-field .ensures .0) (c .before .before .before .before .before .before .before .before .before .released .given .1), so fieldTold (c .before .before .before .before .before .before .before .read-field2 .ensures .0) (c .before .before .before .before .before .sized .given .1), refused fieldTold fieldRefusal (c .before .before .before .read-field3 .ensures .0) (c .before .enum-told5 .given .1) refl refl (c .field-refusal5 .ensures))
+
+cast-t26 : tie.Need-cast-t26
+cast-t26 c =
+    omega (arith, small (c .before .before .before .before .before .before .before .before .before .before .before .before .before .before .before .read-grade .ensures .1) (c .before .before .before .before .before .before .before .before .before .before .before .before .before .graded .given .1))
+
+cast-t27 : tie.Need-cast-t27
+cast-t27 c =
+    omega (arith, small (c .before .before .before .before .before .before .before .before .before .before .before .read-field .ensures .1) (c .before .before .before .before .before .before .before .before .before .released .given .1))
+
+cast-t30 : tie.Need-cast-t30
+cast-t30 c =
+    omega (arith, small (c .before .before .before .read-field3 .ensures .1) (c .before .dead .given .1))
+
+window-allowed-requires : tie.Need-window-allowed-requires
+window-allowed-requires c κs = search needs
+
+size-allowed-requires : tie.Need-size-allowed-requires
+size-allowed-requires c κs = search needs
+
+returns-6 : tie.Need-returns-6
+returns-6 c =
+    let a = c .before .before .before .before .before .before .before .before .before .before .before .before .before .before .before .before .before .before .before .before .before .before .before .before .before .args in
+    job-bounds (a .earlier .now) (a .file .now) (a .at)
+    (so fieldTold (c .before .before .before .before .before .before .before .before .before .before .before .before .before .before .before .before .before .before .before .before .before .before .read-name .ensures) (c .before .before .before .before .before .before .before .before .before .before .before .before .before .before .before .before .before .before .before .before .named .given .1))
+    (so fieldTold (c .before .before .before .before .before .before .before .before .before .before .before .before .before .before .before .before .before .before .read-grade .ensures .0) (c .before .before .before .before .before .before .before .before .before .before .before .before .before .before .before .before .graded .given .1))
+    (so fieldTold (c .before .before .before .before .before .before .before .before .before .before .before .before .before .before .read-field .ensures .0) (c .before .before .before .before .before .before .before .before .before .before .before .before .released .given .1))
+    (so fieldTold (c .before .before .before .before .before .before .before .before .before .before .read-field2 .ensures .0) (c .before .before .before .before .before .before .before .before .sized .given .1))
+    (so fieldTold (c .before .before .before .before .before .before .read-field3 .ensures .0) (c .before .before .before .before .dead .given .1))
+    (failed (ap₂ _&&_ (c .before .before .window-allowed .ensures) (c .before .size-allowed .ensures)) (c .if1 .taken))
+
+returns-7 : tie.Need-returns-7
+returns-7 c =
+    let a = c .before .before .before .before .before .before .before .before .before .before .before .before .before .before .before .before .before .before .before .before .before .before .before .before .before .args in
+    job-whole (a .earlier .now) (a .file .now) (a .at)
+    (so fieldTold (c .before .before .before .before .before .before .before .before .before .before .before .before .before .before .before .before .before .before .before .before .before .before .read-name .ensures) (c .before .before .before .before .before .before .before .before .before .before .before .before .before .before .before .before .before .before .before .before .named .given .1))
+    (so fieldTold (c .before .before .before .before .before .before .before .before .before .before .before .before .before .before .before .before .before .before .read-grade .ensures .0) (c .before .before .before .before .before .before .before .before .before .before .before .before .before .before .before .before .graded .given .1))
+    (so fieldTold (c .before .before .before .before .before .before .before .before .before .before .before .before .before .before .read-field .ensures .0) (c .before .before .before .before .before .before .before .before .before .before .before .before .released .given .1))
+    (so fieldTold (c .before .before .before .before .before .before .before .before .before .before .read-field2 .ensures .0) (c .before .before .before .before .before .before .before .before .sized .given .1))
+    (so fieldTold (c .before .before .before .before .before .before .read-field3 .ensures .0) (c .before .before .before .before .dead .given .1))
+    (held (ap₂ _&&_ (c .before .before .window-allowed .ensures) (c .before .size-allowed .ensures)) (c .if1 .left))
+
+pub read-job-spec : {M : Type 1} → statement M
+read-job-spec =
+    tie.close
+    (tie.spec
+    read-name-requires
+    enum-known-named
+    enum-told
+    field-refusal-requires
+    returns
+    read-grade-requires
+    enum-known-graded
+    enum-told-2
+    field-refusal-requires-2
+    returns-2
+    read-field-requires
+    enum-known-released
+    enum-told-3
+    field-refusal-requires-3
+    returns-3
+    read-field-requires-2
+    enum-known-sized
+    enum-told-4
+    field-refusal-requires-4
+    returns-4
+    read-field-requires-3
+    enum-known-dead
+    enum-told-5
+    field-refusal-requires-5
+    returns-5
+    cast-t26
+    cast-t27
+    cast-t30
+    window-allowed-requires
+    size-allowed-requires
+    returns-6
+    returns-7)

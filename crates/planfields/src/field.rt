@@ -1,0 +1,84 @@
+// Reading one field. Every byte of a plan file but the first is read here.
+use plan::refusal::WRONG_EXTENT;
+use plan::refusal::WRONG_RECORD_LENGTH;
+ghost use mathlib.Core.Path.{_≡_};
+ghost use Prim.Native.Nat.{_≤_, _<_, _^_};
+ghost use Rattle.planfields.specs.Fields.{field, named, ended};
+ghost use Rattle.planfields.specs.Answers.{fieldTold, fieldValue, fieldRefusal, passedTold, passedRefusal};
+
+// The value and the next place, or the refusal.
+pub enum Field {
+    Value(u64, usize),
+    Refused(u8),
+}
+
+// The next place alone, or the refusal.
+pub enum Passed {
+    Next(usize),
+    Refused(u8),
+}
+
+// No refusal has this number.
+pub const NONE: u8 = 0;
+
+pub fn field_refusal(f: Field) -> u8
+    ensures { λ r. ⌜ r ≡ fieldRefusal f ⌝ }
+{
+    match f {
+        Field::Value(_, _) => NONE,
+        Field::Refused(number) => number,
+    }
+}
+
+pub fn passed_refusal(p: Passed) -> u8
+    ensures { λ r. ⌜ r ≡ passedRefusal p ⌝ }
+{
+    match p {
+        Passed::Next(_) => NONE,
+        Passed::Refused(number) => number,
+    }
+}
+
+// A field of w bytes, the highest first.
+pub(crate) fn read_field(file: &[u8], at: usize, w: usize) -> Field
+    requires { ⌜ w ≤ 8 ⌝ }
+    ensures { λ r. ⌜ (fieldTold r ≡ field w (now (file .entry)) at) × (fieldValue r < 256 ^ w) ⌝ }
+{
+    if file.len() < at {
+        return Field::Refused(WRONG_EXTENT);
+    }
+    if file.len() - at < w {
+        return Field::Refused(WRONG_EXTENT);
+    }
+    let mut value: u64 = 0;
+    let mut k = 0;
+    while k < w {
+        value = value * 256 + file[at + k] as u64;
+        k += 1;
+    }
+    Field::Value(value, at + w)
+}
+
+// The name of a record whose length byte is to say a given length.
+pub fn read_named(file: &[u8], at: usize, length: u64) -> Field
+    ensures { λ r. ⌜ fieldTold r ≡ named length (now (file .entry)) at ⌝ }
+{
+    let long = read_field(file, at, 1);
+    let Field::Value(says, next) = long else {
+        return Field::Refused(field_refusal(long));
+    };
+    if says != length {
+        return Field::Refused(WRONG_RECORD_LENGTH);
+    }
+    read_field(file, next, 8)
+}
+
+// The end of the file, where no bytes may remain.
+pub fn read_end(file: &[u8], at: usize) -> Passed
+    ensures { λ r. ⌜ passedTold r ≡ ended (now (file .entry)) at ⌝ }
+{
+    if at != file.len() {
+        return Passed::Refused(WRONG_EXTENT);
+    }
+    Passed::Next(at)
+}

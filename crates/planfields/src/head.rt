@@ -1,0 +1,95 @@
+// Reading what stands before the jobs: version, length, both rates and the job count.
+use crate::field::Field;
+use crate::field::NONE;
+use crate::field::field_refusal;
+use crate::field::read_field;
+use plan::edition::Edition;
+use plan::kinds::Rate;
+use plan::refusal::WRONG_EXTENT;
+use plan::refusal::WRONG_JOB_COUNT;
+use plan::refusal::WRONG_RATES;
+use plan::refusal::WRONG_VERSION;
+use plan::rules::count_allowed;
+use plan::rules::rates_allowed;
+ghost use mathlib.Core.Path.{_≡_};
+ghost use Rattle.plan.specs.Edition.{mostJobs};
+ghost use Rattle.planfields.specs.Fields.{opening, head};
+ghost use Rattle.planfields.specs.Answers.{fieldTold, headTold, headRefusal};
+
+pub struct Head {
+    pub n: Rate,
+    pub d: Rate,
+    pub count: usize,
+}
+
+pub enum HeadRead {
+    Head(Head, usize),
+    Refused(u8),
+}
+
+pub fn head_refusal(h: HeadRead) -> u8
+    ensures { λ r. ⌜ r ≡ headRefusal h ⌝ }
+{
+    match h {
+        HeadRead::Head(_, _) => NONE,
+        HeadRead::Refused(number) => number,
+    }
+}
+
+// The version byte, and the length of all that follows it.
+fn read_opening(file: &[u8]) -> Field
+    ensures { λ r. ⌜ fieldTold r ≡ opening (now (file .entry)) 0 ⌝ }
+{
+    if file.len() == 0 {
+        return Field::Refused(WRONG_VERSION);
+    }
+    if file[0] != Edition::VERSION {
+        return Field::Refused(WRONG_VERSION);
+    }
+    let length = read_field(file, 1, 4);
+    let Field::Value(n, next) = length else {
+        return length;
+    };
+    if file.len() < next {
+        return Field::Refused(WRONG_EXTENT);
+    }
+    if (file.len() - next) as u64 != n {
+        return Field::Refused(WRONG_EXTENT);
+    }
+    length
+}
+
+pub fn read_head(file: &[u8]) -> HeadRead
+    ensures { λ r. ⌜ headTold r ≡ head mostJobs (now (file .entry)) 0 ⌝ }
+{
+    let opening = read_opening(file);
+    let Field::Value(_, at) = opening else {
+        return HeadRead::Refused(field_refusal(opening));
+    };
+    let normal = read_field(file, at, 2);
+    let Field::Value(n, after_n) = normal else {
+        return HeadRead::Refused(field_refusal(normal));
+    };
+    let floor = read_field(file, after_n, 2);
+    let Field::Value(d, after_d) = floor else {
+        return HeadRead::Refused(field_refusal(floor));
+    };
+    if !rates_allowed(Rate(n as u16), Rate(d as u16)) {
+        return HeadRead::Refused(WRONG_RATES);
+    }
+    let jobs = read_field(file, after_d, 1);
+    let Field::Value(count, next) = jobs else {
+        return HeadRead::Refused(field_refusal(jobs));
+    };
+    if !count_allowed(count as usize) {
+        return HeadRead::Refused(WRONG_JOB_COUNT);
+    }
+    HeadRead::Head(
+        Head {
+            n: Rate(n as u16),
+            d: Rate(d as u16),
+            count: count as usize,
+        },
+        next,
+    )
+}

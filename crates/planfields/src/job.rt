@@ -1,0 +1,106 @@
+// Reading one job.
+use crate::field::Field;
+use crate::field::NONE;
+use crate::field::field_refusal;
+use crate::field::read_field;
+use crate::field::read_named;
+use plan::edition::Edition;
+use plan::kinds::Job;
+use plan::kinds::Name;
+use plan::kinds::Slots;
+use plan::kinds::Units;
+use plan::refusal::NAME_TAKEN;
+use plan::refusal::WRONG_GRADE;
+use plan::refusal::WRONG_JOB_BOUNDS;
+use plan::refusal::WRONG_NAME_BYTE;
+use plan::rules::grade_allowed;
+use plan::rules::is_absent;
+use plan::rules::name_allowed;
+use plan::rules::size_allowed;
+use plan::rules::window_allowed;
+ghost use mathlib.Core.Path.{_≡_};
+ghost use Prim.Native.Nat.{_<_, _^_};
+ghost use Rattle.plan.specs.Refusal.{wrongGrade};
+ghost use Rattle.plan.specs.Rules.{gradeAllowed};
+ghost use Rattle.planfields.specs.Fields.{jobName, checked, oneJob};
+ghost use Rattle.planfields.specs.Answers.{fieldTold, fieldValue, jobTold, jobRefusal};
+
+pub enum JobRead {
+    Job(Job, usize),
+    Refused(u8),
+}
+
+pub fn job_refusal(j: JobRead) -> u8
+    ensures { λ r. ⌜ r ≡ jobRefusal j ⌝ }
+{
+    match j {
+        JobRead::Job(_, _) => NONE,
+        JobRead::Refused(number) => number,
+    }
+}
+
+// The name of a job, behind jobs with the given names.
+fn read_name(file: &[u8], at: usize, earlier: &[u64]) -> Field
+    ensures { λ r. ⌜ fieldTold r ≡ jobName (now (earlier .entry)) (now (file .entry)) at ⌝ }
+{
+    let named = read_named(file, at, Edition::JOB_LENGTH as u64);
+    let Field::Value(name, next) = named else {
+        return named;
+    };
+    if !name_allowed(Name(name)) {
+        return Field::Refused(WRONG_NAME_BYTE);
+    }
+    if !is_absent(earlier, name) {
+        return Field::Refused(NAME_TAKEN);
+    }
+    named
+}
+
+fn read_grade(file: &[u8], at: usize) -> Field
+    ensures { λ r. ⌜ (fieldTold r ≡ checked 1 gradeAllowed wrongGrade (now (file .entry)) at) × (fieldValue r < 256 ^ 1) ⌝ }
+{
+    let byte = read_field(file, at, 1);
+    let Field::Value(grade, next) = byte else {
+        return byte;
+    };
+    if !grade_allowed(grade as u8) {
+        return Field::Refused(WRONG_GRADE);
+    }
+    byte
+}
+
+pub fn read_job(file: &[u8], at: usize, earlier: &[u64]) -> JobRead
+    ensures { λ r. ⌜ jobTold r ≡ oneJob (now (earlier .entry)) (now (file .entry)) at ⌝ }
+{
+    let named = read_name(file, at, earlier);
+    let Field::Value(name, after_name) = named else {
+        return JobRead::Refused(field_refusal(named));
+    };
+    let graded = read_grade(file, after_name);
+    let Field::Value(grade, after_grade) = graded else {
+        return JobRead::Refused(field_refusal(graded));
+    };
+    let released = read_field(file, after_grade, 4);
+    let Field::Value(release, after_release) = released else {
+        return JobRead::Refused(field_refusal(released));
+    };
+    let sized = read_field(file, after_release, 4);
+    let Field::Value(size, after_size) = sized else {
+        return JobRead::Refused(field_refusal(sized));
+    };
+    let dead = read_field(file, after_size, 4);
+    let Field::Value(deadline, next) = dead else {
+        return JobRead::Refused(field_refusal(dead));
+    };
+    let job = Job {
+        name: Name(name),
+        grade: grade as u8,
+        release: Slots(release as u32),
+        size: Units(size),
+        deadline: Slots(deadline as u32),
+    };
+    if !(window_allowed(job.release, job.deadline) & size_allowed(job.size)) {
+        return JobRead::Refused(WRONG_JOB_BOUNDS);
+    }
+    JobRead::Job(job, next)
+}
