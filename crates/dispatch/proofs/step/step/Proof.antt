@@ -31,34 +31,46 @@ running c = ne-eqb _ _ (λ e. c .if3 .left (e ∙ sym (ap (λ (s : Slots). s .0)
 slot-sound-requires : tie.Need-slot-sound-requires
 slot-sound-requires c κs = search needs
 
+refused-requires : tie.Need-refused-requires
+refused-requires c κs = search needs
+
 returns : tie.Need-returns
 unfolding slotFault stepped
 returns c =
-    rw (sym (c .before .slot-sound .ensures) ∙ not-true (c .before .slot-sound .result) (c .if1 .taken)) refl
+    rw (c .refused .ensures, sym (c .before .before .slot-sound .ensures) ∙ not-true (c .before .before .slot-sound .result) (c .before .if1 .taken)) refl
 
 counted-of-requires : tie.Need-counted-of-requires
 counted-of-requires c κs = search needs
 
+refused-requires-2 : tie.Need-refused-requires-2
+refused-requires-2 c κs = search needs
+
 returns-2 : tie.Need-returns-2
 unfolding slotFault stepped
 returns-2 c =
-    let a = c .before .before .before .before .before .before .args in
-    let short = ap (λ n. ltb (length (a .table .now)) places || ltb (length (a .grants .now)) n) (sym (c .before .counted-of .ensures)) ∙ c .if2 .taken in
-    rw (sound (c .before .before), short) refl
+    let a = c .before .before .before .before .before .before .before .args in
+    let short = ap (λ n. ltb (length (a .table .now)) places || ltb (length (a .grants .now)) n) (sym (c .before .before .counted-of .ensures)) ∙ c .before .if2 .taken in
+    rw (c .refused2 .ensures, sound (c .before .before .before), short) refl
 
 last-deadline-requires : tie.Need-last-deadline-requires
 last-deadline-requires c κs = search needs
 
+refused-requires-3 : tie.Need-refused-requires-3
+refused-requires-3 c κs = search needs
+
 returns-3 : tie.Need-returns-3
 unfolding slotFault stepped
 returns-3 c =
-    let at-end = eq-eqb _ _ (c .if3 .taken ∙ ap (λ (s : Slots). s .0) (c .before .before .before .last-deadline .ensures)) in
-    rw (sound (c .before .before .before .before .before .before .before), long (c .before .before .before .before .before), at-end) refl
+    let at-end = eq-eqb _ _ (c .before .if3 .taken ∙ ap (λ (s : Slots). s .0) (c .before .before .before .before .last-deadline .ensures)) in
+    rw (c .refused3 .ensures, sound (c .before .before .before .before .before .before .before .before), long (c .before .before .before .before .before .before), at-end) refl
+
+refused-requires-4 : tie.Need-refused-requires-4
+refused-requires-4 c κs = search needs
 
 returns-4 : tie.Need-returns-4
 unfolding slotFault stepped
 returns-4 c =
-    rw (sound (c .before .before .before .before .before .before .before .before .before .before), long (c .before .before .before .before .before .before .before .before), running (c .before .before .before), lt-ltb _ _ (c .if4 .taken)) refl
+    rw (c .refused4 .ensures, sound (c .before .before .before .before .before .before .before .before .before .before .before), long (c .before .before .before .before .before .before .before .before .before), running (c .before .before .before .before), lt-ltb _ _ (c .before .if4 .taken)) refl
 
 serve-requires : tie.Need-serve-requires
 serve-requires c κs =
@@ -81,11 +93,15 @@ step-spec =
     tie.close
     (tie.spec
     slot-sound-requires
+    refused-requires
     returns
     counted-of-requires
+    refused-requires-2
     returns-2
     last-deadline-requires
+    refused-requires-3
     returns-3
+    refused-requires-4
     returns-4
     serve-requires
     same-length
