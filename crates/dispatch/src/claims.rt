@@ -11,12 +11,13 @@ use plan::rules::counted_of;
 use sums::sum_of;
 ghost use mathlib.Core.Path.{_≡_};
 ghost use mathlib.Core.Bool.{not, cond, _&&_, _||_};
-ghost use Prim.Native.Nat.{_-_, min};
+ghost use Prim.Native.Nat.{suc, _-_, min};
 ghost use lib.Dec.{leb, ltb, eqb};
 ghost use lib.ListN.{replicate};
 ghost use Rattle.sums.specs.Sum.{on};
 ghost use Rattle.plan.specs.Edition.{mostJobs};
 ghost use Rattle.plan.specs.Rules.{hi, counted};
+ghost use Rattle.plan.specs.Boundaries.{present};
 ghost use Rattle.dispatch.specs.Shares.{filled, capped};
 
 // Whether a job is served: it is live, and HI unless the slow mark is clear.
@@ -59,6 +60,13 @@ fn claim_of(served: bool, goal: Units, carried: Units, v: u16) -> u32
     if due < v as u64 { due as u32 } else { v as u32 }
 }
 
+// The intervals up to and including the present one.
+fn spans_by(p: Plan, clock: Slots) -> u32
+    ensures { λ r. ⌜ r ≡ suc (present p (clock .0)) ⌝ }
+{
+    present_of(p, clock) as u32 + 1
+}
+
 // The claims of the jobs on a slot, in a row; zeros from the count on.
 pub(crate) fn claims_of(
     p: Plan,
@@ -71,7 +79,7 @@ pub(crate) fn claims_of(
 {
     let jobs = counted_of(p);
     let clock = run.clock;
-    let spans = present_of(p, clock) as u32 + 1;
+    let spans = spans_by(p, clock);
     let mut claims = [0u32; Edition::MOST_JOBS];
     let mut i = 0;
     while i < jobs {

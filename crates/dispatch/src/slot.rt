@@ -6,11 +6,13 @@ use crate::claims::claims_of;
 use crate::turns::turns_of;
 use plan::edition::Edition;
 use plan::kinds::Plan;
+use plan::kinds::Rate;
 use plan::kinds::Slots;
 use plan::rules::counted_of;
 ghost use mathlib.Core.Path.{_≡_};
-ghost use mathlib.Core.Bool.{true};
+ghost use mathlib.Core.Bool.{true, _||_};
 ghost use Prim.Native.Nat.{ℕ, _+_, _-_, _≤_, _<_, min};
+ghost use lib.Dec.{ltb};
 ghost use lib.ListN.{length, getD};
 ghost use Rattle.plan.specs.Edition.{mostJobs, mostSize};
 ghost use Rattle.plan.specs.Rules.{counted};
@@ -73,6 +75,13 @@ fn grant_all(
     after
 }
 
+// A mark after a slot: it stays where it was set, and a speed below its rate sets it.
+fn mark_after(was: bool, v: u16, rate: Rate) -> bool
+    ensures { λ r. ⌜ r ≡ (was || ltb v (rate .0)) ⌝ }
+{
+    was | (v < rate.0)
+}
+
 // Serves a slot: stores the grants, and gives the run after it.
 pub(crate) fn serve(p: Plan, table: &[u32], run: Run, v: u16, grants: &mut [u32]) -> Run
     requires { ⌜ (slotSound p run ≡ true) × (counted p ≤ length (now grants)) ⌝ }
@@ -81,8 +90,8 @@ pub(crate) fn serve(p: Plan, table: &[u32], run: Run, v: u16, grants: &mut [u32]
     let n = p.n;
     let d = p.d;
     let clock = run.clock;
-    let slow = run.slow | (v < n.0);
-    let below = run.below | (v < d.0);
+    let slow = mark_after(run.slow, v, n);
+    let below = mark_after(run.below, v, d);
     let turns = turns_of(p);
     let claims = claims_of(p, table, run, slow, v);
     let was = run.carried;

@@ -5,19 +5,16 @@ use mathlib.Core.List.{List}
 use Prim.Native.Nat.{ℕ, suc, _+_, _*_, _-_, _≤_, min}
 use native.Mathlib.Omega.{arith}
 use native.Mathlib.Nat.{one-mul}
-use native.Mathlib.Numerals.{add-one}
 use borrow.Author.Needs.{needs}
 use lib.ListN.{length, getD, replicate}
 use Rattle.sums.specs.Sum.{sum, on, strided}
 use Rattle.sums.proofs.Laws.{sum-ext}
 use Rattle.plan.specs.Edition.{mostJobs, mostIntervals}
 use Rattle.plan.specs.Rules.{counted, size}
-use Rattle.plan.specs.Boundaries.{boundaries, present}
+use Rattle.plan.specs.Boundaries.{present}
 use Rattle.plan.specs.Table.{allotment}
 use Rattle.plan.specs.declared.kinds.Plan.{Plan}
 use Rattle.plan.specs.declared.kinds.Units.{Units}
-use Rattle.plan.proofs.Rising.{boundaries-few}
-use Rattle.plan.proofs.Come.{come-few}
 use Rattle.dispatch.specs.declared.Run.{Run}
 use Rattle.dispatch.specs.Dues.{carriedOf}
 use Rattle.dispatch.specs.Shares.{served, capped, filled}
@@ -25,13 +22,11 @@ use Rattle.dispatch.proofs.Fills.{filled-start, filled-next, filled-len
 use Rattle.dispatch.proofs.claims.claims_of.Statement.{statement}
 use Rattle.dispatch.proofs.claims.claims_of.Tie as tie
 
--- The sum of a row up to a present interval is what is allotted so far.
-allotted : (table : List ℕ) (i spans : ℕ)
-    → sum (strided table (mostIntervals * i) 1) (spans + 1) ≡ sum (allotment mostIntervals table i) (suc spans)
+-- The sum of the first numbers of a row is what is allotted in as many intervals.
+allotted : (table : List ℕ) (i spans : ℕ) → sum (strided table (mostIntervals * i) 1) spans ≡ sum (allotment mostIntervals table i) spans
 allotted table i spans =
-    rw (add-one spans)
-    (sum-ext (strided table (mostIntervals * i) 1) (allotment mostIntervals table i) (suc spans)
-    (λ k l. ap (λ x. getD table (mostIntervals * i + x) 0) (one-mul k)))
+    sum-ext (strided table (mostIntervals * i) 1) (allotment mostIntervals table i) spans
+    (λ k l. ap (λ x. getD table (mostIntervals * i + x) 0) (one-mul k))
 
 -- The claim that a turn of the loop finds, from what each call in it gives.
 one-claim : (p : Plan) (table : List ℕ) (run : Run) (slow : Bool) (v i : ℕ) {claim total spans : ℕ} {b : Bool} {goal carried : Units}
@@ -39,15 +34,11 @@ one-claim : (p : Plan) (table : List ℕ) (run : Run) (slow : Bool) (v i : ℕ) 
     → b ≡ served p (run .clock .0) slow i
     → goal ≡ record { 0 = cond slow (size p i) (min (size p i) total) }
     → carried ≡ record { 0 = carriedOf run i }
-    → total ≡ sum (strided table (mostIntervals * i) 1) (spans + 1)
-    → spans ≡ present p (run .clock .0)
+    → total ≡ sum (strided table (mostIntervals * i) 1) spans
+    → spans ≡ suc (present p (run .clock .0))
     → claim ≡ capped p table run slow v i
 one-claim p table run slow v i is by-test by-goal by-units by-sum by-present =
-    is ∙ rw (by-test, by-goal, by-units, by-sum, by-present, allotted table i (present p (run .clock .0))) refl
-
--- There are few intervals.
-few : (p : Plan) (t : ℕ) → present p t ≤ 2 * mostJobs
-few p t = omega (arith, come-few t (boundaries p), boundaries-few p (counted p))
+    is ∙ rw (by-test, by-goal, by-units, by-sum, by-present, allotted table i (suc (present p (run .clock .0)))) refl
 
 abbrev Inv-loop : tie.InvT-loop
 Inv-loop table slow v p run jobs clock spans claims₀ i₀ claims i = (i ≤ jobs) × (claims ≡ filled (capped p table run slow v) i (replicate mostJobs 0))
@@ -58,16 +49,8 @@ abbrev μ-loop : tie.MeasureT-loop
 counted-of-requires : tie.Need-counted-of-requires Inv-loop μ-loop
 counted-of-requires c κs = search needs
 
-present-of-requires : tie.Need-present-of-requires Inv-loop μ-loop
-present-of-requires c κs = search needs
-
-cast-spans : tie.Need-cast-spans Inv-loop μ-loop
-cast-spans c =
-    omega (arith, few (c .before .before .before .before .args .t1) (c .before .before .before .before .args .t3 .clock .0))
-
-add-spans : tie.Need-add-spans Inv-loop μ-loop
-add-spans c =
-    omega (arith, few (c .before .before .before .before .args .t1) (c .before .before .before .before .args .t3 .clock .0))
+spans-by-requires : tie.Need-spans-by-requires Inv-loop μ-loop
+spans-by-requires c κs = search needs
 
 loop-holds : tie.Need-loop-holds Inv-loop μ-loop
 loop-holds c = (omega arith, sym (filled-start _ _))
@@ -124,7 +107,7 @@ loop-again c =
       omega arith,
       filled-next (capped (a .t1) (a .table .now) (a .t3) (a .slow) (a .v)) i (replicate mostJobs 0) (c .before .before .before .before .before .before .before .before .loop .inv .1)
           (one-claim (a .t1) (a .table .now) (a .t3) (a .slow) (a .v) i
-          (c .claim-of .ensures) (c .before .is-served .ensures) (c .before .before .before .before .goal-of .ensures) (c .before .before .units .ensures) (c .before .before .before .before .before .sum-of .ensures) (c .before .before .before .before .before .before .before .before .before .present-of .ensures)),
+          (c .claim-of .ensures) (c .before .is-served .ensures) (c .before .before .before .before .goal-of .ensures) (c .before .before .units .ensures) (c .before .before .before .before .before .sum-of .ensures) (c .before .before .before .before .before .before .before .before .before .spans-by .ensures)),
     )
 
 returns : tie.Need-returns Inv-loop μ-loop
@@ -140,9 +123,7 @@ claims-of-spec =
     Inv-loop
     μ-loop
     counted-of-requires
-    present-of-requires
-    cast-spans
-    add-spans
+    spans-by-requires
     loop-holds
     mul-job
     element-copy-out-job
