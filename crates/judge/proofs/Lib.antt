@@ -5,12 +5,14 @@ pub mod Times
 pub mod Demand
 pub mod Hand
 pub mod Signed
-pub mod Fold
+pub mod Unless
 pub mod Enough
 pub mod Exact
 pub mod Places
 pub mod Separate
+pub mod Least
 pub mod Figures
 pub mod Apart
 pub mod Columns
 pub mod Passes
+pub mod Tightest

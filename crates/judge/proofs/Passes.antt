@@ -9,22 +9,24 @@ use native.Mathlib.Decide.{decLt}
 use native.Mathlib.Omega.{arith}
 use borrow.Author.Tests.{le-leb, lt-leb, eq-eqb, ne-eqb}
 use lib.Dec.{leb, ltb, eqb}
-use lib.ListN.{length, getD}
+use lib.ListN.{length, getD, take, replicate}
+use lib.Seq.{length-take-le, getD-take}
 use Rattle.sums.specs.Sum.{sum, on}
 use Rattle.sums.proofs.Laws.{sum-ext, sum-add, sum-swap, sum-none, sum-bound}
-use Rattle.plan.specs.Edition.{mostJobs, mostIntervals}
+use Rattle.plan.specs.Edition.{mostJobs, mostIntervals, places}
 use Rattle.plan.specs.Refusal.{belowFloorRule}
 use Rattle.plan.specs.Below.{every}
-use Rattle.plan.specs.Rules.{hi, counted, deadline, isHi}
+use Rattle.plan.specs.Rules.{hi, counted, jobOf, deadline, isHi}
 use Rattle.plan.specs.Boundaries.{boundaries, boundary, intervals}
 use Rattle.plan.specs.declared.kinds.Plan.{Plan}
-use Rattle.plan.proofs.Rising.{by-order}
+use Rattle.plan.proofs.Rising.{by-order, boundaries-few}
 use Rattle.plan.proofs.Below.{every-start, every-next, every-ext}
 use Rattle.plan.proofs.Timeline.{deadline-is-boundary}
 use Rattle.judge.specs.Constraints.{mostAtPlace, units, demand}
 use Rattle.judge.specs.Verdict.{Report, fault, isNone, first, isHiDeadline, isPair, fallsShort, floorFault}
-use Rattle.judge.specs.Columns.{asksMore, lowest, holdsAt, Lowest, ReadyFor}
+use Rattle.judge.specs.Columns.{asksMore, lowest, holdsAt, Lowest}
 use Rattle.judge.proofs.Tests.{every-all}
+use Rattle.judge.proofs.Hand.{zeros-at}
 use Rattle.judge.proofs.First.{none-empty, none-plain, none-first, first-found}
 use Rattle.judge.proofs.Running.{on-at-most}
 use Rattle.judge.proofs.Demand.{end-by-boundary, demand-is, early-pair, other-pair, true-pair}
@@ -99,7 +101,7 @@ on-sum true f n = refl
 on-sum false f n = sum-none _ n (λ k b. refl)
 
 -- The column sums from interval l to boundary m are the demand between them.
-demand-columns : (p : Plan) (table : List ℕ) (l m : ℕ) → m < length (boundaries p)
+pub demand-columns : (p : Plan) (table : List ℕ) (l m : ℕ) → m < length (boundaries p)
     → sum (λ k. columnSum p table (suc m) (l + k)) (m - l) ≡ demand p table l (boundary p m)
 unfolding dueBefore
 demand-columns p table l m h =
@@ -113,7 +115,7 @@ demand-columns p table l m h =
     place-of : (i k : ℕ) → mostIntervals * i + (l + k) ≡ mostIntervals * i + l + 1 * k
     place-of i k = omega arith
 
-pub asks-is : (p : Plan) (table sums times : List ℕ) (l m : ℕ) → times ≡ boundaries p → l < m → m ≤ intervals p
+asks-is : (p : Plan) (table sums times : List ℕ) (l m : ℕ) → times ≡ boundaries p → l < m → m ≤ intervals p
     → ((j : ℕ) → j < intervals p → getD sums j 0 ≡ columnSum p table (suc m) j)
     → asksMore (p .d .0) sums times m l ≡ fallsShort p table l m
 asks-is p table sums times l m e b h columns =
@@ -195,13 +197,66 @@ column-bound p table m j most =
       mul-le-mul-right {m = counted p} {n = mostJobs} mostAtPlace (omega arith),
     )
 
--- What adding the rows of a boundary leaves: whether it is a HI deadline, and the sums with its jobs.
-module _ (p : Plan) (table times deadlines grades : List ℕ) (spans : ℕ) (ready : ReadyFor p table times deadlines grades spans) (m : ℕ) (h : m ≤ intervals p) where
+-- What a pass reads: a plan's boundaries, its jobs' deadlines and grades, the number of its intervals, and a table with all its places.
+pub record ReadyFor (p : Plan) (table times deadlines grades : List ℕ) (spans : ℕ) : Type 0 where
+  pub are-boundaries : times ≡ boundaries p
+  pub some : spans < length times
+  pub are-intervals : spans ≡ intervals p
+  pub long : places ≤ length table
+  pub deadline-count : length deadlines ≡ counted p
+  pub grade-count : length grades ≡ counted p
+  pub are-deadlines : (i : ℕ) → i < counted p → getD deadlines i 0 ≡ deadline p i
+  pub are-grades : (i : ℕ) → i < counted p → getD grades i 0 ≡ jobOf p i .grade
+
+-- It is made from the rows of all records.
+pub ready-from : (p : Plan) (table times deadlines grades : List ℕ) (spans jobs : ℕ)
+    → (times ≡ boundaries p) × (spans ≡ intervals p) × (spans < length times) × (places ≤ length table) → jobs ≡ counted p
+    → (length deadlines ≡ mostJobs) × ((k : ℕ) → k < mostJobs → getD deadlines k 0 ≡ deadline p k)
+    → (length grades ≡ mostJobs) × ((k : ℕ) → k < mostJobs → getD grades k 0 ≡ jobOf p k .grade)
+    → ReadyFor p table times (take jobs deadlines) (take jobs grades) spans
+ready-from p table times deadlines grades spans jobs h e ds gs =
+    record {
+      are-boundaries = h .0;
+      some = h .2;
+      are-intervals = h .1;
+      long = h .3;
+      deadline-count = length-take-le jobs deadlines (omega (arith, ds .0)) ∙ e;
+      grade-count = length-take-le jobs grades (omega (arith, gs .0)) ∙ e;
+      are-deadlines = λ i b. getD-take jobs deadlines i 0 (omega arith) ∙ ds .1 i (omega arith);
+      are-grades = λ i b. getD-take jobs grades i 0 (omega arith) ∙ gs .1 i (omega arith);
+    }
+
+-- Column sums of the jobs due before boundary m.
+pub record Summed (p : Plan) (table : List ℕ) (m : ℕ) (sums : List ℕ) : Type 0 where
+  pub room : length sums ≡ mostIntervals
+  pub columns : (j : ℕ) → j < intervals p → getD sums j 0 ≡ columnSum p table m j
+
+pub summed-start : (p : Plan) (table : List ℕ) → Summed p table 0 (replicate mostIntervals 0)
+summed-start p table = record { room = refl; columns = λ j b. zeros-at mostIntervals j ∙ sym (column-none p table j) }
+
+pub few-intervals : (p : Plan) → intervals p ≤ mostIntervals
+few-intervals p = omega (arith, boundaries-few p (counted p))
+
+-- A turn of a pass: what the rows of a boundary are added to, whether it is a HI deadline, and the sums with its jobs.
+module _ (p : Plan) (table times deadlines grades : List ℕ) (spans : ℕ) (ready : ReadyFor p table times deadlines grades spans)
+    (most : (q : ℕ) → getD table q 0 ≤ mostAtPlace) (m : ℕ) (h : m ≤ spans) where
   at-deadline : (i : ℕ) → i < counted p
       → (eqb (getD grades i 0) hi && eqb (getD deadlines i 0) (getD times m 0)) ≡ (isHi p i && eqb (deadline p i) (boundary p m))
   at-deadline i b =
       ap₂ (λ g d. eqb g hi && eqb d (getD times m 0)) (ready .are-grades i b) (ready .are-deadlines i b)
       ∙ ap (λ t. isHi p i && eqb (deadline p i) (getD t m 0)) (ready .are-boundaries)
+
+  pub rows-fit : (sums : List ℕ) → Summed p table m sums
+      → (spans ≤ length sums) × (length deadlines ≡ length grades) × (length grades ≤ mostJobs) × (spans ≤ mostIntervals) × (places ≤ length table)
+      × ((j : ℕ) → j < spans → getD sums j 0 ≤ mostJobs * mostAtPlace)
+  rows-fit sums so = (
+    omega (arith, so .room, ready .are-intervals, few-intervals p),
+    ready .deadline-count ∙ sym (ready .grade-count),
+    omega (arith, ready .grade-count),
+    omega (arith, ready .are-intervals, few-intervals p),
+    ready .long,
+    λ j b. omega (arith, so .columns j (omega (arith, ready .are-intervals)), column-bound p table m j most),
+  )
 
   pub due-is : {due : Bool}
       → due ≡ not (every (λ i. not (eqb (getD grades i 0) hi && eqb (getD deadlines i 0) (getD times m 0))) (length grades))
@@ -210,16 +265,28 @@ module _ (p : Plan) (table times deadlines grades : List ℕ) (spans : ℕ) (rea
   due-is e =
       e ∙ ap not (ap (every _) (ready .grade-count) ∙ every-ext _ _ (counted p) (λ i b. ap not (at-deadline i b)))
 
-  pub columns-are : (old new : List ℕ)
+  pub summed-next : (old new : List ℕ) → Summed p table m old → length new ≡ length old
       → ((j : ℕ) → j < spans → getD new j 0
       ≡ getD old j 0 + sum (λ i. on (eqb (getD grades i 0) hi && eqb (getD deadlines i 0) (getD times m 0)) (units table i j)) (length grades))
-      → ((j : ℕ) → j < spans → getD old j 0 ≡ columnSum p table m j)
-      → (j : ℕ) → j < intervals p → getD new j 0 ≡ columnSum p table (suc m) j
-  columns-are old new more so j b =
-      let c : j < spans = omega (arith, ready .are-intervals) in
-      more j c
-      ∙ ap₂ _+_ (so j c) (ap (sum _) (ready .grade-count) ∙ sum-ext _ _ (counted p) (λ i a. ap (λ t. on t (units table i j)) (at-deadline i a)))
-      ∙ sym (column-more p table m j h)
+      → Summed p table (suc m) new
+  summed-next old new so same more =
+      record {
+        room = same ∙ so .room;
+        columns = λ j b.
+            more j (omega (arith, ready .are-intervals))
+            ∙ ap₂ _+_ (so .columns j b)
+            (ap (sum _) (ready .grade-count) ∙ sum-ext _ _ (counted p) (λ i a. ap (λ t. on t (units table i j)) (at-deadline i a)))
+            ∙ sym (column-more p table m j (omega (arith, ready .are-intervals)));
+      }
+
+  pub column-fits : (sums : List ℕ) → Summed p table (suc m) sums
+      → (m < length times) × (m ≤ length sums) × (m ≤ mostIntervals) × ((j : ℕ) → j < m → getD sums j 0 ≤ mostJobs * mostAtPlace)
+  column-fits sums so = (
+    omega (arith, ready .some),
+    omega (arith, so .room, ready .are-intervals, few-intervals p),
+    omega (arith, ready .are-intervals, few-intervals p),
+    λ j b. omega (arith, so .columns j (omega (arith, ready .are-intervals)), column-bound p table (suc m) j most),
+  )
 
 -- What the whole pass tells of rule 18: nothing, or at which interval its first place is.
 module _ (p : Plan) (table : List ℕ) (low : ℕ) (found : Lowest p table (suc (intervals p)) low) where

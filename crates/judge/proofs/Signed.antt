@@ -1,12 +1,13 @@
--- The laws of signed numbers: a difference of two small numbers fits 64 bits, and which of two differences is below.
+-- The laws of signed numbers: their order, and a difference of two small numbers fits 64 bits.
 use mathlib.Core.Path.{_≡_, refl, sym, _∙_, ap, ap₂}
-use mathlib.Core.Bool.{Bool, true, false, cond}
+use mathlib.Core.Bool.{Bool, true, false, cond, true≢false, false≢true}
 use Prim.Native.Nat.{ℕ, zero, suc, _-_, _^_, _<_}
 use native.Mathlib.Nat.{add-zero, sub-zero}
 use native.Mathlib.Omega.{arith}
-use borrow.Author.Tests.{lt-ltb, le-ltb}
+use borrow.Author.Tests.{ltb-true, ltb-false, lt-ltb, le-ltb, leb-true, le-leb}
 use lib.Dec.{ltb}
 use lib.IntN.{ℤ, pos, negsuc, subℕ, _-ℤ_}
+use lib.Signed.{ltZ, leZ}
 use mir.Syntax.{w64}
 use mir.Val.{SFits, toZ, ofZ, sel}
 use mir.Facts.{toZ-ofZ}
@@ -34,3 +35,41 @@ difference-fits a b h k = go (ltb a b) refl
 -- A difference that was kept in its 64 bits is read back as itself.
 pub kept-difference : (a b : ℕ) (s : ℤ) → a < mostSide → b < mostSide → s ≡ subℕ a b → toZ w64 (ofZ w64 s) ≡ subℕ a b
 kept-difference a b s h k e = ap (λ z. toZ w64 (ofZ w64 z)) e ∙ toZ-ofZ (difference-fits a b h k)
+
+-- No number is below itself, and each is at most itself.
+pub not-below-self : (s : ℤ) → ltZ s s ≡ false
+not-below-self (pos a) = le-ltb a a (omega arith)
+not-below-self (negsuc a) = le-ltb a a (omega arith)
+
+pub at-most-self : (s : ℤ) → leZ s s ≡ true
+at-most-self (pos a) = le-leb a a (omega arith)
+at-most-self (negsuc a) = le-leb a a (omega arith)
+
+-- What is below or at most a number, that number is not below.
+pub below-not : (s t : ℤ) → ltZ s t ≡ true → ltZ t s ≡ false
+below-not (pos a) (pos b) h = le-ltb b a (omega (arith, ltb-true a b h))
+below-not (pos a) (negsuc b) h = absurd (false≢true h)
+below-not (negsuc a) (pos b) h = refl
+below-not (negsuc a) (negsuc b) h = le-ltb a b (omega (arith, ltb-true b a h))
+
+pub at-most-not : (s t : ℤ) → leZ s t ≡ true → ltZ t s ≡ false
+at-most-not (pos a) (pos b) h = le-ltb b a (leb-true a b h)
+at-most-not (pos a) (negsuc b) h = absurd (false≢true h)
+at-most-not (negsuc a) (pos b) h = refl
+at-most-not (negsuc a) (negsuc b) h = le-ltb a b (leb-true b a h)
+
+-- Three numbers none of which is below the one before.
+pub not-below-two : (a b c : ℤ) → ltZ b a ≡ false → ltZ c b ≡ false → ltZ c a ≡ false
+not-below-two (pos a) (pos b) (pos c) h k = le-ltb c a (omega (arith, ltb-false b a h, ltb-false c b k))
+not-below-two (pos a) (pos b) (negsuc c) h k = absurd (true≢false k)
+not-below-two (pos a) (negsuc b) c h k = absurd (true≢false h)
+not-below-two (negsuc a) b (pos c) h k = refl
+not-below-two (negsuc a) (pos b) (negsuc c) h k = absurd (true≢false k)
+not-below-two (negsuc a) (negsuc b) (negsuc c) h k = le-ltb a c (omega (arith, ltb-false a b h, ltb-false b c k))
+
+-- Neither of two numbers is below the other only where they are the same.
+pub same-both : (s t : ℤ) → ltZ s t ≡ false → ltZ t s ≡ false → s ≡ t
+same-both (pos a) (pos b) h k = ap pos (omega (arith, ltb-false a b h, ltb-false b a k))
+same-both (pos a) (negsuc b) h k = absurd (true≢false k)
+same-both (negsuc a) (pos b) h k = absurd (true≢false h)
+same-both (negsuc a) (negsuc b) h k = ap negsuc (omega (arith, ltb-false b a h, ltb-false a b k))

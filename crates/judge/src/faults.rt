@@ -17,7 +17,7 @@ ghost use Rattle.judge.specs.Verdict.{handFault, constraintFault};
 ghost use Rattle.judge.specs.Answers.{report};
 
 // What is refused before the constraints are looked at: 22, then 21.
-pub fn in_hand(p: Plan, table: &[u32]) -> Verdict
+pub(crate) fn in_hand(p: Plan, table: &[u32]) -> Verdict
     ensures { λ r. ⌜ report r ≡ handFault p (now (table .entry)) ⌝ }
 {
     if table.len() < Edition::PLACES {
@@ -30,7 +30,7 @@ pub fn in_hand(p: Plan, table: &[u32]) -> Verdict
 }
 
 // Rules 15 to 17, which judge and slack share.
-pub fn constraints(p: Plan, table: &[u32], times: &[u32], spans: usize) -> Verdict
+pub(crate) fn constraints(p: Plan, table: &[u32], times: &[u32], spans: usize) -> Verdict
     requires { ⌜ (now times ≡ boundaries p) × (spans ≡ intervals p) × (spans < length (now times)) × (places ≤ length (now table)) ⌝ }
     ensures { λ r. ⌜ report r ≡ constraintFault p (now (table .entry)) ⌝ }
 {

@@ -4,22 +4,29 @@ use crate::answers::is_accepted;
 use crate::faults::constraints;
 use crate::faults::in_hand;
 use crate::floor::demand_of;
-use crate::floor::is_hi_deadline;
+use crate::rows::add_rows;
+use crate::rows::deadlines_of;
+use crate::rows::grades_of;
 use crate::totals::carried;
 use plan::boundaries::boundaries_of;
 use plan::boundaries::present_of;
+use plan::edition::Edition;
 use plan::kinds::Plan;
+use plan::kinds::Rate;
 use plan::kinds::Slots;
 use plan::kinds::Units;
+use plan::rules::counted_of;
 ghost use mathlib.Core.Path.{_≡_};
-ghost use Prim.Native.Nat.{suc, _≤_, _<_};
+ghost use mathlib.Core.Bool.{cond};
+ghost use Prim.Native.Nat.{ℕ, _*_, _≤_, _<_};
 ghost use lib.IntN.{subℕ};
 ghost use lib.ListN.{length, getD};
-ghost use Rattle.plan.specs.Edition.{places};
+ghost use Rattle.plan.specs.Edition.{mostJobs, mostIntervals, places};
 ghost use Rattle.plan.specs.Boundaries.{boundaries, intervals};
-ghost use Rattle.judge.specs.Constraints.{mostSide};
+ghost use Rattle.judge.specs.Constraints.{mostAtPlace, mostSide};
 ghost use Rattle.judge.specs.Verdict.{constraintFault};
-ghost use Rattle.judge.specs.Slack.{slackOf, lesser, taken, through, leastSlack, unless, slackFigure};
+ghost use Rattle.judge.specs.Slack.{slackOf, leastSlack, unless, slackFigure};
+ghost use Rattle.judge.specs.Columns.{sooner, columnTaken};
 ghost use Rattle.judge.specs.Answers.{figure};
 
 // What the floor carries less what is asked of it.
@@ -28,23 +35,6 @@ fn slack_from(carries: Units, asked: Units) -> i64
     ensures { λ r. ⌜ r ≡ subℕ (carries .0) (asked .0) ⌝ }
 {
     carries.0 as i64 - asked.0 as i64
-}
-
-// Of the figure so far and one more pair, the lesser.
-fn lesser_of(known: Slack, slack: i64, l: usize, time: Slots) -> Slack
-    ensures { λ r. ⌜ figure r ≡ lesser (figure known) slack l (time .0) ⌝ }
-{
-    match known {
-        Slack::NoneEssential => Slack::Least(slack, l, time),
-        Slack::Least(best, _, _) => {
-            if slack < best {
-                Slack::Least(slack, l, time)
-            } else {
-                known
-            }
-        }
-        Slack::Refused(_) => known,
-    }
 }
 
 // The time at a place of some times, none past their end.
@@ -75,50 +65,70 @@ pub fn slack_of(p: Plan, table: &[u32], interval: usize, deadline: Slots) -> i64
     slack_from(carries, Units(asked))
 }
 
-// The figure with interval l and boundary m taken in, where they are a pair.
-fn taken_in(p: Plan, table: &[u32], times: &[u32], l: usize, m: usize, known: Slack) -> Slack
-    requires { ⌜ (now times ≡ boundaries p) × (l < length (now times)) × (m < length (now times)) ⌝ }
-    ensures { λ r. ⌜ figure r ≡ taken p (now (table .entry)) l m (figure known) ⌝ }
+// Of the figure so far and a pair at a deadline no earlier, the lesser; where they are equal, the one of the lower interval.
+fn sooner_of(known: Slack, slack: i64, l: usize, time: Slots) -> Slack
+    ensures { λ r. ⌜ figure r ≡ sooner (figure known) slack l (time .0) ⌝ }
 {
-    if m <= l {
+    match known {
+        Slack::NoneEssential => Slack::Least(slack, l, time),
+        Slack::Least(best, at, _) => {
+            if (slack < best) | (slack <= best) & (l < at) {
+                Slack::Least(slack, l, time)
+            } else {
+                known
+            }
+        }
+        Slack::Refused(_) => known,
+    }
+}
+
+// The figure with every interval before boundary m taken in, from the last back, where the boundary is a HI deadline.
+fn column_taken_in(due: bool, d: Rate, sums: &[u64], times: &[u32], m: usize, known: Slack) -> Slack
+    requires { ⌜ (m < length (now times)) × (m ≤ length (now sums)) × (m ≤ mostIntervals) × ((j : ℕ) → j < m → getD (now sums) j 0 ≤ mostJobs * mostAtPlace) ⌝ }
+    ensures { λ r. ⌜ figure r ≡ cond due (columnTaken (d .0) (now (sums .entry)) (now (times .entry)) m m (figure known)) (figure known) ⌝ }
+{
+    if !due {
         return known;
     }
     let time = times[m];
-    if !is_hi_deadline(p, time) {
-        return known;
-    }
-    let d = p.d;
-    let carries = carried(d, times[l], time);
-    let asked = demand_of(p, table, l, (m - l) as u32, time);
-    let slack = slack_from(carries, Units(asked));
-    lesser_of(known, slack, l, Slots(time))
-}
-
-// The figure with every pair of interval l taken in.
-fn row_taken_in(p: Plan, table: &[u32], times: &[u32], l: usize, known: Slack) -> Slack
-    requires { ⌜ (now times ≡ boundaries p) × (l < intervals p) ⌝ }
-    ensures { λ r. ⌜ figure r ≡ through (taken p (now (table .entry)) l) (suc (intervals p)) (figure known) ⌝ }
-{
     let mut best = known;
-    let mut m = 0;
-    while m < times.len() {
-        best = taken_in(p, table, times, l, m, best);
-        m += 1;
+    let mut asked: u64 = 0;
+    let mut l = m;
+    while l > 0 {
+        l -= 1;
+        asked += sums[l];
+        let carries = carried(d, times[l], time);
+        let slack = slack_from(carries, Units(asked));
+        best = sooner_of(best, slack, l, Slots(time));
     }
     best
 }
 
-// The least slack over all pairs.
-fn least_slack(p: Plan, table: &[u32], times: &[u32]) -> Slack
-    requires { ⌜ (now times ≡ boundaries p) × (0 < length (now times)) ⌝ }
+// The least slack over all pairs. One pass over the boundaries: the column sums take in the rows of the HI jobs due at each, and each
+// HI deadline is looked at from its last interval back.
+fn least_slack(p: Plan, table: &[u32], times: &[u32], spans: usize) -> Slack
+    requires { ⌜ (now times ≡ boundaries p) × (spans ≡ intervals p) × (spans < length (now times)) × (places ≤ length (now table)) ⌝ }
     ensures { λ r. ⌜ figure r ≡ leastSlack p (now (table .entry)) ⌝ }
 {
-    let spans = times.len() - 1;
+    let jobs = counted_of(p);
+    let deadlines = deadlines_of(p);
+    let grades = grades_of(p);
+    let mut sums = [0u64; Edition::MOST_INTERVALS];
     let mut best = Slack::NoneEssential;
-    let mut l = 0;
-    while l < spans {
-        best = row_taken_in(p, table, times, l, best);
-        l += 1;
+    let mut m = 0;
+    while m <= spans {
+        let time = times[m];
+        let due = add_rows(
+            &mut sums,
+            table,
+            &deadlines[..jobs],
+            &grades[..jobs],
+            spans,
+            time,
+        );
+        let d = p.d;
+        best = column_taken_in(due, d, &sums, times, m, best);
+        m += 1;
     }
     best
 }
@@ -133,7 +143,7 @@ fn slack_at(p: Plan, table: &[u32], times: &[u32]) -> Slack
     if !is_accepted(fault) {
         return Slack::Refused(fault);
     }
-    least_slack(p, table, times)
+    least_slack(p, table, times, spans)
 }
 
 // The slack figure of a plan and its table.

@@ -1,5 +1,8 @@
 // Rule 18, the floor rule: between an interval's start and a later HI deadline, no more is asked than the floor carries.
 use crate::answers::Verdict;
+use crate::rows::add_rows;
+use crate::rows::deadlines_of;
+use crate::rows::grades_of;
 use crate::totals::carried;
 use plan::edition::Edition;
 use plan::kinds::HI;
@@ -9,24 +12,23 @@ use plan::kinds::Slots;
 use plan::rules::counted_of;
 use sums::sum_of;
 ghost use mathlib.Core.Path.{_≡_};
-ghost use mathlib.Core.Bool.{not, cond, _&&_};
+ghost use mathlib.Core.Bool.{cond, _&&_};
 ghost use mathlib.Core.List.{[], _∷_};
 ghost use Prim.Native.Nat.{ℕ, suc, _+_, _*_, _≤_, _<_, min};
-ghost use lib.Dec.{leb, eqb};
+ghost use lib.Dec.{leb};
 ghost use lib.ListN.{length, getD};
 ghost use Rattle.sums.specs.Sum.{sum, on, strided};
 ghost use Rattle.plan.specs.Edition.{mostJobs, mostIntervals, places};
 ghost use Rattle.plan.specs.Refusal.{belowFloorRule};
-ghost use Rattle.plan.specs.Below.{every};
-ghost use Rattle.plan.specs.Rules.{hi, counted, jobOf, deadline, isHi};
+ghost use Rattle.plan.specs.Rules.{counted, deadline, isHi};
 ghost use Rattle.plan.specs.Boundaries.{boundaries, boundary, intervals};
-ghost use Rattle.judge.specs.Constraints.{mostAtPlace, mostSide, units};
+ghost use Rattle.judge.specs.Constraints.{mostAtPlace};
 ghost use Rattle.judge.specs.Verdict.{first, fault, isHiDeadline, isPair, fallsShort, floorFault};
-ghost use Rattle.judge.specs.Columns.{asksMore, lowest, Lowest, ReadyFor};
+ghost use Rattle.judge.specs.Columns.{asksMore, lowest, Lowest};
 ghost use Rattle.judge.specs.Answers.{report};
 
 // Whether a time is the deadline of a HI job. It looks at all jobs, which is faster than to stop early.
-pub fn is_hi_deadline(p: Plan, time: u32) -> bool
+fn is_hi_deadline(p: Plan, time: u32) -> bool
     ensures { λ r. ⌜ r ≡ isHiDeadline p time ⌝ }
 {
     let jobs = counted_of(p);
@@ -54,7 +56,7 @@ fn wanted_sum(wanted: bool, table: &[u32], start: usize, count: u32) -> u64
 }
 
 // The HI units of jobs with deadline at most a time, in some intervals from interval l on.
-pub fn demand_of(p: Plan, table: &[u32], l: usize, count: u32, time: u32) -> u64
+pub(crate) fn demand_of(p: Plan, table: &[u32], l: usize, count: u32, time: u32) -> u64
     requires { ⌜ (l ≤ mostIntervals) × (count ≤ mostIntervals) ⌝ }
     ensures { λ r. ⌜ (r ≡ sum (λ i. on (isHi p i && leb (deadline p i) time) (sum (strided (now (table .entry)) (mostIntervals * i + l) 1) count)) (counted p)) × (r ≤ counted p * (mostIntervals * mostAtPlace)) ⌝ }
 {
@@ -105,45 +107,6 @@ fn short_from(p: Plan, table: &[u32], times: &[u32], spans: usize, l: usize) -> 
     Verdict::Accepted
 }
 
-// Adds a row's numbers to column sums, where they are wanted.
-fn add_row(sums: &mut [u64], wanted: bool, table: &[u32], start: usize, spans: usize)
-    requires { ⌜ (spans ≤ length (now sums)) × (start + spans ≤ length (now table)) × ((j : ℕ) → j < spans → getD (now sums) j 0 ≤ mostSide) ⌝ }
-    ensures { λ r. ⌜ (length (now (sums .exit)) ≡ length (now (sums .entry))) × ((j : ℕ) → j < spans → getD (now (sums .exit)) j 0 ≡ getD (now (sums .entry)) j 0 + on wanted (getD (now (table .entry)) (start + j) 0)) ⌝ }
-{
-    if !wanted {
-        return;
-    }
-    let mut j = 0;
-    while j < spans {
-        let so_far = sums[j];
-        sums[j] = so_far + table[start + j] as u64;
-        j += 1;
-    }
-}
-
-// Adds the rows of all HI jobs with a deadline to column sums; whether there are any.
-fn add_rows(
-    sums: &mut [u64],
-    table: &[u32],
-    deadlines: &[u32],
-    grades: &[u8],
-    spans: usize,
-    time: u32,
-) -> bool
-    requires { ⌜ (spans ≤ length (now sums)) × (length (now deadlines) ≡ length (now grades)) × (length (now grades) ≤ mostJobs) × (spans ≤ mostIntervals) × (places ≤ length (now table)) × ((j : ℕ) → j < spans → getD (now sums) j 0 ≤ mostJobs * mostAtPlace) ⌝ }
-    ensures { λ r. ⌜ (r ≡ not (every (λ i. not (eqb (getD (now (grades .entry)) i 0) hi && eqb (getD (now (deadlines .entry)) i 0) time)) (length (now (grades .entry))))) × (length (now (sums .exit)) ≡ length (now (sums .entry))) × ((j : ℕ) → j < spans → getD (now (sums .exit)) j 0 ≡ getD (now (sums .entry)) j 0 + sum (λ i. on (eqb (getD (now (grades .entry)) i 0) hi && eqb (getD (now (deadlines .entry)) i 0) time) (units (now (table .entry)) i j)) (length (now (grades .entry)))) ⌝ }
-{
-    let mut absent = true;
-    let mut i = 0;
-    while i < grades.len() {
-        let wanted = (grades[i] == HI) & (deadlines[i] == time);
-        absent = absent & !wanted;
-        add_row(sums, wanted, table, Edition::MOST_INTERVALS * i, spans);
-        i += 1;
-    }
-    !absent
-}
-
 // One of two numbers, by a test.
 fn pick(test: bool, a: usize, b: usize) -> usize
     ensures { λ r. ⌜ r ≡ cond test a b ⌝ }
@@ -181,54 +144,28 @@ fn lowered(due: bool, d: Rate, sums: &[u64], times: &[u32], m: usize, low: usize
     if here < low { here } else { low }
 }
 
-// The deadlines of all records, in a row.
-fn deadlines_of(p: Plan) -> [u32; Edition::MOST_JOBS]
-    ensures { λ r. ⌜ (length r ≡ mostJobs) × ((k : ℕ) → k < mostJobs → getD r k 0 ≡ deadline p k) ⌝ }
-{
-    let mut row = [0u32; Edition::MOST_JOBS];
-    let mut i = 0;
-    while i < Edition::MOST_JOBS {
-        let job = p.jobs[i];
-        let deadline = job.deadline;
-        row[i] = deadline.0;
-        i += 1;
-    }
-    row
-}
-
-// The grades of all records, in a row.
-fn grades_of(p: Plan) -> [u8; Edition::MOST_JOBS]
-    ensures { λ r. ⌜ (length r ≡ mostJobs) × ((k : ℕ) → k < mostJobs → getD r k 0 ≡ jobOf p k .grade) ⌝ }
-{
-    let mut row = [0u8; Edition::MOST_JOBS];
-    let mut i = 0;
-    while i < Edition::MOST_JOBS {
-        let job = p.jobs[i];
-        row[i] = job.grade;
-        i += 1;
-    }
-    row
-}
-
 // The lowest interval that falls short of a later HI deadline, or the number of intervals where none does. One pass over the boundaries:
 // the column sums take in the rows of the HI jobs due at each, and each HI deadline is looked at from its last interval back.
-fn lowest_short(
-    p: Plan,
-    table: &[u32],
-    times: &[u32],
-    deadlines: &[u32],
-    grades: &[u8],
-    spans: usize,
-) -> usize
-    requires { ⌜ ReadyFor p (now table) (now times) (now deadlines) (now grades) spans ⌝ }
+fn lowest_short(p: Plan, table: &[u32], times: &[u32], spans: usize) -> usize
+    requires { ⌜ (now times ≡ boundaries p) × (spans ≡ intervals p) × (spans < length (now times)) × (places ≤ length (now table)) ⌝ }
     ensures { λ r. ⌜ Lowest p (now (table .entry)) (suc (intervals p)) r ⌝ }
 {
+    let jobs = counted_of(p);
+    let deadlines = deadlines_of(p);
+    let grades = grades_of(p);
     let mut sums = [0u64; Edition::MOST_INTERVALS];
     let mut low = spans;
     let mut m = 0;
     while m <= spans {
         let time = times[m];
-        let due = add_rows(&mut sums, table, deadlines, grades, spans, time);
+        let due = add_rows(
+            &mut sums,
+            table,
+            &deadlines[..jobs],
+            &grades[..jobs],
+            spans,
+            time,
+        );
         let d = p.d;
         low = lowered(due, d, &sums, times, m, low);
         m += 1;
@@ -237,14 +174,11 @@ fn lowest_short(
 }
 
 // Rule 18 over all intervals: only where some interval falls short is its deadline looked for.
-pub fn below_floor(p: Plan, table: &[u32], times: &[u32], spans: usize) -> Verdict
+pub(crate) fn below_floor(p: Plan, table: &[u32], times: &[u32], spans: usize) -> Verdict
     requires { ⌜ (now times ≡ boundaries p) × (spans ≡ intervals p) × (spans < length (now times)) × (places ≤ length (now table)) ⌝ }
     ensures { λ r. ⌜ report r ≡ floorFault p (now (table .entry)) ⌝ }
 {
-    let jobs = counted_of(p);
-    let deadlines = deadlines_of(p);
-    let grades = grades_of(p);
-    let low = lowest_short(p, table, times, &deadlines[..jobs], &grades[..jobs], spans);
+    let low = lowest_short(p, table, times, spans);
     if spans <= low {
         return Verdict::Accepted;
     }

@@ -3,6 +3,7 @@ pub mod answers;
 mod faults;
 pub mod figure;
 mod floor;
+mod rows;
 mod totals;
 mod windows;
 

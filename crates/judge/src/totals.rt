@@ -32,14 +32,14 @@ fn elapsed(from: u32, to: u32) -> Slots
 }
 
 // The units that a rate carries from one time to another.
-pub fn carried(rate: Rate, from: u32, to: u32) -> Units
+pub(crate) fn carried(rate: Rate, from: u32, to: u32) -> Units
     ensures { λ r. ⌜ (r .0 ≡ rate .0 * (to - from)) × (r .0 < mostSide) ⌝ }
 {
     rate.over(elapsed(from, to))
 }
 
 // Rule 16 over all jobs.
-pub fn wrong_total(p: Plan, table: &[u32], spans: usize) -> Verdict
+pub(crate) fn wrong_total(p: Plan, table: &[u32], spans: usize) -> Verdict
     requires { ⌜ spans ≡ intervals p ⌝ }
     ensures { λ r. ⌜ report r ≡ totalFault p (now (table .entry)) ⌝ }
 {
@@ -68,7 +68,13 @@ fn is_over(n: Rate, jobs: usize, table: &[u32], from: u32, to: u32, j: usize) ->
 }
 
 // Rule 17 over all intervals.
-pub fn over_capacity(n: Rate, jobs: usize, table: &[u32], times: &[u32], spans: usize) -> Verdict
+pub(crate) fn over_capacity(
+    n: Rate,
+    jobs: usize,
+    table: &[u32],
+    times: &[u32],
+    spans: usize,
+) -> Verdict
     requires { ⌜ (jobs ≤ mostJobs) × (spans < length (now times)) ⌝ }
     ensures { λ r. ⌜ report r ≡ first (λ j. fault (ltb (n .0 * (getD (now (times .entry)) (suc j) 0 - getD (now (times .entry)) j 0)) (sum (λ i. units (now (table .entry)) i j) jobs)) (overCapacity ∷ j ∷ [])) spans ⌝ }
 {

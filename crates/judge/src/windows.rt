@@ -70,7 +70,7 @@ fn outside_in_row(
 }
 
 // Rule 15 over all jobs: a row is searched for its place only where the whole row says that it has one.
-pub fn outside_window(p: Plan, table: &[u32], times: &[u32], spans: usize) -> Verdict
+pub(crate) fn outside_window(p: Plan, table: &[u32], times: &[u32], spans: usize) -> Verdict
     requires { ⌜ (now times ≡ boundaries p) × (spans ≡ intervals p) × (spans < length (now times)) × (places ≤ length (now table)) ⌝ }
     ensures { λ r. ⌜ report r ≡ outsideFault p (now (table .entry)) ⌝ }
 {

@@ -1,50 +1,119 @@
--- `judge::figure::least_slack` meets its contract: the first l intervals are taken in.
-use mathlib.Core.Path.{sym, ap, _≡_}
-use Prim.Native.Nat.{suc, _-_, _≤_}
+-- `judge::figure::least_slack` meets its contract: after m boundaries, the column sums of the jobs due by then, and the least slack of the pairs with one of them.
+use mathlib.Core.Path.{sym, _≡_}
+use Prim.Native.Nat.{ℕ, suc, _-_, _≤_}
+use native.Mathlib.Numerals.{add-one}
 use native.Mathlib.Omega.{arith}
 use borrow.Author.Needs.{needs}
-use lib.ListN.{length}
-use Rattle.plan.specs.Boundaries.{boundaries, intervals}
-use Rattle.judge.specs.Slack.{noneEssential, through, taken, leastSlack}
+use lib.ListN.{getD, take}
+use lib.Seq.{length-take-le}
+use Rattle.plan.specs.Boundaries.{boundary, intervals}
+use Rattle.judge.specs.Constraints.{mostAtPlace}
+use Rattle.judge.specs.Verdict.{isHiDeadline}
 use Rattle.judge.specs.Answers.{figure}
-use Rattle.judge.proofs.Fold.{through-start, through-next}
+use Rattle.judge.proofs.Passes.{ReadyFor, Summed, ready-from, summed-start, few-intervals, rows-fit, due-is, summed-next, column-fits}
+use Rattle.judge.proofs.Least.{LeastAmong}
+use Rattle.judge.proofs.Tightest.{Before, tightest-start, tightest-next, tightest-end}
 use Rattle.judge.proofs.figure.least_slack.Statement.{statement}
 use Rattle.judge.proofs.figure.least_slack.Tie as tie
 
 abbrev Inv-loop : tie.InvT-loop
-Inv-loop p table times spans best₀ l₀ best l =
-    (l ≤ spans) × (figure best ≡ through (λ k. through (taken p table k) (suc (intervals p))) l noneEssential)
+Inv-loop p table times spans jobs deadlines grades sums₀ best₀ m₀ sums best m =
+    (m ≤ suc spans) × Summed p table m sums × LeastAmong p table (Before p m) (figure best)
 
 abbrev μ-loop : tie.MeasureT-loop
-μ-loop p table times spans best₀ l₀ best l = spans - l
+μ-loop p table times spans jobs deadlines grades sums₀ best₀ m₀ sums best m = suc spans - m
 
-sub-spans : tie.Need-sub-spans Inv-loop μ-loop
-sub-spans c = search needs
+counted-of-requires : tie.Need-counted-of-requires Inv-loop μ-loop
+counted-of-requires c κs = search needs
+
+deadlines-of-requires : tie.Need-deadlines-of-requires Inv-loop μ-loop
+deadlines-of-requires c κs = search needs
+
+grades-of-requires : tie.Need-grades-of-requires Inv-loop μ-loop
+grades-of-requires c κs = search needs
 
 loop-holds : tie.Need-loop-holds Inv-loop μ-loop
-loop-holds c = (omega arith, sym (through-start _ _))
+loop-holds c =
+    let a = c .before .before .before .before .before .args in
+    (omega arith, summed-start (a .p) (a .table .now), tightest-start (a .p) (a .table .now))
 
-row-taken-in-requires : tie.Need-row-taken-in-requires Inv-loop μ-loop
-row-taken-in-requires c κs =
-    let same : length (c .before .before .before .before .args .times .now) ≡ length (boundaries (c .before .before .before .before .args .p)) = ap length (c .before .before .before .before .pre .0) in
-    (c .before .before .before .before .pre .0, omega arith)
+mul-time : tie.Need-mul-time Inv-loop μ-loop
+mul-time c = omega (arith, c .before .before .before .before .before .before .before .pre .2)
 
-add-l : tie.Need-add-l Inv-loop μ-loop
-add-l c = search needs
+shared-slice-read-time : tie.Need-shared-slice-read-time Inv-loop μ-loop
+shared-slice-read-time c = omega (arith, c .before .before .before .before .before .before .before .before .pre .2)
+
+slice-aggregate-add-rows : tie.Need-slice-aggregate-add-rows Inv-loop μ-loop
+slice-aggregate-add-rows c = sym (c .before .before .before .loop .inv .1 .room)
+
+array-share-prefix-deadlines : tie.Need-array-share-prefix-deadlines Inv-loop μ-loop
+array-share-prefix-deadlines c = omega (arith, c .before .before .before .before .before .deadlines-of .ensures .0, c .before .before .before .before .before .before .counted-of .ensures)
+
+slice-aggregate-add-rows-2 : tie.Need-slice-aggregate-add-rows-2 Inv-loop μ-loop
+slice-aggregate-add-rows-2 c =
+    sym (length-take-le (c .before .before .before .before .before .before .before .counted-of .result) (c .before .before .before .before .before .before .deadlines-of .result) (omega (arith, c .before .before .before .before .before .before .deadlines-of .ensures .0, c .before .before .before .before .before .before .before .counted-of .ensures)))
+
+array-share-prefix-grades : tie.Need-array-share-prefix-grades Inv-loop μ-loop
+array-share-prefix-grades c = omega (arith, c .before .before .before .before .before .grades-of .ensures .0, c .before .before .before .before .before .before .before .counted-of .ensures)
+
+slice-aggregate-add-rows-3 : tie.Need-slice-aggregate-add-rows-3 Inv-loop μ-loop
+slice-aggregate-add-rows-3 c =
+    sym (length-take-le (c .before .before .before .before .before .before .before .before .counted-of .result) (c .before .before .before .before .before .before .grades-of .result) (omega (arith, c .before .before .before .before .before .before .grades-of .ensures .0, c .before .before .before .before .before .before .before .before .counted-of .ensures)))
+
+-- What the pass reads, and what a place of the table can hold.
+ready : (c : tie.After-grades-of Inv-loop μ-loop)
+    → ReadyFor (c .before .before .before .before .before .args .p) (c .before .before .before .before .before .args .table .now) (c .before .before .before .before .before .args .times .now) (take (c .before .before .counted-of .result) (c .before .deadlines-of .result)) (take (c .before .before .counted-of .result) (c .grades-of .result)) (c .before .before .before .before .before .args .spans)
+ready c =
+    let a = c .before .before .before .before .before .args in
+    ready-from (a .p) (a .table .now) (a .times .now) (c .before .deadlines-of .result) (c .grades-of .result) (a .spans) (c .before .before .counted-of .result) (c .before .before .before .before .before .pre) (c .before .before .counted-of .ensures) (c .before .deadlines-of .ensures) (c .grades-of .ensures)
+
+most : (c : tie.After-shared-slice-known Inv-loop μ-loop) → (q : ℕ) → getD (c .before .args .table .now) q 0 ≤ mostAtPlace
+most c q = omega (arith, c .shared-slice-known .given q)
+
+add-rows-requires : tie.Need-add-rows-requires Inv-loop μ-loop
+add-rows-requires c κs =
+    let a = c .before .before .before .before .before .before .before .before .before .before .before .args in
+    rows-fit (a .p) (a .table .now) (a .times .now) (take (c .before .before .before .before .before .before .before .before .counted-of .result) (c .before .before .before .before .before .before .before .deadlines-of .result)) (take (c .before .before .before .before .before .before .before .before .counted-of .result) (c .before .before .before .before .before .before .grades-of .result)) (a .spans) (ready (c .before .before .before .before .before .before)) (most (c .before .before .before .before .before .before .before .before .before .before)) (c .before .before .before .before .before .loop .m) (c .before .before .before .before .loop-test .taken) (c .before .before .before .before .before .loop .sums) (c .before .before .before .before .before .loop .inv .1)
+
+-- After the rows of a boundary are added, the column sums are those of the jobs due by it.
+summed : (c : tie.After-add-rows Inv-loop μ-loop) → Summed (c .before .before .before .before .before .before .before .before .before .before .before .before .args .p) (c .before .before .before .before .before .before .before .before .before .before .before .before .args .table .now) (suc (c .before .before .before .before .before .before .loop .m)) (c .add-rows .last .0)
+summed c =
+    let a = c .before .before .before .before .before .before .before .before .before .before .before .before .args in
+    summed-next (a .p) (a .table .now) (a .times .now) (take (c .before .before .before .before .before .before .before .before .before .counted-of .result) (c .before .before .before .before .before .before .before .before .deadlines-of .result)) (take (c .before .before .before .before .before .before .before .before .before .counted-of .result) (c .before .before .before .before .before .before .before .grades-of .result)) (a .spans) (ready (c .before .before .before .before .before .before .before)) (most (c .before .before .before .before .before .before .before .before .before .before .before)) (c .before .before .before .before .before .before .loop .m) (c .before .before .before .before .before .loop-test .taken) (c .before .before .before .before .before .before .loop .sums) (c .add-rows .last .0) (c .before .before .before .before .before .before .loop .inv .1) (c .add-rows .ensures .1) (c .add-rows .ensures .2)
+
+due : (c : tie.After-add-rows Inv-loop μ-loop) → c .add-rows .result ≡ isHiDeadline (c .before .before .before .before .before .before .before .before .before .before .before .before .args .p) (boundary (c .before .before .before .before .before .before .before .before .before .before .before .before .args .p) (c .before .before .before .before .before .before .loop .m))
+due c =
+    let a = c .before .before .before .before .before .before .before .before .before .before .before .before .args in
+    due-is (a .p) (a .table .now) (a .times .now) (take (c .before .before .before .before .before .before .before .before .before .counted-of .result) (c .before .before .before .before .before .before .before .before .deadlines-of .result)) (take (c .before .before .before .before .before .before .before .before .before .counted-of .result) (c .before .before .before .before .before .before .before .grades-of .result)) (a .spans) (ready (c .before .before .before .before .before .before .before)) (most (c .before .before .before .before .before .before .before .before .before .before .before)) (c .before .before .before .before .before .before .loop .m) (c .before .before .before .before .before .loop-test .taken) (c .add-rows .ensures .0)
+
+slice-aggregate-column-taken-in : tie.Need-slice-aggregate-column-taken-in Inv-loop μ-loop
+slice-aggregate-column-taken-in c = sym (summed (c .before .before .before) .room)
+
+column-taken-in-requires : tie.Need-column-taken-in-requires Inv-loop μ-loop
+column-taken-in-requires c κs =
+    let a = c .before .before .before .before .before .before .before .before .before .before .before .before .before .before .before .args in
+    column-fits (a .p) (a .table .now) (a .times .now) (take (c .before .before .before .before .before .before .before .before .before .before .before .before .counted-of .result) (c .before .before .before .before .before .before .before .before .before .before .before .deadlines-of .result)) (take (c .before .before .before .before .before .before .before .before .before .before .before .before .counted-of .result) (c .before .before .before .before .before .before .before .before .before .before .grades-of .result)) (a .spans) (ready (c .before .before .before .before .before .before .before .before .before .before)) (most (c .before .before .before .before .before .before .before .before .before .before .before .before .before .before)) (c .before .before .before .before .before .before .before .before .before .loop .m) (c .before .before .before .before .before .before .before .before .loop-test .taken) (c .before .before .before .add-rows .last .0) (summed (c .before .before .before))
+
+add-m : tie.Need-add-m Inv-loop μ-loop
+add-m c = omega (arith, c .before .before .before .before .before .before .before .before .before .before .before .before .before .before .before .before .pre .1, few-intervals (c .before .before .before .before .before .before .before .before .before .before .before .before .before .before .before .before .args .p))
 
 loop-less : tie.Need-loop-less Inv-loop μ-loop
-loop-less c = search needs
+loop-less c = omega arith
 
 loop-again : tie.Need-loop-again Inv-loop μ-loop
 loop-again c =
-    (omega arith, through-next _ _ (c .before .before .loop .l) (c .before .before .loop .inv .1) (c .row-taken-in .ensures))
+    let a = c .before .before .before .before .before .before .before .before .before .before .before .before .before .before .before .before .args in
+    let m = c .before .before .before .before .before .before .before .before .before .before .loop .m in
+    let in-time : m ≤ intervals (a .p) = omega (arith, c .before .before .before .before .before .before .before .before .before .loop-test .taken, c .before .before .before .before .before .before .before .before .before .before .before .before .before .before .before .before .pre .1) in (
+      omega arith,
+      rw (add-one m) (summed (c .before .before .before .before)),
+      tightest-next (a .p) (a .table .now) (c .before .before .before .before .add-rows .last .0) (a .times .now) m (c .before .before .before .before .before .before .before .before .before .before .before .before .before .before .before .before .pre .0) in-time (summed (c .before .before .before .before)) (c .before .before .before .before .add-rows .result) (figure (c .before .before .before .before .before .before .before .before .before .before .loop .best)) (figure (c .column-taken-in .result)) (due (c .before .before .before .before)) (c .column-taken-in .ensures) (c .before .before .before .before .before .before .before .before .before .before .loop .inv .2),
+    )
 
 returns : tie.Need-returns Inv-loop μ-loop
-unfolding leastSlack
 returns c =
-    let same : length (c .before .before .before .before .args .times .now) ≡ length (boundaries (c .before .before .before .before .args .p)) = ap length (c .before .before .before .before .pre .0) in
-    let end : c .before .loop .l ≡ intervals (c .before .before .before .before .args .p) = omega arith in
-    rw end at (c .before .loop .inv .1)
+    let a = c .before .before .before .before .before .before .before .args in
+    tightest-end (a .p) (a .table .now) (c .before .loop .m) (figure (c .before .loop .best)) (omega (arith, c .before .before .before .before .before .before .before .pre .1)) (c .before .loop .inv .2)
 
 pub least-slack-spec : {M : Type 1} → statement M
 least-slack-spec =
@@ -52,10 +121,21 @@ least-slack-spec =
     (tie.spec
     Inv-loop
     μ-loop
-    sub-spans
+    counted-of-requires
+    deadlines-of-requires
+    grades-of-requires
     loop-holds
-    row-taken-in-requires
-    add-l
+    mul-time
+    shared-slice-read-time
+    slice-aggregate-add-rows
+    array-share-prefix-deadlines
+    slice-aggregate-add-rows-2
+    array-share-prefix-grades
+    slice-aggregate-add-rows-3
+    add-rows-requires
+    slice-aggregate-column-taken-in
+    column-taken-in-requires
+    add-m
     loop-less
     loop-again
     returns)

@@ -11,10 +11,10 @@ use Rattle.plan.specs.Boundaries.{boundaries}
 use Rattle.plan.proofs.Rising.{boundaries-few, room-length}
 use Rattle.plan.specs.declared.boundaries.Boundaries.{Boundaries}
 use Rattle.judge.specs.Verdict.{constraintFault}
-use Rattle.judge.specs.Slack.{taken, leastSlack, slackFigure, unless}
+use Rattle.judge.specs.Slack.{leastSlack, slackFigure, unless}
 use Rattle.judge.proofs.First.{or-none, stops, passes}
 use Rattle.judge.proofs.Hand.{hand-none, sound-rules, rules-count, boundaries-some, shown}
-use Rattle.judge.proofs.Fold.{refuses}
+use Rattle.judge.proofs.Unless.{refuses}
 use Rattle.judge.proofs.figure.slack.Statement.{statement}
 use Rattle.judge.proofs.figure.slack.Tie as tie
 

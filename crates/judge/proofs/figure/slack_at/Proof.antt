@@ -5,8 +5,7 @@ use native.Mathlib.Omega.{arith}
 use borrow.Author.Needs.{needs}
 use lib.ListN.{length}
 use Rattle.judge.proofs.First.{passes}
-use Rattle.judge.specs.Slack.{taken}
-use Rattle.judge.proofs.Fold.{refuses, unless-none}
+use Rattle.judge.proofs.Unless.{refuses, unless-none}
 use Rattle.judge.proofs.figure.slack_at.Statement.{statement}
 use Rattle.judge.proofs.figure.slack_at.Tie as tie
 
@@ -25,7 +24,8 @@ returns c =
     refuses _ _ _ _ (c .before .before .constraints .ensures) (c .before .is-accepted .ensures) (c .if1 .taken)
 
 least-slack-requires : tie.Need-least-slack-requires
-least-slack-requires c κs = search needs
+least-slack-requires c κs =
+    (c .before .before .before .before .before .pre .0, ap (λ t. length t - 1) (c .before .before .before .before .before .pre .0), omega (arith, c .before .before .before .before .before .pre .1), c .before .before .before .before .before .pre .2)
 
 returns-2 : tie.Need-returns-2
 returns-2 c =

@@ -2,7 +2,6 @@
 use mathlib.Core.Path.{sym}
 use borrow.Author.Needs.{needs}
 use lib.ListN.{List·getD-eq-default}
-use Rattle.judge.specs.Slack.{taken}
 use Rattle.judge.proofs.figure.time_at.Statement.{statement}
 use Rattle.judge.proofs.figure.time_at.Tie as tie
 

@@ -11,7 +11,6 @@ use Rattle.plan.specs.Edition.{mostJobs}
 use Rattle.plan.specs.Rules.{counted}
 use Rattle.plan.proofs.Rising.{boundaries-few}
 use Rattle.judge.specs.Verdict.{fallsShort}
-use Rattle.judge.specs.Slack.{taken}
 use Rattle.judge.proofs.Demand.{carries-is, asked-is, early-pair, other-pair, true-pair}
 use Rattle.judge.proofs.floor.is_short.Statement.{statement}
 use Rattle.judge.proofs.floor.is_short.Tie as tie

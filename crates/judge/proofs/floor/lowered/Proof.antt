@@ -5,7 +5,7 @@ use Prim.Native.Nat.{min}
 use native.Mathlib.Omega.{arith}
 use borrow.Author.Needs.{needs}
 use borrow.Author.Tests.{not-true, not-false}
-use Rattle.judge.specs.Slack.{least, taken}
+use Rattle.judge.specs.Slack.{least}
 use Rattle.judge.specs.Columns.{lowest, asksMore}
 use Rattle.judge.proofs.floor.lowered.Statement.{statement}
 use Rattle.judge.proofs.floor.lowered.Tie as tie

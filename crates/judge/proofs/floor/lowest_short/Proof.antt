@@ -1,115 +1,118 @@
 -- `judge::floor::lowest_short` meets its contract: after m boundaries, the column sums of the jobs due by then, and the lowest interval that falls short of one of them.
-use mathlib.Core.Path.{refl, sym, _∙_, ap, _≡_, subst}
-use Prim.Native.Nat.{ℕ, suc, _-_, _≤_, _<_}
+use mathlib.Core.Path.{sym, _≡_, subst}
+use Prim.Native.Nat.{ℕ, suc, _-_, _≤_}
 use native.Mathlib.Numerals.{add-one}
 use native.Mathlib.Omega.{arith}
-use lib.ListN.{length, getD}
-use Rattle.plan.specs.Edition.{mostIntervals}
+use borrow.Author.Needs.{needs}
+use lib.ListN.{getD, take}
+use lib.Seq.{length-take-le}
 use Rattle.plan.specs.Boundaries.{boundary, intervals}
-use Rattle.plan.specs.Rules.{counted}
-use Rattle.plan.proofs.Rising.{boundaries-few}
+use Rattle.judge.specs.Constraints.{mostAtPlace}
 use Rattle.judge.specs.Verdict.{isHiDeadline}
 use Rattle.judge.specs.Columns.{Lowest}
-use Rattle.judge.proofs.Hand.{zeros-at}
-use Rattle.judge.proofs.Passes.{columnSum, column-none, column-bound, due-is, columns-are, lowest-start, lowest-next}
+use Rattle.judge.proofs.Passes.{ReadyFor, Summed, ready-from, summed-start, few-intervals, rows-fit, due-is, summed-next, column-fits, lowest-start, lowest-next}
 use Rattle.judge.proofs.floor.lowest_short.Statement.{statement}
 use Rattle.judge.proofs.floor.lowest_short.Tie as tie
 
 abbrev Inv-loop : tie.InvT-loop
-Inv-loop p table times deadlines grades spans sums₀ low₀ m₀ sums low m =
-    (m ≤ suc spans) × (length sums ≡ mostIntervals) × ((j : ℕ) → j < spans → getD sums j 0 ≡ columnSum p table m j) × Lowest p table m low
+Inv-loop p table times spans jobs deadlines grades sums₀ low₀ m₀ sums low m =
+    (m ≤ suc spans) × Summed p table m sums × Lowest p table m low
 
 abbrev μ-loop : tie.MeasureT-loop
-μ-loop p table times deadlines grades spans sums₀ low₀ m₀ sums low m = suc spans - m
+μ-loop p table times spans jobs deadlines grades sums₀ low₀ m₀ sums low m = suc spans - m
 
-few : (c : tie.Start Inv-loop μ-loop) → c .args .spans ≤ mostIntervals
-few c = omega (arith, boundaries-few (c .args .p) (counted (c .args .p)), c .pre .are-intervals)
+counted-of-requires : tie.Need-counted-of-requires Inv-loop μ-loop
+counted-of-requires c κs = search needs
+
+deadlines-of-requires : tie.Need-deadlines-of-requires Inv-loop μ-loop
+deadlines-of-requires c κs = search needs
+
+grades-of-requires : tie.Need-grades-of-requires Inv-loop μ-loop
+grades-of-requires c κs = search needs
 
 loop-holds : tie.Need-loop-holds Inv-loop μ-loop
-loop-holds c = (
-  omega arith,
-  refl,
-  λ j l. zeros-at mostIntervals j ∙ sym (column-none (c .before .before .before .before .args .p) (c .before .before .before .before .args .table .now) j),
-  rw (c .before .before .before .before .pre .are-intervals) (lowest-start (c .before .before .before .before .args .p) (c .before .before .before .before .args .table .now)),
-)
+loop-holds c =
+    let a = c .before .before .before .before .before .args in
+    (omega arith, summed-start (a .p) (a .table .now), rw (c .before .before .before .before .before .pre .1) (lowest-start (a .p) (a .table .now)))
 
 mul-time : tie.Need-mul-time Inv-loop μ-loop
-mul-time c = omega (arith, c .before .before .before .before .before .before .pre .some)
+mul-time c = omega (arith, c .before .before .before .before .before .before .before .pre .2)
 
 shared-slice-read-time : tie.Need-shared-slice-read-time Inv-loop μ-loop
-shared-slice-read-time c = omega (arith, c .before .before .before .before .before .before .before .pre .some)
+shared-slice-read-time c = omega (arith, c .before .before .before .before .before .before .before .before .pre .2)
 
 slice-aggregate-add-rows : tie.Need-slice-aggregate-add-rows Inv-loop μ-loop
-slice-aggregate-add-rows c = sym (c .before .before .before .loop .inv .1)
+slice-aggregate-add-rows c = sym (c .before .before .before .loop .inv .1 .room)
+
+array-share-prefix-deadlines : tie.Need-array-share-prefix-deadlines Inv-loop μ-loop
+array-share-prefix-deadlines c = omega (arith, c .before .before .before .before .before .deadlines-of .ensures .0, c .before .before .before .before .before .before .counted-of .ensures)
+
+slice-aggregate-add-rows-2 : tie.Need-slice-aggregate-add-rows-2 Inv-loop μ-loop
+slice-aggregate-add-rows-2 c =
+    sym (length-take-le (c .before .before .before .before .before .before .before .counted-of .result) (c .before .before .before .before .before .before .deadlines-of .result) (omega (arith, c .before .before .before .before .before .before .deadlines-of .ensures .0, c .before .before .before .before .before .before .before .counted-of .ensures)))
+
+array-share-prefix-grades : tie.Need-array-share-prefix-grades Inv-loop μ-loop
+array-share-prefix-grades c = omega (arith, c .before .before .before .before .before .grades-of .ensures .0, c .before .before .before .before .before .before .before .counted-of .ensures)
+
+slice-aggregate-add-rows-3 : tie.Need-slice-aggregate-add-rows-3 Inv-loop μ-loop
+slice-aggregate-add-rows-3 c =
+    sym (length-take-le (c .before .before .before .before .before .before .before .before .counted-of .result) (c .before .before .before .before .before .before .grades-of .result) (omega (arith, c .before .before .before .before .before .before .grades-of .ensures .0, c .before .before .before .before .before .before .before .before .counted-of .ensures)))
+
+-- What the pass reads, and what a place of the table can hold.
+ready : (c : tie.After-grades-of Inv-loop μ-loop)
+    → ReadyFor (c .before .before .before .before .before .args .p) (c .before .before .before .before .before .args .table .now) (c .before .before .before .before .before .args .times .now) (take (c .before .before .counted-of .result) (c .before .deadlines-of .result)) (take (c .before .before .counted-of .result) (c .grades-of .result)) (c .before .before .before .before .before .args .spans)
+ready c =
+    let a = c .before .before .before .before .before .args in
+    ready-from (a .p) (a .table .now) (a .times .now) (c .before .deadlines-of .result) (c .grades-of .result) (a .spans) (c .before .before .counted-of .result) (c .before .before .before .before .before .pre) (c .before .before .counted-of .ensures) (c .before .deadlines-of .ensures) (c .grades-of .ensures)
+
+most : (c : tie.After-shared-slice-known Inv-loop μ-loop) → (q : ℕ) → getD (c .before .args .table .now) q 0 ≤ mostAtPlace
+most c q = omega (arith, c .shared-slice-known .given q)
 
 add-rows-requires : tie.Need-add-rows-requires Inv-loop μ-loop
 add-rows-requires c κs =
-    let r = c .before .before .before .before .before .before .before .before .pre in (
-      omega (arith, c .before .before .before .loop .inv .1, few (c .before .before .before .before .before .before .before .before)),
-      r .deadline-count ∙ sym (r .grade-count),
-      omega (arith, r .grade-count),
-      few (c .before .before .before .before .before .before .before .before),
-      r .long,
-      λ j l. omega (arith, c .before .before .before .loop .inv .2 j l, column-bound (c .before .before .before .before .before .before .before .before .args .p) (c .before .before .before .before .before .before .before .before .args .table .now) (c .before .before .before .loop .m) j (λ q. omega (arith, c .before .before .before .before .before .before .before .shared-slice-known .given q))),
-    )
-
-slice-aggregate-lowered : tie.Need-slice-aggregate-lowered Inv-loop μ-loop
-slice-aggregate-lowered c =
-    sym (c .before .before .before .add-rows .ensures .1 ∙ c .before .before .before .before .before .before .before .loop .inv .1)
+    let a = c .before .before .before .before .before .before .before .before .before .before .before .args in
+    rows-fit (a .p) (a .table .now) (a .times .now) (take (c .before .before .before .before .before .before .before .before .counted-of .result) (c .before .before .before .before .before .before .before .deadlines-of .result)) (take (c .before .before .before .before .before .before .before .before .counted-of .result) (c .before .before .before .before .before .before .grades-of .result)) (a .spans) (ready (c .before .before .before .before .before .before)) (most (c .before .before .before .before .before .before .before .before .before .before)) (c .before .before .before .before .before .loop .m) (c .before .before .before .before .loop-test .taken) (c .before .before .before .before .before .loop .sums) (c .before .before .before .before .before .loop .inv .1)
 
 -- After the rows of a boundary are added, the column sums are those of the jobs due by it.
-in-time : (c : tie.After-add-rows Inv-loop μ-loop) → c .before .before .before .before .loop .m ≤ intervals (c .before .before .before .before .before .before .before .before .before .args .p)
-in-time c = omega (arith, c .before .before .before .before .before .before .before .before .before .pre .are-intervals)
+summed : (c : tie.After-add-rows Inv-loop μ-loop) → Summed (c .before .before .before .before .before .before .before .before .before .before .before .before .args .p) (c .before .before .before .before .before .before .before .before .before .before .before .before .args .table .now) (suc (c .before .before .before .before .before .before .loop .m)) (c .add-rows .last .0)
+summed c =
+    let a = c .before .before .before .before .before .before .before .before .before .before .before .before .args in
+    summed-next (a .p) (a .table .now) (a .times .now) (take (c .before .before .before .before .before .before .before .before .before .counted-of .result) (c .before .before .before .before .before .before .before .before .deadlines-of .result)) (take (c .before .before .before .before .before .before .before .before .before .counted-of .result) (c .before .before .before .before .before .before .before .grades-of .result)) (a .spans) (ready (c .before .before .before .before .before .before .before)) (most (c .before .before .before .before .before .before .before .before .before .before .before)) (c .before .before .before .before .before .before .loop .m) (c .before .before .before .before .before .loop-test .taken) (c .before .before .before .before .before .before .loop .sums) (c .add-rows .last .0) (c .before .before .before .before .before .before .loop .inv .1) (c .add-rows .ensures .1) (c .add-rows .ensures .2)
 
-columns : (c : tie.After-add-rows Inv-loop μ-loop) → (j : ℕ) → j < intervals (c .before .before .before .before .before .before .before .before .before .args .p)
-    → getD (c .add-rows .last .0) j 0 ≡ columnSum (c .before .before .before .before .before .before .before .before .before .args .p) (c .before .before .before .before .before .before .before .before .before .args .table .now) (suc (c .before .before .before .before .loop .m)) j
-columns c =
-    let a = c .before .before .before .before .before .before .before .before .before .args in
-    columns-are (a .p) (a .table .now) (a .times .now) (a .deadlines .now) (a .grades .now) (a .spans) (c .before .before .before .before .before .before .before .before .before .pre) (c .before .before .before .before .loop .m) (in-time c)
-    (c .before .before .before .before .loop .sums) (c .add-rows .last .0) (c .add-rows .ensures .2) (c .before .before .before .before .loop .inv .2)
-
-due : (c : tie.After-add-rows Inv-loop μ-loop) → c .add-rows .result ≡ isHiDeadline (c .before .before .before .before .before .before .before .before .before .args .p) (boundary (c .before .before .before .before .before .before .before .before .before .args .p) (c .before .before .before .before .loop .m))
+due : (c : tie.After-add-rows Inv-loop μ-loop) → c .add-rows .result ≡ isHiDeadline (c .before .before .before .before .before .before .before .before .before .before .before .before .args .p) (boundary (c .before .before .before .before .before .before .before .before .before .before .before .before .args .p) (c .before .before .before .before .before .before .loop .m))
 due c =
-    let a = c .before .before .before .before .before .before .before .before .before .args in
-    due-is (a .p) (a .table .now) (a .times .now) (a .deadlines .now) (a .grades .now) (a .spans) (c .before .before .before .before .before .before .before .before .before .pre) (c .before .before .before .before .loop .m) (in-time c)
-    (c .add-rows .ensures .0)
+    let a = c .before .before .before .before .before .before .before .before .before .before .before .before .args in
+    due-is (a .p) (a .table .now) (a .times .now) (take (c .before .before .before .before .before .before .before .before .before .counted-of .result) (c .before .before .before .before .before .before .before .before .deadlines-of .result)) (take (c .before .before .before .before .before .before .before .before .before .counted-of .result) (c .before .before .before .before .before .before .before .grades-of .result)) (a .spans) (ready (c .before .before .before .before .before .before .before)) (most (c .before .before .before .before .before .before .before .before .before .before .before)) (c .before .before .before .before .before .before .loop .m) (c .before .before .before .before .before .loop-test .taken) (c .add-rows .ensures .0)
+
+slice-aggregate-lowered : tie.Need-slice-aggregate-lowered Inv-loop μ-loop
+slice-aggregate-lowered c = sym (summed (c .before .before .before) .room)
 
 lowered-requires : tie.Need-lowered-requires Inv-loop μ-loop
 lowered-requires c κs =
-    let r = c .before .before .before .before .before .before .before .before .before .before .before .before .pre in (
-      omega (arith, r .some),
-      omega (arith, c .before .before .before .add-rows .ensures .1, c .before .before .before .before .before .before .before .loop .inv .1, few (c .before .before .before .before .before .before .before .before .before .before .before .before)),
-      omega (arith, few (c .before .before .before .before .before .before .before .before .before .before .before .before)),
-      λ j l. omega (
-        arith,
-        columns (c .before .before .before) j (omega (arith, r .are-intervals)),
-        column-bound (c .before .before .before .before .before .before .before .before .before .before .before .before .args .p) (c .before .before .before .before .before .before .before .before .before .before .before .before .args .table .now) (suc (c .before .before .before .before .before .before .before .loop .m)) j (λ q. omega (arith, c .before .before .before .before .before .before .before .before .before .before .before .shared-slice-known .given q)),
-      ),
-    )
+    let a = c .before .before .before .before .before .before .before .before .before .before .before .before .before .before .before .args in
+    column-fits (a .p) (a .table .now) (a .times .now) (take (c .before .before .before .before .before .before .before .before .before .before .before .before .counted-of .result) (c .before .before .before .before .before .before .before .before .before .before .before .deadlines-of .result)) (take (c .before .before .before .before .before .before .before .before .before .before .before .before .counted-of .result) (c .before .before .before .before .before .before .before .before .before .before .grades-of .result)) (a .spans) (ready (c .before .before .before .before .before .before .before .before .before .before)) (most (c .before .before .before .before .before .before .before .before .before .before .before .before .before .before)) (c .before .before .before .before .before .before .before .before .before .loop .m) (c .before .before .before .before .before .before .before .before .loop-test .taken) (c .before .before .before .add-rows .last .0) (summed (c .before .before .before))
 
 add-m : tie.Need-add-m Inv-loop μ-loop
-add-m c =
-    omega (arith, few (c .before .before .before .before .before .before .before .before .before .before .before .before .before))
+add-m c = omega (arith, c .before .before .before .before .before .before .before .before .before .before .before .before .before .before .before .before .pre .1, few-intervals (c .before .before .before .before .before .before .before .before .before .before .before .before .before .before .before .before .args .p))
 
 loop-less : tie.Need-loop-less Inv-loop μ-loop
 loop-less c = omega arith
 
 loop-again : tie.Need-loop-again Inv-loop μ-loop
 loop-again c =
-    let a = c .before .before .before .before .before .before .before .before .before .before .before .before .before .args in
-    let m = c .before .before .before .before .before .before .before .before .loop .m in (
+    let a = c .before .before .before .before .before .before .before .before .before .before .before .before .before .before .before .before .args in
+    let m = c .before .before .before .before .before .before .before .before .before .before .loop .m in
+    let in-time : m ≤ intervals (a .p) = omega (arith, c .before .before .before .before .before .before .before .before .before .loop-test .taken, c .before .before .before .before .before .before .before .before .before .before .before .before .before .before .before .before .pre .1) in (
       omega arith,
-      c .before .before .before .before .add-rows .ensures .1 ∙ c .before .before .before .before .before .before .before .before .loop .inv .1,
-      λ j l. columns (c .before .before .before .before) j (omega (arith, c .before .before .before .before .before .before .before .before .before .before .before .before .before .pre .are-intervals))
-          ∙ ap (λ n. columnSum (a .p) (a .table .now) n j) (sym (add-one m)),
-      lowest-next (a .p) (a .table .now) (c .before .before .before .before .add-rows .last .0) (a .times .now) m (c .before .before .before .before .before .before .before .before .loop .low) (c .lowered .result)
-          (c .before .before .before .before .add-rows .result) (c .before .before .before .before .before .before .before .before .before .before .before .before .before .pre .are-boundaries) (in-time (c .before .before .before .before)) (columns (c .before .before .before .before)) (due (c .before .before .before .before)) (c .lowered .ensures) (c .before .before .before .before .before .before .before .before .loop .inv .3),
+      rw (add-one m) (summed (c .before .before .before .before)),
+      lowest-next (a .p) (a .table .now) (c .before .before .before .before .add-rows .last .0) (a .times .now) m (c .before .before .before .before .before .before .before .before .before .before .loop .low) (c .lowered .result) (c .before .before .before .before .add-rows .result) (c .before .before .before .before .before .before .before .before .before .before .before .before .before .before .before .before .pre .0) in-time (summed (c .before .before .before .before) .columns) (due (c .before .before .before .before)) (c .lowered .ensures) (c .before .before .before .before .before .before .before .before .before .before .loop .inv .2),
     )
 
 returns : tie.Need-returns Inv-loop μ-loop
 returns c =
-    let end : c .before .loop .m ≡ suc (intervals (c .before .before .before .before .before .before .args .p)) = omega (arith, c .before .before .before .before .before .before .pre .are-intervals) in
-    subst (λ n. Lowest (c .before .before .before .before .before .before .args .p) (c .before .before .before .before .before .before .args .table .now) n (c .before .loop .low)) end (c .before .loop .inv .3)
+    let a = c .before .before .before .before .before .before .before .args in
+    let end : c .before .loop .m ≡ suc (intervals (a .p)) = omega (arith, c .before .before .before .before .before .before .before .pre .1) in
+    subst (λ n. Lowest (a .p) (a .table .now) n (c .before .loop .low)) end (c .before .loop .inv .2)
 
 pub lowest-short-spec : {M : Type 1} → statement M
 lowest-short-spec =
@@ -117,10 +120,17 @@ lowest-short-spec =
     (tie.spec
     Inv-loop
     μ-loop
+    counted-of-requires
+    deadlines-of-requires
+    grades-of-requires
     loop-holds
     mul-time
     shared-slice-read-time
     slice-aggregate-add-rows
+    array-share-prefix-deadlines
+    slice-aggregate-add-rows-2
+    array-share-prefix-grades
+    slice-aggregate-add-rows-3
     add-rows-requires
     slice-aggregate-lowered
     lowered-requires

@@ -1,12 +1,14 @@
--- `judge::figure::lesser_of` meets its contract.
+-- `judge::figure::sooner_of` meets its contract.
 use mathlib.Core.Path.{refl, sym, _∙_, ap, ap₂, _≡_}
-use mathlib.Core.Bool.{true, false}
+use mathlib.Core.Bool.{true, false, _&&_, _||_}
 use borrow.Author.Needs.{needs}
-use lib.Signed.{ltZ}
-use Rattle.judge.specs.Slack.{least, lesser, taken}
+use lib.Dec.{ltb}
+use lib.Signed.{ltZ, leZ}
+use Rattle.judge.specs.Slack.{least}
+use Rattle.judge.specs.Columns.{sooner}
 use Rattle.judge.specs.Answers.{figure}
-use Rattle.judge.proofs.figure.lesser_of.Statement.{statement}
-use Rattle.judge.proofs.figure.lesser_of.Tie as tie
+use Rattle.judge.proofs.figure.sooner_of.Statement.{statement}
+use Rattle.judge.proofs.figure.sooner_of.Tie as tie
 use mir.Syntax.{w64}
 use mir.Val.{SFits}
 use mir.Facts.{toZ-ofZ}
@@ -23,14 +25,15 @@ enum-told-2 c = search needs
 returns : tie.Need-returns
 returns c =
     let a = c .before .before .args in
-    ap (λ s. least s (a .l) (a .time .0)) (toZ-ofZ (c .before .before .fits .slack)) ∙ sym (ap (λ k. lesser (figure k) (a .slack) (a .l) (a .time .0)) (c .enum-told .given .1))
+    ap (λ s. least s (a .l) (a .time .0)) (toZ-ofZ (c .before .before .fits .slack)) ∙ sym (ap (λ k. sooner (figure k) (a .slack) (a .l) (a .time .0)) (c .enum-told .given .1))
 
 returns-2 : tie.Need-returns-2
 returns-2 c =
     let a = c .before .before .before .before .args in
     let best = c .before .before .known .given .0 .0 in
     let fits : SFits w64 best = record { sfits = c .before .known-told .given .0 .1 } in
-    let test : ltZ (a .slack) best ≡ true = sym (ap₂ ltZ (toZ-ofZ (c .before .before .before .before .fits .slack)) (toZ-ofZ fits)) ∙ c .if1 .taken in
+    let at = c .before .before .known .given .0 .1 .0 in
+    let test : (ltZ (a .slack) best || leZ (a .slack) best && ltb (a .l) at) ≡ true = sym (ap₂ (λ s b. ltZ s b || leZ s b && ltb (a .l) at) (toZ-ofZ (c .before .before .before .before .fits .slack)) (toZ-ofZ fits)) ∙ c .if1 .taken in
     ap (λ s. least s (a .l) (a .time .0)) (toZ-ofZ (c .before .before .before .before .fits .slack)) ∙ rw (c .before .before .known .given .1, test) refl
 
 returns-3 : tie.Need-returns-3
@@ -38,13 +41,14 @@ returns-3 c =
     let a = c .before .before .before .before .args in
     let best = c .before .before .known .given .0 .0 in
     let fits : SFits w64 best = record { sfits = c .before .known-told .given .0 .1 } in
-    let test : ltZ (a .slack) best ≡ false = sym (ap₂ ltZ (toZ-ofZ (c .before .before .before .before .fits .slack)) (toZ-ofZ fits)) ∙ c .if1 .left in
+    let at = c .before .before .known .given .0 .1 .0 in
+    let test : (ltZ (a .slack) best || leZ (a .slack) best && ltb (a .l) at) ≡ false = sym (ap₂ (λ s b. ltZ s b || leZ s b && ltb (a .l) at) (toZ-ofZ (c .before .before .before .before .fits .slack)) (toZ-ofZ fits)) ∙ c .if1 .left in
     rw (c .before .before .known .given .1, test) refl
 
 returns-4 : tie.Need-returns-4
 returns-4 c = search needs
 
-pub lesser-of-spec : {M : Type 1} → statement M
-lesser-of-spec =
+pub sooner-of-spec : {M : Type 1} → statement M
+sooner-of-spec =
     tie.close
     (tie.spec enum-told enum-known-known enum-told-2 returns returns-2 returns-3 returns-4)

@@ -1,4 +1,4 @@
--- `judge::floor::grades_of` meets its contract: after i records, the first i grades stand in the row.
+-- `judge::rows::grades_of` meets its contract: after i records, the first i grades stand in the row.
 use mathlib.Core.Path.{refl, _≡_}
 use Prim.Native.Nat.{ℕ, _-_, _≤_, _<_}
 use native.Mathlib.Omega.{arith}
@@ -7,8 +7,8 @@ use lib.ListN.{length, getD, length-set}
 use Rattle.plan.specs.Edition.{mostJobs}
 use Rattle.plan.specs.Rules.{jobOf}
 use Rattle.judge.proofs.Columns.{stands-next}
-use Rattle.judge.proofs.floor.grades_of.Statement.{statement}
-use Rattle.judge.proofs.floor.grades_of.Tie as tie
+use Rattle.judge.proofs.rows.grades_of.Statement.{statement}
+use Rattle.judge.proofs.rows.grades_of.Tie as tie
 
 abbrev Inv-loop : tie.InvT-loop
 Inv-loop p row₀ i₀ row i =

@@ -1,4 +1,4 @@
--- `judge::floor::add_row` meets its contract: after j intervals the first j numbers are added.
+-- `judge::rows::add_row` meets its contract: after j intervals the first j numbers are added.
 use mathlib.Core.Path.{refl, sym, _∙_, ap}
 use Prim.Native.Nat.{_+_, _-_, _≤_}
 use native.Mathlib.Omega.{arith}
@@ -7,10 +7,9 @@ use borrow.Author.Needs.{needs}
 use borrow.Author.Tests.{not-true, not-false}
 use lib.ListN.{getD}
 use Rattle.sums.specs.Sum.{on}
-use Rattle.judge.specs.Slack.{taken}
 use Rattle.judge.proofs.Columns.{Added, added-start, added-next}
-use Rattle.judge.proofs.floor.add_row.Statement.{statement}
-use Rattle.judge.proofs.floor.add_row.Tie as tie
+use Rattle.judge.proofs.rows.add_row.Statement.{statement}
+use Rattle.judge.proofs.rows.add_row.Tie as tie
 
 abbrev Inv-loop : tie.InvT-loop
 Inv-loop sums₀ wanted table start spans j₀ sums j = (j ≤ spans) × Added sums₀ (λ k. getD table (start + k) 0) j sums

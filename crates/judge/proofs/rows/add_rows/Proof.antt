@@ -1,4 +1,4 @@
--- `judge::floor::add_rows` meets its contract: after i jobs, the rows of those among the first i are added.
+-- `judge::rows::add_rows` meets its contract: after i jobs, the rows of those among the first i are added.
 use mathlib.Core.Path.{refl, sym, _∙_, ap, _≡_}
 use mathlib.Core.Bool.{not, _&&_}
 use Prim.Native.Nat.{ℕ, _+_, _*_, _-_, _≤_, _<_}
@@ -14,8 +14,8 @@ use Rattle.plan.specs.Rules.{hi}
 use Rattle.plan.proofs.Below.{every-start, every-next}
 use Rattle.judge.specs.Constraints.{mostAtPlace, units}
 use Rattle.judge.proofs.Running.{on-at-most}
-use Rattle.judge.proofs.floor.add_rows.Statement.{statement}
-use Rattle.judge.proofs.floor.add_rows.Tie as tie
+use Rattle.judge.proofs.rows.add_rows.Statement.{statement}
+use Rattle.judge.proofs.rows.add_rows.Tie as tie
 
 abbrev Inv-loop : tie.InvT-loop
 Inv-loop sums₀ table deadlines grades spans time absent₀ i₀ sums absent i =

@@ -1,4 +1,4 @@
--- `judge::floor::deadlines_of` meets its contract: after i records, the first i deadlines stand in the row.
+-- `judge::rows::deadlines_of` meets its contract: after i records, the first i deadlines stand in the row.
 use mathlib.Core.Path.{refl, _≡_}
 use Prim.Native.Nat.{ℕ, _-_, _≤_, _<_}
 use native.Mathlib.Omega.{arith}
@@ -7,8 +7,8 @@ use lib.ListN.{length, getD, length-set}
 use Rattle.plan.specs.Edition.{mostJobs}
 use Rattle.plan.specs.Rules.{deadline}
 use Rattle.judge.proofs.Columns.{stands-next}
-use Rattle.judge.proofs.floor.deadlines_of.Statement.{statement}
-use Rattle.judge.proofs.floor.deadlines_of.Tie as tie
+use Rattle.judge.proofs.rows.deadlines_of.Statement.{statement}
+use Rattle.judge.proofs.rows.deadlines_of.Tie as tie
 
 abbrev Inv-loop : tie.InvT-loop
 Inv-loop p row₀ i₀ row i =
