@@ -19,7 +19,7 @@ use Rattle.judge.proofs.Tests.{both}
 use Rattle.judge.proofs.Signed.{not-below-self, at-most-self, below-not, at-most-not, not-below-two, same-both}
 use Rattle.judge.proofs.Enough.{boundary-less}
 
--- A slack with its interval and deadline comes no later than another: it is not above it; where it is equal, the interval is not; and where that too is equal, the deadline is not.
+-- A slack with its interval and deadline comes no later than another: by the lower slack, then the lower interval, then the earlier deadline.
 pub record NoLater (s : ℤ) (i D : ℕ) (t : ℤ) (l E : ℕ) : Type 0 where
   pub slack : ltZ t s ≡ false
   pub interval : s ≡ t → i ≤ l

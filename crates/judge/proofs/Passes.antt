@@ -238,18 +238,18 @@ pub few-intervals : (p : Plan) → intervals p ≤ mostIntervals
 few-intervals p = omega (arith, boundaries-few p (counted p))
 
 -- A turn of a pass: what the rows of a boundary are added to, whether it is a HI deadline, and the sums with its jobs.
-module _ (p : Plan) (table times deadlines grades : List ℕ) (spans : ℕ) (ready : ReadyFor p table times deadlines grades spans)
-    (most : (q : ℕ) → getD table q 0 ≤ mostAtPlace) (m : ℕ) (h : m ≤ spans) where
+module _ {p : Plan} {table times deadlines grades : List ℕ} {spans m : ℕ} (ready : ReadyFor p table times deadlines grades spans)
+    (most : (q : ℕ) → getD table q 0 ≤ mostAtPlace) (h : m ≤ spans) where
   at-deadline : (i : ℕ) → i < counted p
       → (eqb (getD grades i 0) hi && eqb (getD deadlines i 0) (getD times m 0)) ≡ (isHi p i && eqb (deadline p i) (boundary p m))
   at-deadline i b =
       ap₂ (λ g d. eqb g hi && eqb d (getD times m 0)) (ready .are-grades i b) (ready .are-deadlines i b)
       ∙ ap (λ t. isHi p i && eqb (deadline p i) (getD t m 0)) (ready .are-boundaries)
 
-  pub rows-fit : (sums : List ℕ) → Summed p table m sums
+  pub rows-fit : {sums : List ℕ} → Summed p table m sums
       → (spans ≤ length sums) × (length deadlines ≡ length grades) × (length grades ≤ mostJobs) × (spans ≤ mostIntervals) × (places ≤ length table)
       × ((j : ℕ) → j < spans → getD sums j 0 ≤ mostJobs * mostAtPlace)
-  rows-fit sums so = (
+  rows-fit so = (
     omega (arith, so .room, ready .are-intervals, few-intervals p),
     ready .deadline-count ∙ sym (ready .grade-count),
     omega (arith, ready .grade-count),
@@ -265,11 +265,11 @@ module _ (p : Plan) (table times deadlines grades : List ℕ) (spans : ℕ) (rea
   due-is e =
       e ∙ ap not (ap (every _) (ready .grade-count) ∙ every-ext _ _ (counted p) (λ i b. ap not (at-deadline i b)))
 
-  pub summed-next : (old new : List ℕ) → Summed p table m old → length new ≡ length old
+  pub summed-next : {old : List ℕ} (new : List ℕ) → Summed p table m old → length new ≡ length old
       → ((j : ℕ) → j < spans → getD new j 0
       ≡ getD old j 0 + sum (λ i. on (eqb (getD grades i 0) hi && eqb (getD deadlines i 0) (getD times m 0)) (units table i j)) (length grades))
       → Summed p table (suc m) new
-  summed-next old new so same more =
+  summed-next new so same more =
       record {
         room = same ∙ so .room;
         columns = λ j b.
@@ -279,9 +279,9 @@ module _ (p : Plan) (table times deadlines grades : List ℕ) (spans : ℕ) (rea
             ∙ sym (column-more p table m j (omega (arith, ready .are-intervals)));
       }
 
-  pub column-fits : (sums : List ℕ) → Summed p table (suc m) sums
+  pub column-fits : {sums : List ℕ} → Summed p table (suc m) sums
       → (m < length times) × (m ≤ length sums) × (m ≤ mostIntervals) × ((j : ℕ) → j < m → getD sums j 0 ≤ mostJobs * mostAtPlace)
-  column-fits sums so = (
+  column-fits so = (
     omega (arith, ready .some),
     omega (arith, so .room, ready .are-intervals, few-intervals p),
     omega (arith, ready .are-intervals, few-intervals p),
