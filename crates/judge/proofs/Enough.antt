@@ -16,9 +16,9 @@ use Rattle.plan.specs.Boundaries.{boundaries, boundary, intervals}
 use Rattle.plan.specs.declared.kinds.Plan.{Plan}
 use Rattle.plan.proofs.Rising.{boundaries-rise, by-order}
 use Rattle.plan.proofs.Timeline.{deadline-is-boundary, boundary-rises}
+use Rattle.plan.proofs.Below.{both, every-at}
 use Rattle.judge.specs.Constraints.{units, inWindow, unitsBetween, demand, floorCarries}
 use Rattle.judge.specs.Verdict.{isHiDeadline, isPair}
-use Rattle.judge.proofs.Tests.{both, every-at}
 use Rattle.judge.proofs.Times.{rising-less}
 use Rattle.judge.proofs.Demand.{end-by-boundary, demand-is, true-pair}
 use Rattle.judge.proofs.Running.{sum-of-none}

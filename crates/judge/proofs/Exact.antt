@@ -15,10 +15,9 @@ use Rattle.plan.specs.Rules.{counted, size}
 use Rattle.plan.specs.Boundaries.{boundary, intervals}
 use Rattle.plan.specs.Table.{sound}
 use Rattle.plan.specs.declared.kinds.Plan.{Plan}
-use Rattle.plan.proofs.Below.{every-ext}
+use Rattle.plan.proofs.Below.{every-ext, both, every-at, every-all}
 use Rattle.judge.specs.Constraints.{units, inWindow, span, total, load, demand, floorCarries, Accepted}
 use Rattle.judge.specs.Verdict.{Report, orElse, fault, isNone, first, isStray, isHiDeadline, isPair, fallsShort, outsideFault, totalFault, capacityFault, floorFault, handFault, constraintFault, judged}
-use Rattle.judge.proofs.Tests.{both, every-at, every-all}
 use Rattle.judge.proofs.First.{none-empty, empty-none, none-plain, none-fault, none-first, none-faults}
 use Rattle.judge.proofs.Hand.{hand-none, hand-sound}
 use Rattle.judge.proofs.Enough.{hi-deadlines-are-enough}

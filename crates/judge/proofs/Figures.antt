@@ -15,10 +15,10 @@ use Rattle.plan.specs.Boundaries.{boundary, intervals}
 use Rattle.plan.specs.declared.kinds.Plan.{Plan}
 use Rattle.plan.proofs.Rising.{by-order}
 use Rattle.plan.proofs.Timeline.{release-is-boundary, deadline-is-boundary}
+use Rattle.plan.proofs.Below.{both, every-at}
 use Rattle.judge.specs.Constraints.{demand, floorCarries}
 use Rattle.judge.specs.Verdict.{Report, orElse, isHiDeadline, isPair, handFault, constraintFault, floorFault, judged}
 use Rattle.judge.specs.Slack.{Figure, noneEssential, least, refused, slackOf, leastSlack, unless, slackFigure}
-use Rattle.judge.proofs.Tests.{both, every-at}
 use Rattle.judge.proofs.Hand.{hand-none, sound-rules, rules-bounds}
 use Rattle.judge.proofs.Signed.{not-below-two}
 use Rattle.judge.proofs.Enough.{boundary-less, hi-deadline}

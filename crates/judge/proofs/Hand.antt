@@ -14,8 +14,8 @@ use Rattle.plan.specs.Boundaries.{insert, boundariesTo, intervals, inRoom}
 use Rattle.plan.specs.Table.{sound, noStray}
 use Rattle.plan.specs.declared.kinds.Plan.{Plan}
 use Rattle.plan.proofs.Rising.{insert-grows, room-take}
+use Rattle.plan.proofs.Below.{both}
 use Rattle.judge.specs.Verdict.{orElse, fault, isNone, handFault}
-use Rattle.judge.proofs.Tests.{both}
 use Rattle.judge.proofs.First.{empty-none, none-or, fault-none}
 
 -- Neither 22 nor 21: the table is long enough, and the plan is sound.

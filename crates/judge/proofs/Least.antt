@@ -12,10 +12,10 @@ use lib.Signed.{ltZ, leZ}
 use Rattle.sums.proofs.Laws.{below-or-last}
 use Rattle.plan.specs.Boundaries.{boundary, intervals}
 use Rattle.plan.specs.declared.kinds.Plan.{Plan}
+use Rattle.plan.proofs.Below.{both}
 use Rattle.judge.specs.Verdict.{isHiDeadline, isPair}
 use Rattle.judge.specs.Slack.{Figure, noneEssential, least, refused, slackOf, lesser, taken, through, leastSlack}
 use Rattle.judge.specs.Columns.{sooner}
-use Rattle.judge.proofs.Tests.{both}
 use Rattle.judge.proofs.Signed.{not-below-self, at-most-self, below-not, at-most-not, not-below-two, same-both}
 use Rattle.judge.proofs.Enough.{boundary-less}
 

@@ -20,12 +20,11 @@ use Rattle.plan.specs.Rules.{hi, counted, jobOf, deadline, isHi}
 use Rattle.plan.specs.Boundaries.{boundaries, boundary, intervals}
 use Rattle.plan.specs.declared.kinds.Plan.{Plan}
 use Rattle.plan.proofs.Rising.{by-order, boundaries-few}
-use Rattle.plan.proofs.Below.{every-start, every-next, every-ext}
+use Rattle.plan.proofs.Below.{every-start, every-next, every-ext, every-all}
 use Rattle.plan.proofs.Timeline.{deadline-is-boundary}
 use Rattle.judge.specs.Constraints.{mostAtPlace, units, demand}
 use Rattle.judge.specs.Verdict.{Report, fault, isNone, first, isHiDeadline, isPair, fallsShort, floorFault}
 use Rattle.judge.specs.Columns.{asksMore, lowest, holdsAt, Lowest}
-use Rattle.judge.proofs.Tests.{every-all}
 use Rattle.judge.proofs.Hand.{zeros-at}
 use Rattle.judge.proofs.First.{none-empty, none-plain, none-first, first-found}
 use Rattle.judge.proofs.Running.{on-at-most}

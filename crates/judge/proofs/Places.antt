@@ -16,10 +16,10 @@ use Rattle.plan.specs.Rules.{counted, size}
 use Rattle.plan.specs.Boundaries.{boundary, intervals}
 use Rattle.plan.specs.Table.{sound}
 use Rattle.plan.specs.declared.kinds.Plan.{Plan}
+use Rattle.plan.proofs.Below.{both, every-at}
 use Rattle.judge.specs.Constraints.{span, total, load, demand, floorCarries}
 use Rattle.judge.specs.Verdict.{Report, orElse, fault, isNone, first, isStray, isPair, fallsShort, outsideFault, totalFault, capacityFault, floorFault, handFault, constraintFault, judged}
 use Rattle.judge.specs.Decided.{InHand, InsideTo, TotalTo, WithinTo, Decided, short, bad, outside, wrong, over, below, accepted}
-use Rattle.judge.proofs.Tests.{both, every-at}
 use Rattle.judge.proofs.First.{none-empty, empty-none, none-plain, none-first, or-some, or-none}
 use Rattle.judge.proofs.Hand.{hand-sound}
 

@@ -17,8 +17,8 @@ use Rattle.plan.specs.declared.kinds.Plan.{Plan}
 use Rattle.plan.proofs.Rising.{boundaries-rise, by-order}
 use Rattle.plan.proofs.Come.{come-few}
 use Rattle.plan.proofs.Timeline.{deadline-is-boundary}
+use Rattle.plan.proofs.Below.{both}
 use Rattle.judge.specs.Constraints.{units, inWindow, unitsBetween, Accepted}
-use Rattle.judge.proofs.Tests.{both}
 use Rattle.judge.proofs.Times.{come-first}
 use Rattle.judge.proofs.Enough.{on-le, boundary-less}
 

@@ -13,10 +13,10 @@ use Rattle.sums.specs.Sum.{sum}
 use Rattle.sums.proofs.Laws.{sum-ext, below-or-last}
 use Rattle.plan.specs.Boundaries.{boundaries, boundary, intervals}
 use Rattle.plan.specs.declared.kinds.Plan.{Plan}
+use Rattle.plan.proofs.Below.{both}
 use Rattle.judge.specs.Verdict.{isHiDeadline, isPair}
 use Rattle.judge.specs.Slack.{Figure, noneEssential, slackOf, leastSlack}
 use Rattle.judge.specs.Columns.{spare, sooner, columnTaken}
-use Rattle.judge.proofs.Tests.{both}
 use Rattle.judge.proofs.Demand.{true-pair}
 use Rattle.judge.proofs.Enough.{boundary-less}
 use Rattle.judge.proofs.Columns.{sum-back}
