@@ -1,12 +1,12 @@
 // The reader's refusals, each on plan E's file with one change.
-use crate::example::BYTES;
-use crate::example::lay_changed;
-use crate::example::read_changed;
 use plan::edition::Edition;
 use planfile::lookup::name_of;
 use planfile::reader::Reading;
 use planfile::reader::read;
 use report::answers::read_number;
+use report::example::BYTES;
+use report::example::lay_changed;
+use report::example::read_changed;
 use report::text::end_line;
 use report::text::part;
 use report::text::print;

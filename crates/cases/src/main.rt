@@ -1,28 +1,27 @@
 // The cases of the rules besides P1 to P12: each refusal of each call that has it, and the largest file.
-mod example;
 mod files;
 mod largest;
 mod plans;
 mod runs;
 
-use crate::example::BYTES;
-use crate::example::FIRST_DEADLINE;
-use crate::example::FIRST_GRADE;
-use crate::example::FIRST_JOB;
-use crate::example::FIRST_NAME;
-use crate::example::FIRST_ROW;
-use crate::example::FIRST_SIZE;
-use crate::example::JOB_COUNT;
-use crate::example::LAST_ROW_UNITS;
-use crate::example::RATE_D;
-use crate::example::RATE_N;
-use crate::example::ROW_COUNT;
-use crate::example::ROW_INTERVAL;
-use crate::example::ROW_NAME;
-use crate::example::ROW_UNITS;
-use crate::example::SECOND_DEADLINE;
-use crate::example::SECOND_NAME;
-use crate::example::SECOND_ROW_INTERVAL;
+use report::example::BYTES;
+use report::example::FIRST_DEADLINE;
+use report::example::FIRST_GRADE;
+use report::example::FIRST_JOB;
+use report::example::FIRST_NAME;
+use report::example::FIRST_ROW;
+use report::example::FIRST_SIZE;
+use report::example::JOB_COUNT;
+use report::example::LAST_ROW_UNITS;
+use report::example::RATE_D;
+use report::example::RATE_N;
+use report::example::ROW_COUNT;
+use report::example::ROW_INTERVAL;
+use report::example::ROW_NAME;
+use report::example::ROW_UNITS;
+use report::example::SECOND_DEADLINE;
+use report::example::SECOND_NAME;
+use report::example::SECOND_ROW_INTERVAL;
 
 fn refused_bytes() {
     files::cut(b"empty file:", 0);

@@ -1,6 +1,4 @@
 // What writer, judge, slack and start answer on plan E with one change.
-use crate::example::BYTES;
-use crate::example::read_changed;
 use dispatch::start::start;
 use judge::figure::slack;
 use judge::judge;
@@ -10,6 +8,8 @@ use planwriter::writer::write;
 use report::answers::put_slack;
 use report::answers::put_verdict;
 use report::answers::put_written;
+use report::example::BYTES;
+use report::example::read_changed;
 use report::text::end_line;
 use report::text::print;
 use report::text::put_word;

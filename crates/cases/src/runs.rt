@@ -1,5 +1,4 @@
 // What step and outcome answer on runs of plan E.
-use crate::example::read_changed;
 use dispatch::Run;
 use dispatch::outcome::outcome;
 use dispatch::step::step;
@@ -8,6 +7,7 @@ use plan::kinds::Plan;
 use plan::kinds::Slots;
 use report::answers::put_outcome;
 use report::answers::put_step;
+use report::example::read_changed;
 use report::text::end_line;
 use report::text::print;
 use report::text::put_word;

@@ -1,5 +1,6 @@
-// Answers of the calls as lines of text and as checksums, for the programs that print them.
+// What the programs that test share: answers of the calls as lines of text and as checksums, and plan E as a file.
 pub mod answers;
 pub mod checksum;
+pub mod example;
 pub mod marks;
 pub mod text;

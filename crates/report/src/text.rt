@@ -73,6 +73,14 @@ pub fn part(bytes: &[u8], length: usize) -> &[u8] {
     &bytes[..length]
 }
 
+// What follows the first bytes; nothing where they are not there.
+pub fn tail(bytes: &[u8], from: usize) -> &[u8] {
+    if bytes.len() < from {
+        return &bytes[0..0];
+    }
+    &bytes[from..]
+}
+
 // Writes so much of a text to standard output.
 pub fn print(text: &[u8], length: usize) -> bool {
     io::write_all(STDOUT_FILENO, part(text, length))

@@ -2,7 +2,6 @@
 use crate::numbers::byte_at;
 use crate::numbers::eight;
 use crate::numbers::four;
-use crate::numbers::tail;
 use crate::numbers::two;
 use dispatch::Run;
 use plan::edition::Edition;
@@ -12,6 +11,7 @@ use plan::kinds::Plan;
 use plan::kinds::Rate;
 use plan::kinds::Slots;
 use plan::kinds::Units;
+use report::text::tail;
 
 const JOB_BYTES: usize = 25;
 

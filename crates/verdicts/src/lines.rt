@@ -5,7 +5,6 @@ use crate::counts::count_step;
 use crate::numbers::after;
 use crate::numbers::lesser;
 use crate::numbers::narrow;
-use crate::numbers::tail;
 use crate::numbers::two;
 use dispatch::Run;
 use dispatch::outcome::outcome;
@@ -48,6 +47,7 @@ use report::text::put_named;
 use report::text::put_next_number;
 use report::text::put_number;
 use report::text::put_word;
+use report::text::tail;
 
 // Positions far beyond any count.
 const FAR: usize = 4_294_967_296;

@@ -25,7 +25,6 @@ use crate::lines::start_line;
 use crate::lines::writer_line;
 use crate::numbers::byte_at;
 use crate::numbers::four;
-use crate::numbers::tail;
 use crate::numbers::two;
 use dispatch::Run;
 use dispatch::start::start;
@@ -41,6 +40,7 @@ use report::marks::mark_from;
 use report::marks::mark_output;
 use report::text::part;
 use report::text::print;
+use report::text::tail;
 
 const FILE: u8 = 1;
 

@@ -1,4 +1,5 @@
-// Numbers and parts of a record's bytes. Numbers have their highest byte first, and every byte past the end is 0.
+// Numbers of a record's bytes. Numbers have their highest byte first, and every byte past the end is 0.
+use report::text::tail;
 ghost use Prim.Native.Nat.{_≤_};
 
 pub fn byte_at(bytes: &[u8], at: usize) -> u8 {
@@ -19,14 +20,6 @@ pub fn four(bytes: &[u8]) -> u32 {
 
 pub fn eight(bytes: &[u8]) -> u64 {
     4_294_967_296 * four(bytes) as u64 + four(tail(bytes, 4)) as u64
-}
-
-// What follows the first bytes; nothing where they are not there.
-pub fn tail(bytes: &[u8], from: usize) -> &[u8] {
-    if bytes.len() < from {
-        return &bytes[0..0];
-    }
-    &bytes[from..]
 }
 
 pub fn lesser(a: usize, b: usize) -> usize

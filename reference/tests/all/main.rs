@@ -1,5 +1,6 @@
 //! The tests of the reference, one file for each call or group of cases.
 
+mod bad_input;
 mod cases;
 mod common;
 mod floor;

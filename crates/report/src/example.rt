@@ -1,7 +1,7 @@
 // Plan E as a file, and what its changes read as.
+use crate::text::put_word;
 use planfile::reader::Reading;
 use planfile::reader::read;
-use report::text::put_word;
 
 pub const BYTES: usize = 116;
 
