@@ -6,13 +6,11 @@ use plan::kinds::HI;
 use plan::kinds::Plan;
 use plan::kinds::Units;
 use plan::refusal::UNSOUND;
-ghost use mathlib.Core.Path.{_≡_};
-ghost use Rattle.dispatch.specs.Step;
-ghost use Rattle.dispatch.specs.Answers.{ending};
+ghost use Rattle.dispatch.specs.Answers.{Ends};
 
 // The outcome of the job at a position.
 pub fn outcome(p: Plan, run: Run, position: usize) -> Outcome
-    ensures { λ r. ⌜ ending r ≡ Step.outcome p run position ⌝ }
+    ensures { λ r. ⌜ Ends p run position r ⌝ }
 {
     if !slot_sound(p, run) {
         return Outcome::Refused(UNSOUND);

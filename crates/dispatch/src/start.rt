@@ -11,9 +11,7 @@ ghost use mathlib.Core.Path.{_≡_};
 ghost use mathlib.Core.Bool.{false};
 ghost use lib.ListN.{replicate};
 ghost use Rattle.plan.specs.Edition.{mostJobs};
-ghost use Rattle.judge.specs.Verdict.{judged};
-ghost use Rattle.judge.specs.Answers.{report};
-ghost use Rattle.dispatch.specs.Step.{started, noRun, startFrom};
+ghost use Rattle.dispatch.specs.Answers.{Starts};
 
 // What a start hands back; beside a refusal stands no run, which is all zeros.
 pub struct Started {
@@ -36,7 +34,7 @@ fn fresh(clock: Slots) -> Run
 
 // Judges a plan, and starts its run if it is accepted.
 pub fn start(p: Plan, table: &[u32]) -> Started
-    ensures { λ r. ⌜ (report (r .verdict) ≡ judged p (now (table .entry))) × (r .run ≡ startFrom (judged p (now (table .entry))) (started p) noRun) ⌝ }
+    ensures { λ r. ⌜ Starts p (now (table .entry)) r ⌝ }
 {
     let verdict = judge(p, table);
     if !is_accepted(verdict) {

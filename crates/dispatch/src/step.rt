@@ -12,8 +12,7 @@ use plan::refusal::SPEED_ABOVE_NORMAL;
 use plan::refusal::UNSOUND;
 use plan::rules::counted_of;
 ghost use mathlib.Core.Path.{_≡_};
-ghost use Rattle.dispatch.specs.Step.{stepped};
-ghost use Rattle.dispatch.specs.Answers.{report};
+ghost use Rattle.dispatch.specs.Answers.{Steps};
 ghost use Rattle.dispatch.specs.declared.answers.Answer.the-variants as answer;
 
 // What a slot's call hands back; a refusal stands beside the run as it was.
@@ -34,7 +33,7 @@ fn refused(number: u8, run: Run) -> Stepped
 
 // Carries one slot at speed v. The grants go into the lent row, a place for each job.
 pub fn step(p: Plan, table: &[u32], run: Run, v: u16, grants: &mut [u32]) -> Stepped
-    ensures { λ r. ⌜ record { answer = report (r .answer); run = r .run; grants = now (grants .exit) } ≡ stepped p (now (table .entry)) run v (now (grants .entry)) ⌝ }
+    ensures { λ r. ⌜ Steps p (now (table .entry)) run v (now (grants .entry)) r (now (grants .exit)) ⌝ }
 {
     if !slot_sound(p, run) {
         return refused(UNSOUND, run);

@@ -25,9 +25,9 @@ ghost use Rattle.plan.specs.Edition.{mostJobs, mostIntervals, places};
 ghost use Rattle.plan.specs.Boundaries.{boundaries, intervals};
 ghost use Rattle.judge.specs.Constraints.{mostAtPlace, mostSide};
 ghost use Rattle.judge.specs.Verdict.{constraintFault};
-ghost use Rattle.judge.specs.Slack.{slackOf, leastSlack, unless, slackFigure};
+ghost use Rattle.judge.specs.Slack.{leastSlack, unless};
 ghost use Rattle.judge.specs.Columns.{sooner, columnTaken};
-ghost use Rattle.judge.specs.Answers.{figure};
+ghost use Rattle.judge.specs.Answers.{figure, Measures, MeasuresPair};
 
 // What the floor carries less what is asked of it.
 fn slack_from(carries: Units, asked: Units) -> i64
@@ -50,7 +50,7 @@ fn time_at(times: &[u32], at: usize) -> u32
 // The slack of an interval and a deadline, for any plan, table, interval and time: what the floor carries from the interval's start
 // to the deadline, less the HI units between them of jobs with deadline at most that. No sum of 32 bits and no product here passes 62 bits.
 pub fn slack_of(p: Plan, table: &[u32], interval: usize, deadline: Slots) -> i64
-    ensures { λ r. ⌜ r ≡ slackOf p (now (table .entry)) interval (deadline .0) ⌝ }
+    ensures { λ r. ⌜ MeasuresPair p (now (table .entry)) interval deadline r ⌝ }
 {
     let b = boundaries_of(p);
     let times = b.times;
@@ -148,7 +148,7 @@ fn slack_at(p: Plan, table: &[u32], times: &[u32]) -> Slack
 
 // The slack figure of a plan and its table.
 pub fn slack(p: Plan, table: &[u32]) -> Slack
-    ensures { λ r. ⌜ figure r ≡ slackFigure p (now (table .entry)) ⌝ }
+    ensures { λ r. ⌜ Measures p (now (table .entry)) r ⌝ }
 {
     let hand = in_hand(p, table);
     if !is_accepted(hand) {

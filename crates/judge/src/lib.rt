@@ -19,8 +19,8 @@ ghost use Prim.Native.Nat.{_<_, _≤_};
 ghost use lib.ListN.{length};
 ghost use Rattle.plan.specs.Edition.{places};
 ghost use Rattle.plan.specs.Boundaries.{boundaries};
-ghost use Rattle.judge.specs.Verdict.{orElse, constraintFault, floorFault, judged};
-ghost use Rattle.judge.specs.Answers.{report};
+ghost use Rattle.judge.specs.Verdict.{orElse, constraintFault, floorFault};
+ghost use Rattle.judge.specs.Answers.{report, Judges};
 
 // The verdict on a plan in hand that is sound, with its boundaries.
 fn judge_at(p: Plan, table: &[u32], times: &[u32]) -> Verdict
@@ -37,7 +37,7 @@ fn judge_at(p: Plan, table: &[u32], times: &[u32]) -> Verdict
 
 // The verdict on a plan and its table.
 pub fn judge(p: Plan, table: &[u32]) -> Verdict
-    ensures { λ r. ⌜ report r ≡ judged p (now (table .entry)) ⌝ }
+    ensures { λ r. ⌜ Judges p (now (table .entry)) r ⌝ }
 {
     let hand = in_hand(p, table);
     if !is_accepted(hand) {

@@ -9,10 +9,7 @@ use judge::answers::Verdict;
 use judge::answers::is_accepted;
 use plan::kinds::Plan;
 ghost use mathlib.Core.Path.{_≡_};
-ghost use Rattle.judge.specs.Verdict.{judged};
-ghost use Rattle.judge.specs.Answers.{report};
-ghost use Rattle.dispatch.specs.Step.{startIn, stepped};
-ghost use Rattle.dispatch.specs.Answers;
+ghost use Rattle.lent.specs.Answers.{StepsIn, StartsIn};
 
 // The two parts of what a step hands back.
 fn run_of(s: Stepped) -> Run
@@ -29,7 +26,7 @@ fn answer_of(s: Stepped) -> Answer
 
 // Carries one slot at speed v on a lent run record.
 pub fn step_in(run: &mut Run, p: Plan, table: &[u32], v: u16, grants: &mut [u32]) -> Answer
-    ensures { λ r. ⌜ record { answer = Answers.report r; run = now (run .exit); grants = now (grants .exit) } ≡ stepped p (now (table .entry)) (now (run .entry)) v (now (grants .entry)) ⌝ }
+    ensures { λ r. ⌜ StepsIn (now (run .entry)) p (now (table .entry)) v (now (grants .entry)) r (now (run .exit)) (now (grants .exit)) ⌝ }
 {
     let was = *run;
     let s = step(p, table, was, v, grants);
@@ -53,7 +50,7 @@ fn verdict_of(s: Started) -> Verdict
 
 // A start beside a record that was there: after a refusal that record stands in the place of the run.
 fn start_over(p: Plan, table: &[u32], was: Run) -> Started
-    ensures { λ r. ⌜ (report (r .verdict) ≡ judged p (now (table .entry))) × (r .run ≡ startIn p (now (table .entry)) was) ⌝ }
+    ensures { λ r. ⌜ StartsIn was p (now (table .entry)) (r .verdict) (r .run) ⌝ }
 {
     let s = start(p, table);
     let verdict = s.verdict;
@@ -69,7 +66,7 @@ fn start_over(p: Plan, table: &[u32], was: Run) -> Started
 
 // Judges a plan, and starts its run in a lent record if it is accepted.
 pub fn start_in(run: &mut Run, p: Plan, table: &[u32]) -> Verdict
-    ensures { λ r. ⌜ (report r ≡ judged p (now (table .entry))) × (now (run .exit) ≡ startIn p (now (table .entry)) (now (run .entry))) ⌝ }
+    ensures { λ r. ⌜ StartsIn (now (run .entry)) p (now (table .entry)) r (now (run .exit)) ⌝ }
 {
     let was = *run;
     let s = start_over(p, table, was);

@@ -1,10 +1,14 @@
 -- What a line's call leaves: its answer and the lent buffer.
+use mathlib.Core.Path.{_≡_}
 use mathlib.Core.Bool.{cond}
 use mathlib.Core.List.{List, _++_}
 use Prim.Native.Nat.{ℕ}
 use lib.Dec.{ltb}
 use lib.ListN.{length, drop}
 use Rattle.plan.specs.Refusal.{bufferTooShort}
+use Rattle.plan.specs.declared.kinds.Name.{Name}
+use Rattle.dispatch.specs.declared.answers.Outcome.{Outcome}
+use Rattle.dispatch.specs.Answers.{ending}
 use Rattle.dispatch.specs.Step.{Ending, met, discarded, missed, stillOpen, refused}
 use Rattle.lines.specs.Text.{text}
 use Rattle.lines.specs.Lines.{outcomeLine}
@@ -42,3 +46,12 @@ outcomePrinted x discarded carried out = printed (outcomeLine x (text "discarded
 outcomePrinted x missed carried out = printed (outcomeLine x (text "missed") carried) out
 outcomePrinted x stillOpen carried out = printed (outcomeLine x (text "open") carried) out
 outcomePrinted x (refused number) carried out = refusal number out
+
+-- What the call of a line promises: its answer and the buffer at exit are those of this line, printed.
+abbrev pub Prints : List ℕ → List ℕ → Printed → List ℕ → Type 0
+Prints line out r left = record { answer = answer r; out = left } ≡ printed line out
+
+-- What `outcome_line` promises: the same of a transfer's line, or the number of a refused outcome.
+abbrev pub PrintsOutcome : Name → Outcome → ℕ → List ℕ → Printed → List ℕ → Type 0
+PrintsOutcome name outcome carried out r left =
+    record { answer = answer r; out = left } ≡ outcomePrinted (name .0) (ending outcome) carried out

@@ -17,11 +17,9 @@ use plan::kinds::Name;
 use plan::kinds::Plan;
 use plan::kinds::Slots;
 use plan::refusal::BUFFER_TOO_SHORT;
-ghost use mathlib.Core.Path.{_≡_};
 ghost use Prim.Native.Nat.{_≤_};
 ghost use lib.ListN.{length};
-ghost use Rattle.dispatch.specs.Answers.{ending};
-ghost use Rattle.lines.specs.Answers.{answer, printed, outcomePrinted};
+ghost use Rattle.lines.specs.Answers.{Prints, PrintsOutcome};
 ghost use Rattle.lines.specs.Lines.{slotHeader, outcomeHeader, strayLine, refusedLine, slotLine, refusedSlotLine, outcomeLine};
 
 // No line is longer: two numbers with a space each, the mode, a grant for every job, and the line feed.
@@ -38,7 +36,7 @@ pub enum Printed {
 
 // Puts a line into a buffer, if there is room for all of it.
 fn print(line: &[u8], out: &mut [u8]) -> Printed
-    ensures { λ r. ⌜ record { answer = answer r; out = now (out .exit) } ≡ printed (now (line .entry)) (now (out .entry)) ⌝ }
+    ensures { λ r. ⌜ Prints (now (line .entry)) (now (out .entry)) r (now (out .exit)) ⌝ }
 {
     if out.len() < line.len() {
         return Printed::Refused(BUFFER_TOO_SHORT);
@@ -49,28 +47,28 @@ fn print(line: &[u8], out: &mut [u8]) -> Printed
 
 // What stands above the slots.
 pub fn slot_header(out: &mut [u8]) -> Printed
-    ensures { λ r. ⌜ record { answer = answer r; out = now (out .exit) } ≡ printed slotHeader (now (out .entry)) ⌝ }
+    ensures { λ r. ⌜ Prints slotHeader (now (out .entry)) r (now (out .exit)) ⌝ }
 {
     print(b"slot speed mode grants\n", out)
 }
 
 // What stands above the outcomes.
 pub fn outcome_header(out: &mut [u8]) -> Printed
-    ensures { λ r. ⌜ record { answer = answer r; out = now (out .exit) } ≡ printed outcomeHeader (now (out .entry)) ⌝ }
+    ensures { λ r. ⌜ Prints outcomeHeader (now (out .entry)) r (now (out .exit)) ⌝ }
 {
     print(b"job outcome carried\n", out)
 }
 
 // What an odd last byte prints.
 pub fn stray_line(out: &mut [u8]) -> Printed
-    ensures { λ r. ⌜ record { answer = answer r; out = now (out .exit) } ≡ printed strayLine (now (out .entry)) ⌝ }
+    ensures { λ r. ⌜ Prints strayLine (now (out .entry)) r (now (out .exit)) ⌝ }
 {
     print(b"stray byte\n", out)
 }
 
 // What a refused plan prints.
 pub fn refused_line(number: u8, out: &mut [u8]) -> Printed
-    ensures { λ r. ⌜ record { answer = answer r; out = now (out .exit) } ≡ printed (refusedLine number) (now (out .entry)) ⌝ }
+    ensures { λ r. ⌜ Prints (refusedLine number) (now (out .entry)) r (now (out .exit)) ⌝ }
 {
     let mut line = [0u8; LONGEST_LINE];
     let mut at = add(&mut line, 0, b"refused ");
@@ -88,7 +86,7 @@ pub fn slot_line(
     grants: &[u32],
     out: &mut [u8],
 ) -> Printed
-    ensures { λ r. ⌜ record { answer = answer r; out = now (out .exit) } ≡ printed (slotLine (clock .0) speed slow p (now (grants .entry))) (now (out .entry)) ⌝ }
+    ensures { λ r. ⌜ Prints (slotLine (clock .0) speed slow p (now (grants .entry))) (now (out .entry)) r (now (out .exit)) ⌝ }
 {
     let mut line = [0u8; LONGEST_LINE];
     let mut at = add_times(&mut line, clock, speed);
@@ -101,7 +99,7 @@ pub fn slot_line(
 
 // The line of a refused slot.
 pub fn refused_slot_line(clock: Slots, speed: u16, number: u8, out: &mut [u8]) -> Printed
-    ensures { λ r. ⌜ record { answer = answer r; out = now (out .exit) } ≡ printed (refusedSlotLine (clock .0) speed number) (now (out .entry)) ⌝ }
+    ensures { λ r. ⌜ Prints (refusedSlotLine (clock .0) speed number) (now (out .entry)) r (now (out .exit)) ⌝ }
 {
     let mut line = [0u8; LONGEST_LINE];
     let mut at = add_times(&mut line, clock, speed);
@@ -114,7 +112,7 @@ pub fn refused_slot_line(clock: Slots, speed: u16, number: u8, out: &mut [u8]) -
 // The line of a transfer that ended as a word says. No such word is longer than a number.
 fn word_line(name: Name, word: &[u8], carried: u32, out: &mut [u8]) -> Printed
     requires { ⌜ length (now word) ≤ 10 ⌝ }
-    ensures { λ r. ⌜ record { answer = answer r; out = now (out .exit) } ≡ printed (outcomeLine (name .0) (now (word .entry)) carried) (now (out .entry)) ⌝ }
+    ensures { λ r. ⌜ Prints (outcomeLine (name .0) (now (word .entry)) carried) (now (out .entry)) r (now (out .exit)) ⌝ }
 {
     let mut line = [0u8; LONGEST_LINE];
     let mut at = add_name(&mut line, 0, name);
@@ -128,7 +126,7 @@ fn word_line(name: Name, word: &[u8], carried: u32, out: &mut [u8]) -> Printed
 
 // The line of a transfer. A refused outcome has no line: its number is the answer.
 pub fn outcome_line(name: Name, outcome: Outcome, carried: u32, out: &mut [u8]) -> Printed
-    ensures { λ r. ⌜ record { answer = answer r; out = now (out .exit) } ≡ outcomePrinted (name .0) (ending outcome) carried (now (out .entry)) ⌝ }
+    ensures { λ r. ⌜ PrintsOutcome name outcome carried (now (out .entry)) r (now (out .exit)) ⌝ }
 {
     match outcome {
         Outcome::Met => word_line(name, b"met", carried, out),

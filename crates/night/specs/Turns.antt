@@ -1,4 +1,5 @@
 -- The night as turns, each of which takes some bytes and prints at most one line.
+use mathlib.Core.Path.{_≡_}
 use mathlib.Core.Bool.{Bool, true, false, cond}
 use mathlib.Core.List.{List, [], _∷_, _++_}
 use Prim.Native.Nat.{ℕ, zero, suc, _+_}
@@ -6,14 +7,16 @@ use lib.Dec.{ltb}
 use lib.ListN.{take, drop}
 use Rattle.plan.specs.Rules.{counted}
 use Rattle.plan.specs.declared.kinds.Plan.{Plan}
-use Rattle.planfile.specs.Reading.{Left}
+use Rattle.planfile.specs.Reading.{Left, reader}
 use Rattle.judge.specs.Verdict.{Report}
 use Rattle.dispatch.specs.Step.{started, noRun}
 use Rattle.dispatch.specs.declared.Run.{Run}
+use Rattle.lines.specs.Answers.{Prints}
 use Rattle.lines.specs.Lines.{slotHeader, outcomeHeader, strayLine, refusedLine}
 use Rattle.night.specs.declared.Phase.{Phase}
 use Rattle.night.specs.declared.Phase.the-variants.{Slots, Closing, Job, Over}
 use Rattle.night.specs.declared.Night.{Night}
+use Rattle.night.specs.declared.Turn.{Turn}
 use Rattle.night.specs.Output.{planFault, speed, slotOf, slotText, jobText}
 
 -- A turn: the night after it, and what it prints.
@@ -85,3 +88,13 @@ unfoldable pub played : ℕ → Night → List ℕ → List ℕ → List ℕ
 played zero n table speeds = []
 played (suc turns) n table speeds =
     let t = turned n table (take 2 speeds) in t .line ++ played turns (t .night) table (drop 2 speeds)
+
+-- What a turn promises: the night after it, and its line printed into the buffer.
+abbrev pub Takes : Turned → List ℕ → Turn → List ℕ → Type 0
+Takes t out r left = (r .night ≡ t .night) × Prints (t .line) out (r .printed) left
+
+-- What the first turn promises: the same, and the table as the reader leaves it.
+abbrev pub Opens : List ℕ → List ℕ → List ℕ → Turn → List ℕ → List ℕ → Type 0
+Opens file table out r table-left left =
+    (r .night ≡ opened (reader file table) .night) × (table-left ≡ reader file table .table)
+    × Prints (opened (reader file table) .line) out (r .printed) left

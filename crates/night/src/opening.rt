@@ -20,11 +20,10 @@ use planfile::reader::Answer;
 use planfile::reader::read;
 ghost use mathlib.Core.Path.{_≡_};
 ghost use Rattle.judge.specs.Verdict.{judged};
-ghost use Rattle.planfile.specs.Reading.{reader};
-ghost use Rattle.dispatch.specs.Step.{noRun, started};
-ghost use Rattle.lines.specs.Answers.{answer, printed};
+ghost use Rattle.dispatch.specs.Step.{noRun};
+ghost use Rattle.lines.specs.Answers.{Prints};
 ghost use Rattle.lines.specs.Lines.{refusedLine};
-ghost use Rattle.night.specs.Turns.{night, Turned, openedBy, opened};
+ghost use Rattle.night.specs.Turns.{night, openedBy, Takes, Opens};
 ghost use Rattle.night.specs.declared.Phase.the-variants.{Over};
 
 // No run: what stands beside a refused plan.
@@ -42,7 +41,7 @@ fn no_run() -> Run
 
 // A plan is refused, and the night is over.
 fn refuse(p: Plan, number: u8, out: &mut [u8]) -> Turn
-    ensures { λ r. ⌜ (r .night ≡ night Over p noRun) × (record { answer = answer (r .printed); out = now (out .exit) } ≡ printed (refusedLine number) (now (out .entry))) ⌝ }
+    ensures { λ r. ⌜ (r .night ≡ night Over p noRun) × (Prints (refusedLine number) (now (out .entry)) (r .printed) (now (out .exit))) ⌝ }
 {
     let printed = refused_line(number, out);
     let run = no_run();
@@ -59,7 +58,7 @@ fn refuse(p: Plan, number: u8, out: &mut [u8]) -> Turn
 
 // A plan that was read is judged: its run starts, or it is refused.
 fn judge_and_start(p: Plan, table: &[u32], out: &mut [u8]) -> Turn
-    ensures { λ r. ⌜ (r .night ≡ openedBy (judged p (now (table .entry))) p .night) × (record { answer = answer (r .printed); out = now (out .exit) } ≡ printed (openedBy (judged p (now (table .entry))) p .line) (now (out .entry))) ⌝ }
+    ensures { λ r. ⌜ Takes (openedBy (judged p (now (table .entry))) p) (now (out .entry)) r (now (out .exit)) ⌝ }
 {
     let begun = start(p, table);
     let verdict = begun.verdict;
@@ -88,7 +87,7 @@ fn judge_and_start(p: Plan, table: &[u32], out: &mut [u8]) -> Turn
 
 // Reads a plan file into the lent table, judges the plan and starts its run. The line is the header of the slots, or the refusal.
 pub fn open(file: &[u8], table: &mut [u32], out: &mut [u8]) -> Turn
-    ensures { λ r. ⌜ (r .night ≡ opened (reader (now (file .entry)) (now (table .entry))) .night) × (now (table .exit) ≡ reader (now (file .entry)) (now (table .entry)) .table) × (record { answer = answer (r .printed); out = now (out .exit) } ≡ printed (opened (reader (now (file .entry)) (now (table .entry))) .line) (now (out .entry))) ⌝ }
+    ensures { λ r. ⌜ Opens (now (file .entry)) (now (table .entry)) (now (out .entry)) r (now (table .exit)) (now (out .exit)) ⌝ }
 {
     let reading = read(file, table);
     let said = reading.answer;

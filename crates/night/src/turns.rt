@@ -22,15 +22,15 @@ ghost use Prim.Native.Nat.{_<_};
 ghost use Rattle.plan.specs.Rules.{name};
 ghost use Rattle.dispatch.specs.Dues.{carriedOf};
 ghost use Rattle.dispatch.specs.Answers.{ending};
-ghost use Rattle.lines.specs.Answers.{answer, printed};
+ghost use Rattle.lines.specs.Answers.{Prints};
 ghost use Rattle.lines.specs.Lines.{strayLine};
 ghost use Rattle.night.specs.Output.{slotOf, slotText, isRefused, jobText};
-ghost use Rattle.night.specs.Turns.{night, closes, slotTurn, afterJob, jobTurn, turned, reads, over};
+ghost use Rattle.night.specs.Turns.{night, closes, slotTurn, afterJob, jobTurn, turned, reads, over, Takes};
 ghost use Rattle.night.specs.declared.Phase.the-variants.{Slots, Closing};
 
 // A slot at a speed.
 fn serve(p: Plan, table: &[u32], run: Run, v: u16, out: &mut [u8]) -> Turn
-    ensures { λ r. ⌜ (r .night ≡ night Slots p (slotOf p (now (table .entry)) run v .run)) × (record { answer = answer (r .printed); out = now (out .exit) } ≡ printed (slotText p run v (slotOf p (now (table .entry)) run v .answer) (slotOf p (now (table .entry)) run v)) (now (out .entry))) ⌝ }
+    ensures { λ r. ⌜ (r .night ≡ night Slots p (slotOf p (now (table .entry)) run v .run)) × (Prints (slotText p run v (slotOf p (now (table .entry)) run v .answer) (slotOf p (now (table .entry)) run v)) (now (out .entry)) (r .printed) (now (out .exit))) ⌝ }
 {
     let mut grants = [0u32; Edition::MOST_JOBS];
     let stepped = step(p, table, run, v, &mut grants);
@@ -56,7 +56,7 @@ fn serve(p: Plan, table: &[u32], run: Run, v: u16, out: &mut [u8]) -> Turn
 
 // The speeds are over.
 fn close(p: Plan, run: Run, out: &mut [u8]) -> Turn
-    ensures { λ r. ⌜ (r .night ≡ closes p run .night) × (record { answer = answer (r .printed); out = now (out .exit) } ≡ printed (closes p run .line) (now (out .entry))) ⌝ }
+    ensures { λ r. ⌜ Takes (closes p run) (now (out .entry)) r (now (out .exit)) ⌝ }
 {
     let printed = outcome_header(out);
     let next = Night {
@@ -72,7 +72,7 @@ fn close(p: Plan, run: Run, out: &mut [u8]) -> Turn
 
 // An odd last byte.
 fn stray(p: Plan, run: Run, out: &mut [u8]) -> Turn
-    ensures { λ r. ⌜ (r .night ≡ night Closing p run) × (record { answer = answer (r .printed); out = now (out .exit) } ≡ printed strayLine (now (out .entry))) ⌝ }
+    ensures { λ r. ⌜ (r .night ≡ night Closing p run) × (Prints strayLine (now (out .entry)) (r .printed) (now (out .exit))) ⌝ }
 {
     let printed = stray_line(out);
     let next = Night {
@@ -94,7 +94,7 @@ fn wide(byte: u8) -> u16
 
 // What the bytes that came bring: a slot, an odd byte, or the end of the speeds.
 fn take_slot(p: Plan, table: &[u32], run: Run, bytes: &[u8], out: &mut [u8]) -> Turn
-    ensures { λ r. ⌜ (r .night ≡ slotTurn p (now (table .entry)) run (now (bytes .entry)) .night) × (record { answer = answer (r .printed); out = now (out .exit) } ≡ printed (slotTurn p (now (table .entry)) run (now (bytes .entry)) .line) (now (out .entry))) ⌝ }
+    ensures { λ r. ⌜ Takes (slotTurn p (now (table .entry)) run (now (bytes .entry))) (now (out .entry)) r (now (out .exit)) ⌝ }
 {
     if bytes.len() == 0 {
         return close(p, run, out);
@@ -158,7 +158,7 @@ fn next_job(p: Plan, i: usize) -> Phase
 
 // The line of a job's outcome; a refused outcome has none.
 fn job_line(p: Plan, run: Run, i: usize, out: &mut [u8]) -> Printed
-    ensures { λ r. ⌜ record { answer = answer r; out = now (out .exit) } ≡ printed (jobText p run i) (now (out .entry)) ⌝ }
+    ensures { λ r. ⌜ Prints (jobText p run i) (now (out .entry)) r (now (out .exit)) ⌝ }
 {
     let ended = outcome(p, run, i);
     if is_refused(ended) {
@@ -169,7 +169,7 @@ fn job_line(p: Plan, run: Run, i: usize, out: &mut [u8]) -> Printed
 
 // A job's outcome; then comes the next job's, if there is one.
 fn tell_job(p: Plan, run: Run, i: usize, out: &mut [u8]) -> Turn
-    ensures { λ r. ⌜ (r .night ≡ jobTurn p run i .night) × (record { answer = answer (r .printed); out = now (out .exit) } ≡ printed (jobTurn p run i .line) (now (out .entry))) ⌝ }
+    ensures { λ r. ⌜ Takes (jobTurn p run i) (now (out .entry)) r (now (out .exit)) ⌝ }
 {
     let printed = job_line(p, run, i, out);
     let next = Night {
@@ -185,7 +185,7 @@ fn tell_job(p: Plan, run: Run, i: usize, out: &mut [u8]) -> Turn
 
 // A turn of a night, with the bytes that came for it.
 pub fn advance(n: Night, table: &[u32], bytes: &[u8], out: &mut [u8]) -> Turn
-    ensures { λ r. ⌜ (r .night ≡ turned n (now (table .entry)) (now (bytes .entry)) .night) × (record { answer = answer (r .printed); out = now (out .exit) } ≡ printed (turned n (now (table .entry)) (now (bytes .entry)) .line) (now (out .entry))) ⌝ }
+    ensures { λ r. ⌜ Takes (turned n (now (table .entry)) (now (bytes .entry))) (now (out .entry)) r (now (out .exit)) ⌝ }
 {
     let phase = n.phase;
     let p = n.plan;

@@ -71,3 +71,11 @@ answerTold (answer.Refused number) = number ∷ []
 -- The reader's whole result: its answer, the plan and the table as it is left.
 abbrev pub readTold : Reading → List ℕ → rule.Left
 readTold r left = record { answer = answerTold (r .answer); plan = r .plan; table = left }
+
+-- What `read` promises: its answer, the plan and the table at exit are those that the reader leaves.
+abbrev pub Reads : List ℕ → List ℕ → Reading → List ℕ → Type 0
+Reads file table r left = readTold r left ≡ rule.reader file table
+
+-- What `name_of` promises of the part that it hands back.
+abbrev pub Shows : List ℕ → ℕ → List ℕ → Type 0
+Shows file position part = part ≡ rule.nameShown file position

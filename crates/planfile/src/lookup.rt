@@ -13,9 +13,9 @@ ghost use mathlib.Core.List.{List};
 ghost use Prim.Native.Nat.{ℕ, _≤_};
 ghost use lib.ListN.{length};
 ghost use Rattle.plan.specs.Edition.{mostJobs, mostIntervals};
-ghost use Rattle.planfile.specs.Reading.{allRows, readFile, nameShown};
+ghost use Rattle.planfile.specs.Reading.{allRows, readFile};
 ghost use Rattle.planfields.specs.Answers.{passedTold};
-ghost use Rattle.planfile.specs.Answers.{Distinct, onlyPassed, countOf};
+ghost use Rattle.planfile.specs.Answers.{Distinct, onlyPassed, countOf, Shows};
 
 const NAME_BYTES: usize = 8;
 
@@ -67,7 +67,7 @@ fn count_in(file: &[u8]) -> usize
 
 // The eight bytes of a job's name inside the file; an empty part for a refused file or a position not below the job count.
 pub fn name_of(file: &[u8], position: usize) -> &[u8]
-    ensures { λ r. ⌜ now r ≡ nameShown (now (file .entry)) position ⌝ }
+    ensures { λ r. ⌜ Shows (now (file .entry)) position (now r) ⌝ }
 {
     if count_in(file) <= position {
         return &file[0..0];

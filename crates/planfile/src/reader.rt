@@ -18,8 +18,8 @@ ghost use mathlib.Core.List.{[]};
 ghost use Prim.Native.Nat.{_≤_};
 ghost use lib.ListN.{length, replicate};
 ghost use Rattle.plan.specs.Edition.{mostJobs, mostIntervals, places};
-ghost use Rattle.planfile.specs.Reading.{allRows, readFile, leaves, reader};
-ghost use Rattle.planfile.specs.Answers.{Distinct, RowsAnswer, FillAnswer, readTold};
+ghost use Rattle.planfile.specs.Reading.{allRows, readFile, leaves};
+ghost use Rattle.planfile.specs.Answers.{Distinct, RowsAnswer, FillAnswer, readTold, Reads};
 
 pub enum Answer {
     Read,
@@ -130,7 +130,7 @@ fn read_whole(file: &[u8], table: &mut [u32]) -> Reading
 
 // Reads a plan file into the lent table.
 pub fn read(file: &[u8], table: &mut [u32]) -> Reading
-    ensures { λ r. ⌜ readTold r (now (table .exit)) ≡ reader (now (file .entry)) (now (table .entry)) ⌝ }
+    ensures { λ r. ⌜ Reads (now (file .entry)) (now (table .entry)) r (now (table .exit)) ⌝ }
 {
     if table.len() < Edition::PLACES {
         return Reading {

@@ -23,3 +23,7 @@ writtenTold (written.Refused number) = writing.refused number
 
 abbrev pub outputTold : Written → List ℕ → writing.Output
 outputTold r out = record { answer = writtenTold r; out = out }
+
+-- What `write` promises: its answer and the output at exit are those that the writer leaves.
+abbrev pub Writes : Plan → List ℕ → List ℕ → Written → List ℕ → Type 0
+Writes p table out r left = outputTold r left ≡ writing.writer p table out

@@ -16,8 +16,8 @@ ghost use lib.ListN.{length};
 ghost use lib.Seq.{sets};
 ghost use Rattle.plan.specs.Edition.{mostJobs, mostIntervals, jobLength};
 ghost use Rattle.plan.specs.Rules.{size};
-ghost use Rattle.planwriter.specs.Writing.{jobsBytes, rowsBytes, rowCount, body, written, writer};
-ghost use Rattle.planwriter.specs.Answers.{Writable, outputTold};
+ghost use Rattle.planwriter.specs.Writing.{jobsBytes, rowsBytes, rowCount, body, written};
+ghost use Rattle.planwriter.specs.Answers.{Writable, Writes};
 
 // The version byte and the length field; then both rates and the job count.
 const OPENING_BYTES: usize = 5;
@@ -104,7 +104,7 @@ fn put_file(out: &mut [u8], p: Plan, table: &[u32], rows: usize, follows: usize)
 
 // Writes the plan file of a sound plan and its table.
 pub fn write(p: Plan, table: &[u32], out: &mut [u8]) -> Written
-    ensures { λ r. ⌜ outputTold r (now (out .exit)) ≡ writer p (now (table .entry)) (now (out .entry)) ⌝ }
+    ensures { λ r. ⌜ Writes p (now (table .entry)) (now (out .entry)) r (now (out .exit)) ⌝ }
 {
     if table.len() < Edition::PLACES {
         return Written::Refused(BUFFER_TOO_SHORT);
