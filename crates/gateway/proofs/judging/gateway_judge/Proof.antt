@@ -1,0 +1,67 @@
+-- `gateway::judging::gateway_judge` meets its contract: 22, and else the verdict with its place.
+use mathlib.Core.Path.{_≡_, refl, sym, _∙_, ap}
+use native.Mathlib.Omega.{arith}
+use Prim.Native.Nat.{_≤_}
+use lib.ListN.{length, length-set}
+use Rattle.gateway.specs.Memory.{planWords, placeWords}
+use Rattle.gateway.specs.Calls.{judgeCall}
+use Rattle.gateway.proofs.Laws.{both-long}
+use borrow.Author.Needs.{needs}
+use Rattle.gateway.proofs.judging.gateway_judge.Statement.{statement}
+use Rattle.gateway.proofs.judging.gateway_judge.Tie as tie
+
+-- Past the first test both buffers are long enough.
+long : (c : tie.Else1) → (planWords ≤ length (c .before .before .before .before .args .plan .now)) × (placeWords ≤ length (c .before .before .before .before .args .place .now))
+long c = both-long (c .before .before .before .before .args .plan .now) (c .before .before .before .before .args .place .now) planWords placeWords (c .if1 .left)
+
+cast-result : tie.Need-cast-result
+cast-result c = search needs
+
+returns : tie.Need-returns
+unfolding judgeCall
+returns c = rw (c .if1 .taken) refl
+
+plan-of-requires : tie.Need-plan-of-requires
+plan-of-requires c κs = long c .0
+
+judge-requires : tie.Need-judge-requires
+judge-requires c κs = search needs
+
+first-of-requires : tie.Need-first-of-requires
+first-of-requires c κs = search needs
+
+slice-write-place : tie.Need-slice-write-place
+slice-write-place c = omega (arith, long (c .before .before .before) .1)
+
+second-of-requires : tie.Need-second-of-requires
+second-of-requires c κs = search needs
+
+slice-write-place-2 : tie.Need-slice-write-place-2
+slice-write-place-2 c = simp length-set (omega (arith, long (c .before .before .before .before) .1))
+
+number-of-requires : tie.Need-number-of-requires
+number-of-requires c κs = search needs
+
+same-length : tie.Need-same-length
+same-length c = search needs
+
+returns-2 : tie.Need-returns-2
+unfolding judgeCall
+returns-2 c =
+    rw (c .before .before .before .before .before .if1 .left, ← (c .before .before .before .before .plan-of .ensures), ← (c .before .before .before .judge .ensures), ← (c .number-of .ensures), ← (c .before .second-of .ensures), ← (c .before .before .first-of .ensures)) refl
+
+pub gateway-judge-spec : {M : Type 1} → statement M
+gateway-judge-spec =
+    tie.close
+    (tie.spec
+    cast-result
+    returns
+    plan-of-requires
+    judge-requires
+    first-of-requires
+    slice-write-place
+    second-of-requires
+    slice-write-place-2
+    number-of-requires
+    same-length
+    returns-2)

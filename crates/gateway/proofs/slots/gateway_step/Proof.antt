@@ -1,0 +1,84 @@
+-- `gateway::slots::gateway_step` meets its contract: 22 and 21 in turn, and else the slot's call.
+use mathlib.Core.Path.{_≡_, refl, sym, _∙_, ap}
+use Prim.Native.Nat.{_≤_}
+use borrow.Author.Tests.{not-true, not-false}
+use lib.ListN.{length}
+use Rattle.dispatch.specs.Step.{Slot}
+use Rattle.gateway.specs.Memory.{planWords, runWords}
+use Rattle.gateway.specs.Calls.{stepCall, slotWords}
+use Rattle.gateway.proofs.Laws.{both-long}
+use borrow.Author.Needs.{needs}
+use Rattle.gateway.proofs.slots.gateway_step.Statement.{statement}
+use Rattle.gateway.proofs.slots.gateway_step.Tie as tie
+
+-- Past the first test both buffers are long enough.
+long : (c : tie.Else1)
+    → (planWords ≤ length (c .before .before .before .before .before .args .plan .now)) × (runWords ≤ length (c .before .before .before .before .before .args .run .now))
+long c =
+    both-long (c .before .before .before .before .before .args .plan .now) (c .before .before .before .before .before .args .run .now) planWords runWords (c .if1 .left)
+
+cast-result : tie.Need-cast-result
+cast-result c = search needs
+
+returns : tie.Need-returns
+unfolding stepCall
+returns c = rw (c .if1 .taken) refl
+
+marks-hold-requires : tie.Need-marks-hold-requires
+marks-hold-requires c κs = long (c .before) .1
+
+cast-result-2 : tie.Need-cast-result-2
+cast-result-2 c = search needs
+
+same-length : tie.Need-same-length
+same-length c = search needs
+
+returns-2 : tie.Need-returns-2
+unfolding stepCall
+returns-2 c =
+    rw (c .before .before .before .if1 .left, sym (c .before .marks-hold .ensures) ∙ not-true _ (c .if2 .taken)) refl
+
+plan-of-requires : tie.Need-plan-of-requires
+plan-of-requires c κs = long (c .before .before .before) .0
+
+run-of-requires : tie.Need-run-of-requires
+run-of-requires c κs = long (c .before .before .before .before .before) .1
+
+step-requires : tie.Need-step-requires
+step-requires c κs = search needs
+
+put-run-requires : tie.Need-put-run-requires
+put-run-requires c κs = long (c .before .before .before .before .before .before .before .before .before .before .before .before) .1
+
+answer-number-requires : tie.Need-answer-number-requires
+answer-number-requires c κs = search needs
+
+same-length-2 : tie.Need-same-length-2
+same-length-2 c = search needs
+
+same-length-3 : tie.Need-same-length-3
+same-length-3 c = search needs
+
+returns-3 : tie.Need-returns-3
+unfolding stepCall
+returns-3 c =
+    rw (c .before .before .before .before .before .before .before .before .before .before .before .before .before .before .before .before .if1 .left, sym (c .before .before .before .before .before .before .before .before .before .before .before .before .before .before .marks-hold .ensures) ∙ not-false _ (c .before .before .before .before .before .before .before .before .before .before .before .before .before .if2 .left), ← (c .before .before .before .before .before .before .before .before .before .before .before .before .plan-of .ensures), ← (c .before .before .before .before .before .before .before .before .before .before .run-of .ensures), ← (c .before .before .before .before .before .before .before .before .step .ensures), ← (c .answer-number .ensures), ← (c .before .before .before .put-run .ensures)) refl
+
+pub gateway-step-spec : {M : Type 1} → statement M
+gateway-step-spec =
+    tie.close
+    (tie.spec
+    cast-result
+    returns
+    marks-hold-requires
+    cast-result-2
+    same-length
+    returns-2
+    plan-of-requires
+    run-of-requires
+    step-requires
+    put-run-requires
+    answer-number-requires
+    same-length-2
+    same-length-3
+    returns-3)

@@ -1,0 +1,110 @@
+-- The memory that a host lends: which plan and which run its words mean, and the words of each.
+use mathlib.Core.Bool.{Bool, cond, _&&_}
+use mathlib.Core.List.{List, [], _∷_, _++_}
+use Prim.Native.Nat.{ℕ, zero, suc, _+_, _*_, min}
+use lib.Dec.{leb, eqb}
+use lib.ListN.{getD, take, drop}
+use Rattle.plan.specs.Edition.{mostJobs}
+use Rattle.plan.specs.Rules.{jobOf}
+use Rattle.plan.specs.declared.kinds.Job.{Job}
+use Rattle.plan.specs.declared.kinds.Plan.{Plan}
+use Rattle.dispatch.specs.declared.Run.{Run}
+
+-- The words before a plan's jobs: both rates and the job count.
+abbrev pub headWords : ℕ
+headWords = 3
+
+-- The words of a job: name, grade, release, size and deadline.
+abbrev pub jobWords : ℕ
+jobWords = 5
+
+-- The words of a plan.
+abbrev pub planWords : ℕ
+planWords = headWords + mostJobs * jobWords
+
+-- The words before a run's carried units: the clock and both marks.
+abbrev pub markWords : ℕ
+markWords = 3
+
+-- The words of a run.
+abbrev pub runWords : ℕ
+runWords = markWords + mostJobs
+
+-- The words of a place: what a refusal by the judge names.
+abbrev pub placeWords : ℕ
+placeWords = 2
+
+-- The largest numbers of 8, 16 and 32 bits. A word beyond its number's range means the largest, which no rule allows.
+abbrev pub most8 : ℕ
+most8 = 255
+
+abbrev pub most16 : ℕ
+most16 = 65_535
+
+abbrev pub most32 : ℕ
+most32 = 4_294_967_295
+
+-- Where the words of job i begin.
+abbrev pub jobPlace : ℕ → ℕ
+jobPlace i = headWords + jobWords * i
+
+-- The job that the words from a place on mean.
+abbrev pub jobAt : List ℕ → ℕ → Job
+jobAt w at =
+    record {
+      name = record { 0 = getD w at 0 };
+      grade = min (getD w (at + 1) 0) most8;
+      release = record { 0 = min (getD w (at + 2) 0) most32 };
+      size = record { 0 = getD w (at + 3) 0 };
+      deadline = record { 0 = min (getD w (at + 4) 0) most32 };
+    }
+
+-- The first n jobs of a plan's words.
+unfoldable pub jobsTo : List ℕ → ℕ → List Job
+jobsTo w zero = []
+jobsTo w (suc n) = jobsTo w n ++ (jobAt w (jobPlace n) ∷ [])
+
+-- The plan that words mean.
+unfoldable pub planOf : List ℕ → Plan
+planOf w =
+    record {
+      n = record { 0 = min (getD w 0 0) most16 };
+      d = record { 0 = min (getD w 1 0) most16 };
+      count = getD w 2 0;
+      jobs = jobsTo w mostJobs;
+    }
+
+-- The words of a job.
+abbrev pub jobOut : Job → List ℕ
+jobOut j = j .name .0 ∷ j .grade ∷ j .release .0 ∷ j .size .0 ∷ j .deadline .0 ∷ []
+
+-- The words of a plan's first n jobs.
+unfoldable pub jobsOut : Plan → ℕ → List ℕ
+jobsOut p zero = []
+jobsOut p (suc n) = jobsOut p n ++ jobOut (jobOf p n)
+
+-- The words of a plan.
+unfoldable pub planOut : Plan → List ℕ
+planOut p = p .n .0 ∷ p .d .0 ∷ p .count ∷ jobsOut p mostJobs
+
+-- Both marks of a run's words are 0 or 1.
+abbrev pub marksHold : List ℕ → Bool
+marksHold w = leb (getD w 1 0) 1 && leb (getD w 2 0) 1
+
+-- The run that words mean.
+unfoldable pub runOf : List ℕ → Run
+runOf w =
+    record {
+      clock = record { 0 = getD w 0 0 };
+      slow = eqb (getD w 1 0) 1;
+      below = eqb (getD w 2 0) 1;
+      carried = take mostJobs (drop markWords w);
+    }
+
+-- The word of a mark.
+abbrev pub markOut : Bool → ℕ
+markOut mark = cond mark 1 0
+
+-- The words of a run.
+unfoldable pub runOut : Run → List ℕ
+runOut r = r .clock .0 ∷ markOut (r .slow) ∷ markOut (r .below) ∷ r .carried

@@ -1,0 +1,24 @@
+// The judge's calls for hosts.
+use crate::answers::first_of;
+use crate::answers::number_of;
+use crate::answers::second_of;
+use crate::plans::plan_of;
+use crate::sizes::Sizes;
+use judge::judge;
+use plan::refusal::BUFFER_TOO_SHORT;
+ghost use mathlib.Core.Path.{_≡_};
+ghost use Rattle.gateway.specs.Calls.{judgeCall};
+
+// The verdict on a plan and its table.
+#[no_mangle]
+pub extern "C" fn gateway_judge(plan: &[u64], table: &[u32], place: &mut [u64]) -> u32
+    ensures { λ r. ⌜ record { number = r; place = now (place .exit) } ≡ judgeCall (now (plan .entry)) (now (table .entry)) (now (place .entry)) ⌝ }
+{
+    if (plan.len() < Sizes::PLAN) | (place.len() < Sizes::PLACE) {
+        return BUFFER_TOO_SHORT as u32;
+    }
+    let verdict = judge(plan_of(plan), table);
+    place[0] = first_of(verdict);
+    place[1] = second_of(verdict);
+    number_of(verdict)
+}

@@ -1,0 +1,89 @@
+// A plan in the words that a host lends, there and back.
+use crate::sizes::Sizes;
+use plan::edition::Edition;
+use plan::kinds::Job;
+use plan::kinds::Name;
+use plan::kinds::Plan;
+use plan::kinds::Rate;
+use plan::kinds::Slots;
+use plan::kinds::Units;
+ghost use mathlib.Core.Path.{_≡_};
+ghost use Prim.Native.Nat.{_+_, _≤_, min};
+ghost use lib.ListN.{length};
+ghost use lib.Seq.{sets};
+ghost use Rattle.plan.specs.Edition.{mostJobs};
+ghost use Rattle.gateway.specs.Memory.{jobWords, planWords, most8, most16, most32, jobAt, planOf, jobOut, planOut};
+
+// A word as a number of 8, 16 or 32 bits: what is beyond means the largest.
+fn as8(word: u64) -> u8
+    ensures { λ r. ⌜ r ≡ min word most8 ⌝ }
+{
+    if word <= 255 { word as u8 } else { 255 }
+}
+
+fn as16(word: u64) -> u16
+    ensures { λ r. ⌜ r ≡ min word most16 ⌝ }
+{
+    if word <= 65_535 { word as u16 } else { 65_535 }
+}
+
+fn as32(word: u64) -> u32
+    ensures { λ r. ⌜ r ≡ min word most32 ⌝ }
+{
+    if word <= 4_294_967_295 {
+        word as u32
+    } else {
+        4_294_967_295
+    }
+}
+
+// The job whose words begin at a place.
+fn job_at(words: &[u64], at: usize) -> Job
+    requires { ⌜ at + jobWords ≤ length (now words) ⌝ }
+    ensures { λ r. ⌜ r ≡ jobAt (now (words .entry)) at ⌝ }
+{
+    let grade = as8(words[at + 1]);
+    let release = Slots(as32(words[at + 2]));
+    let deadline = Slots(as32(words[at + 4]));
+    let name = Name(words[at]);
+    let size = Units(words[at + 3]);
+    Job {
+        name,
+        grade,
+        release,
+        size,
+        deadline,
+    }
+}
+
+fn no_job() -> Job {
+    Job {
+        name: Name(0),
+        grade: 0,
+        release: Slots(0),
+        size: Units(0),
+        deadline: Slots(0),
+    }
+}
+
+// The plan that words mean.
+pub fn plan_of(words: &[u64]) -> Plan
+    requires { ⌜ planWords ≤ length (now words) ⌝ }
+    ensures { λ r. ⌜ r ≡ planOf (now (words .entry)) ⌝ }
+{
+    let mut jobs = [no_job(); Edition::MOST_JOBS];
+    let mut i = 0;
+    while i < Edition::MOST_JOBS {
+        let job = job_at(words, Sizes::HEAD + Sizes::JOB * i);
+        jobs[i] = job;
+        i += 1;
+    }
+    let n = Rate(as16(words[0]));
+    let d = Rate(as16(words[1]));
+    Plan {
+        n,
+        d,
+        count: words[2] as usize,
+        jobs,
+    }
+}
