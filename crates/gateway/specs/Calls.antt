@@ -2,18 +2,23 @@
 use mathlib.Core.Bool.{Bool, not, cond, _||_}
 use mathlib.Core.List.{List, [], _∷_}
 use Prim.Native.Nat.{ℕ}
-use lib.Dec.{ltb}
+use lib.Dec.{ltb, eqb}
+use lib.IntN.{ℤ, pos}
 use lib.ListN.{length, set}
 use lib.Seq.{sets}
+use Rattle.plan.specs.Edition.{places}
 use Rattle.plan.specs.Refusal.{unsound, bufferTooShort}
 use Rattle.plan.specs.declared.kinds.Plan.{Plan}
 use Rattle.judge.specs.Verdict.{Report, judged}
+use Rattle.judge.specs.Slack as slack
+use Rattle.planfile.specs.Reading.{Left, reader, nameAt, nameShown}
+use Rattle.planfile.specs.Writing as writing
 use Rattle.dispatch.specs.Step.{Slot, Ending, met, discarded, missed, stillOpen, refused, started, stepped, outcome}
-use Rattle.gateway.specs.Memory.{planWords, runWords, placeWords, planOf, marksHold, runOf, runOut}
+use Rattle.gateway.specs.Memory.{planWords, runWords, placeWords, planOf, planOut, marksHold, runOf, runOut}
 
 -- What is no refusal has a number beyond those of the refusals, which have one byte.
-abbrev pub noneEssential : ℕ
-noneEssential = 256
+abbrev pub noneNumber : ℕ
+noneNumber = 256
 
 abbrev pub metNumber : ℕ
 metNumber = 257
@@ -123,3 +128,91 @@ outcomeCall plan run position =
     cond (shortPlan plan || shortRun run) bufferTooShort
     (cond (not (marksHold run)) unsound
     (endingNumber (outcome (planOf plan) (runOf run) position)))
+
+-- What a slack's call leaves.
+pub record Slacked : Type 0 where
+  pub number : ℕ
+  pub slack : ℤ
+  pub place : List ℕ
+
+-- The number of a figure: 0 where there is a least slack.
+abbrev pub figureNumber : slack.Figure → ℕ
+figureNumber slack.noneEssential = noneNumber
+figureNumber (slack.least s l D) = 0
+figureNumber (slack.refused report) = numberOf report
+
+-- The slack of a figure; 0 where it has none.
+abbrev pub figureSlack : slack.Figure → ℤ
+figureSlack slack.noneEssential = pos 0
+figureSlack (slack.least s l D) = s
+figureSlack (slack.refused report) = pos 0
+
+-- The place of a figure: interval and deadline of the least slack, or the place of a refusal.
+abbrev pub figureFirst : slack.Figure → ℕ
+figureFirst slack.noneEssential = 0
+figureFirst (slack.least s l D) = l
+figureFirst (slack.refused report) = firstOf report
+
+abbrev pub figureSecond : slack.Figure → ℕ
+figureSecond slack.noneEssential = 0
+figureSecond (slack.least s l D) = D
+figureSecond (slack.refused report) = secondOf report
+
+-- A figure over a lent place.
+abbrev pub slackWords : slack.Figure → List ℕ → Slacked
+slackWords figure place =
+    record {
+      number = figureNumber figure;
+      slack = figureSlack figure;
+      place = set (set place 0 (figureFirst figure)) 1 (figureSecond figure);
+    }
+
+-- The slack's call: 22 for plan or place, and then nothing is touched; else the figure.
+unfoldable pub slackCall : List ℕ → List ℕ → ℤ → List ℕ → Slacked
+slackCall plan table was place =
+    cond (shortPlan plan || shortPlace place) (record { number = bufferTooShort; slack = was; place = place })
+    (slackWords (slack.slackFigure (planOf plan) table) place)
+
+-- What a read's call leaves.
+pub record Read : Type 0 where
+  pub number : ℕ
+  pub plan : List ℕ
+  pub table : List ℕ
+
+-- What the reader leaves, over a lent plan.
+abbrev pub readWords : Left → List ℕ → Read
+readWords left plan = record { number = numberOf (left .answer); plan = sets plan 0 (planOut (left .plan)); table = left .table }
+
+-- The read's call: 22 for plan or table, and then nothing is touched; else what the reader leaves, a plan of zeros with a refusal.
+unfoldable pub readCall : List ℕ → List ℕ → List ℕ → Read
+readCall file plan table =
+    cond (shortPlan plan || ltb (length table) places) (record { number = bufferTooShort; plan = plan; table = table })
+    (readWords (reader file table) plan)
+
+-- What a write's call leaves.
+pub record Wrote : Type 0 where
+  pub number : ℕ
+  pub length : ℕ
+  pub out : List ℕ
+
+-- The number of a writer's answer, and the file's length; a refusal has no length.
+abbrev pub writtenNumber : writing.Answer → ℕ
+writtenNumber (writing.wrote n) = 0
+writtenNumber (writing.refused number) = number
+
+abbrev pub writtenLength : writing.Answer → ℕ
+writtenLength (writing.wrote n) = n
+writtenLength (writing.refused number) = 0
+
+-- What the writer leaves, with the length beside it.
+abbrev pub wroteWords : writing.Output → Wrote
+wroteWords o = record { number = writtenNumber (o .answer); length = writtenLength (o .answer); out = o .out }
+
+-- The write's call: 22 for the plan; else what the writer leaves.
+unfoldable pub writeCall : List ℕ → List ℕ → List ℕ → Wrote
+writeCall plan table out =
+    cond (shortPlan plan) (record { number = bufferTooShort; length = 0; out = out }) (wroteWords (writing.writer (planOf plan) table out))
+
+-- The name's call: where the eight bytes of a job's name begin inside the file, and 0 where no name is shown.
+unfoldable pub nameCall : List ℕ → ℕ → ℕ
+nameCall file position = cond (eqb (length (nameShown file position)) 0) 0 (nameAt position)

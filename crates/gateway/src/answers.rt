@@ -1,6 +1,7 @@
 // What the calls answer, as numbers: 0 for done, a refusal's own number, and numbers beyond one byte for the rest.
 use dispatch::answers::Answer;
 use dispatch::answers::Outcome;
+use judge::answers::Slack;
 use judge::answers::Verdict;
 use plan::refusal::BELOW_FLOOR_RULE;
 use plan::refusal::BUFFER_TOO_SHORT;
@@ -8,12 +9,17 @@ use plan::refusal::OUTSIDE_WINDOW;
 use plan::refusal::OVER_CAPACITY;
 use plan::refusal::UNSOUND;
 use plan::refusal::WRONG_TOTAL;
+use planfile::reader::Answer as Reader;
+use planfile::writer::Written;
 ghost use mathlib.Core.Path.{_≡_};
-ghost use Rattle.judge.specs.Answers.{report};
+ghost use Rattle.judge.specs.Answers.{report, figure};
+ghost use Rattle.planfile.specs.Answers as files;
 ghost use Rattle.dispatch.specs.Answers as slots;
-ghost use Rattle.gateway.specs.Calls.{numberOf, firstOf, secondOf, endingNumber};
+ghost use Rattle.gateway.specs.Calls.{numberOf, firstOf, secondOf, endingNumber, figureNumber, figureSlack, figureFirst, figureSecond, writtenNumber, writtenLength};
 
 pub const DONE: u32 = 0;
+
+pub const NONE_ESSENTIAL: u32 = 256;
 
 pub const MET: u32 = 257;
 
@@ -85,5 +91,74 @@ pub fn outcome_number(o: Outcome) -> u32
         Outcome::Missed => MISSED,
         Outcome::Open => OPEN,
         Outcome::Refused(number) => number as u32,
+    }
+}
+
+pub fn slack_number(s: Slack) -> u32
+    ensures { λ r. ⌜ r ≡ figureNumber (figure s) ⌝ }
+{
+    match s {
+        Slack::NoneEssential => NONE_ESSENTIAL,
+        Slack::Least(_, _, _) => DONE,
+        Slack::Refused(v) => number_of(v),
+    }
+}
+
+pub fn slack_figure(s: Slack) -> i64
+    ensures { λ r. ⌜ r ≡ figureSlack (figure s) ⌝ }
+{
+    match s {
+        Slack::NoneEssential => 0,
+        Slack::Least(slack, _, _) => slack,
+        Slack::Refused(_) => 0,
+    }
+}
+
+// The place of a figure: interval and deadline of the least slack, or the place of a refusal.
+pub fn slack_first(s: Slack) -> u64
+    ensures { λ r. ⌜ r ≡ figureFirst (figure s) ⌝ }
+{
+    match s {
+        Slack::NoneEssential => 0,
+        Slack::Least(_, interval, _) => interval as u64,
+        Slack::Refused(v) => first_of(v),
+    }
+}
+
+pub fn slack_second(s: Slack) -> u64
+    ensures { λ r. ⌜ r ≡ figureSecond (figure s) ⌝ }
+{
+    match s {
+        Slack::NoneEssential => 0,
+        Slack::Least(_, _, deadline) => deadline.0 as u64,
+        Slack::Refused(v) => second_of(v),
+    }
+}
+
+pub fn read_number(a: Reader) -> u32
+    ensures { λ r. ⌜ r ≡ numberOf (files.answerTold a) ⌝ }
+{
+    match a {
+        Reader::Read => DONE,
+        Reader::Refused(number) => number as u32,
+    }
+}
+
+pub fn written_number(w: Written) -> u32
+    ensures { λ r. ⌜ r ≡ writtenNumber (files.writtenTold w) ⌝ }
+{
+    match w {
+        Written::Length(_) => DONE,
+        Written::Refused(number) => number as u32,
+    }
+}
+
+// The length of a written file; 0 after a refusal.
+pub fn written_length(w: Written) -> usize
+    ensures { λ r. ⌜ r ≡ writtenLength (files.writtenTold w) ⌝ }
+{
+    match w {
+        Written::Length(n) => n,
+        Written::Refused(_) => 0,
     }
 }

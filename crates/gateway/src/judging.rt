@@ -2,12 +2,17 @@
 use crate::answers::first_of;
 use crate::answers::number_of;
 use crate::answers::second_of;
+use crate::answers::slack_figure;
+use crate::answers::slack_first;
+use crate::answers::slack_number;
+use crate::answers::slack_second;
 use crate::plans::plan_of;
 use crate::sizes::Sizes;
+use judge::figure::slack;
 use judge::judge;
 use plan::refusal::BUFFER_TOO_SHORT;
 ghost use mathlib.Core.Path.{_≡_};
-ghost use Rattle.gateway.specs.Calls.{judgeCall};
+ghost use Rattle.gateway.specs.Calls.{judgeCall, slackCall};
 
 // The verdict on a plan and its table.
 #[no_mangle]
@@ -21,4 +26,24 @@ pub extern "C" fn gateway_judge(plan: &[u64], table: &[u32], place: &mut [u64]) 
     place[0] = first_of(verdict);
     place[1] = second_of(verdict);
     number_of(verdict)
+}
+
+// The slack figure of a plan and its table.
+#[no_mangle]
+pub extern "C" fn gateway_slack(
+    plan: &[u64],
+    table: &[u32],
+    least: &mut i64,
+    place: &mut [u64],
+) -> u32
+    ensures { λ r. ⌜ record { number = r; slack = now (least .exit); place = now (place .exit) } ≡ slackCall (now (plan .entry)) (now (table .entry)) (now (least .entry)) (now (place .entry)) ⌝ }
+{
+    if (plan.len() < Sizes::PLAN) | (place.len() < Sizes::PLACE) {
+        return BUFFER_TOO_SHORT as u32;
+    }
+    let figure = slack(plan_of(plan), table);
+    *least = slack_figure(figure);
+    place[0] = slack_first(figure);
+    place[1] = slack_second(figure);
+    slack_number(figure)
 }

@@ -1,5 +1,6 @@
 // For hosts in C and Rust: the libraries' calls on numbers and slices. A plan and a run live in words that the host lends.
 mod answers;
+mod files;
 mod judging;
 mod plans;
 mod runs;

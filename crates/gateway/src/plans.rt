@@ -12,7 +12,7 @@ ghost use Prim.Native.Nat.{_+_, _≤_, min};
 ghost use lib.ListN.{length};
 ghost use lib.Seq.{sets};
 ghost use Rattle.plan.specs.Edition.{mostJobs};
-ghost use Rattle.gateway.specs.Memory.{jobWords, planWords, most8, most16, most32, jobAt, planOf, jobOut, planOut};
+ghost use Rattle.gateway.specs.Memory.{headWords, jobWords, planWords, most8, most16, most32, jobAt, planOf, jobOut, jobsOut, planOut};
 
 // A word as a number of 8, 16 or 32 bits: what is beyond means the largest.
 fn as8(word: u64) -> u8
@@ -86,4 +86,46 @@ pub fn plan_of(words: &[u64]) -> Plan
         count: words[2] as usize,
         jobs,
     }
+}
+
+// Puts a job's words at a place.
+fn put_job(words: &mut [u64], at: usize, job: Job)
+    requires { ⌜ at + jobWords ≤ length (now words) ⌝ }
+    ensures { λ r. ⌜ now (words .exit) ≡ sets (now (words .entry)) at (jobOut job) ⌝ }
+{
+    let name = job.name;
+    let release = job.release;
+    let size = job.size;
+    let deadline = job.deadline;
+    words[at] = name.0;
+    words[at + 1] = job.grade as u64;
+    words[at + 2] = release.0 as u64;
+    words[at + 3] = size.0;
+    words[at + 4] = deadline.0 as u64;
+}
+
+// Puts the words of a plan's jobs behind its head.
+fn put_jobs(words: &mut [u64], p: Plan)
+    requires { ⌜ planWords ≤ length (now words) ⌝ }
+    ensures { λ r. ⌜ now (words .exit) ≡ sets (now (words .entry)) headWords (jobsOut p mostJobs) ⌝ }
+{
+    let mut i = 0;
+    while i < Edition::MOST_JOBS {
+        let job = p.jobs[i];
+        put_job(words, Sizes::HEAD + Sizes::JOB * i, job);
+        i += 1;
+    }
+}
+
+// Puts a plan's words in the place of those that were there.
+pub fn put_plan(words: &mut [u64], p: Plan)
+    requires { ⌜ planWords ≤ length (now words) ⌝ }
+    ensures { λ r. ⌜ now (words .exit) ≡ sets (now (words .entry)) 0 (planOut p) ⌝ }
+{
+    let n = p.n;
+    let d = p.d;
+    words[0] = n.0 as u64;
+    words[1] = d.0 as u64;
+    words[2] = p.count as u64;
+    put_jobs(words, p);
 }

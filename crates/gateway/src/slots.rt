@@ -1,17 +1,63 @@
 // The run's calls for hosts.
 use crate::answers::answer_number;
+use crate::answers::first_of;
+use crate::answers::number_of;
 use crate::answers::outcome_number;
+use crate::answers::second_of;
 use crate::plans::plan_of;
 use crate::runs::marks_hold;
 use crate::runs::put_run;
 use crate::runs::run_of;
 use crate::sizes::Sizes;
 use dispatch::outcome::outcome;
+use dispatch::start::start;
 use dispatch::step::step;
+use judge::answers::Verdict;
+use judge::answers::is_accepted;
+use plan::kinds::Plan;
 use plan::refusal::BUFFER_TOO_SHORT;
 use plan::refusal::UNSOUND;
 ghost use mathlib.Core.Path.{_≡_};
-ghost use Rattle.gateway.specs.Calls.{stepCall, outcomeCall};
+ghost use Prim.Native.Nat.{_≤_};
+ghost use lib.ListN.{length};
+ghost use Rattle.judge.specs.Verdict.{judged};
+ghost use Rattle.judge.specs.Answers.{report};
+ghost use Rattle.gateway.specs.Memory.{runWords};
+ghost use Rattle.gateway.specs.Calls.{startWords, startCall, stepCall, outcomeCall};
+
+// Judges a plan, and puts its run into the lent words if it is accepted.
+fn start_in(run: &mut [u32], p: Plan, table: &[u32]) -> Verdict
+    requires { ⌜ runWords ≤ length (now run) ⌝ }
+    ensures { λ r. ⌜ (report r ≡ judged p (now (table .entry))) × (now (run .exit) ≡ startWords (judged p (now (table .entry))) p (now (run .entry))) ⌝ }
+{
+    let s = start(p, table);
+    let verdict = s.verdict;
+    let fresh = s.run;
+    if is_accepted(verdict) {
+        put_run(run, fresh);
+        return verdict;
+    }
+    verdict
+}
+
+// Judges a plan, and starts its run in the lent words if it is accepted.
+#[no_mangle]
+pub extern "C" fn gateway_start(
+    plan: &[u64],
+    table: &[u32],
+    run: &mut [u32],
+    place: &mut [u64],
+) -> u32
+    ensures { λ r. ⌜ record { number = r; run = now (run .exit); place = now (place .exit) } ≡ startCall (now (plan .entry)) (now (table .entry)) (now (run .entry)) (now (place .entry)) ⌝ }
+{
+    if (plan.len() < Sizes::PLAN) | (run.len() < Sizes::RUN) | (place.len() < Sizes::PLACE) {
+        return BUFFER_TOO_SHORT as u32;
+    }
+    let verdict = start_in(run, plan_of(plan), table);
+    place[0] = first_of(verdict);
+    place[1] = second_of(verdict);
+    number_of(verdict)
+}
 
 // Carries one slot at speed v. The run is advanced in place, and the grants go into the lent row.
 #[no_mangle]

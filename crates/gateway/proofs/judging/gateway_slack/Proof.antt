@@ -1,0 +1,74 @@
+-- `gateway::judging::gateway_slack` meets its contract: 22, and else the figure with its place.
+use mathlib.Core.Path.{_≡_, refl, sym, _∙_, ap}
+use Prim.Native.Nat.{_≤_}
+use native.Mathlib.Omega.{arith}
+use lib.ListN.{length, length-set}
+use mir.Syntax.{w64}
+use mir.Facts.{toZ-ofZ}
+use Rattle.gateway.specs.Memory.{planWords, placeWords}
+use Rattle.gateway.specs.Calls.{slackCall}
+use Rattle.gateway.proofs.Laws.{both-long}
+use borrow.Author.Needs.{needs, sfits-of}
+use Rattle.gateway.proofs.judging.gateway_slack.Statement.{statement}
+use Rattle.gateway.proofs.judging.gateway_slack.Tie as tie
+
+-- Past the first test both buffers are long enough.
+long : (c : tie.Else1) → (planWords ≤ length (c .before .before .before .before .args .plan .now)) × (placeWords ≤ length (c .before .before .before .before .args .place .now))
+long c = both-long (c .before .before .before .before .args .plan .now) (c .before .before .before .before .args .place .now) planWords placeWords (c .if1 .left)
+
+cast-result : tie.Need-cast-result
+cast-result c = search needs
+
+returns : tie.Need-returns
+unfolding slackCall
+returns c = rw (c .if1 .taken) refl
+
+plan-of-requires : tie.Need-plan-of-requires
+plan-of-requires c κs = long c .0
+
+slack-requires : tie.Need-slack-requires
+slack-requires c κs = search needs
+
+slack-figure-requires : tie.Need-slack-figure-requires
+slack-figure-requires c κs = search needs
+
+slack-first-requires : tie.Need-slack-first-requires
+slack-first-requires c κs = search needs
+
+slice-write-place : tie.Need-slice-write-place
+slice-write-place c = omega (arith, long (c .before .before .before .before) .1)
+
+slack-second-requires : tie.Need-slack-second-requires
+slack-second-requires c κs = search needs
+
+slice-write-place-2 : tie.Need-slice-write-place-2
+slice-write-place-2 c = simp length-set (omega (arith, long (c .before .before .before .before .before) .1))
+
+slack-number-requires : tie.Need-slack-number-requires
+slack-number-requires c κs = search needs
+
+same-length : tie.Need-same-length
+same-length c = search needs
+
+returns-2 : tie.Need-returns-2
+unfolding slackCall
+returns-2 c =
+    rw (c .before .before .before .before .before .before .if1 .left, ← (c .before .before .before .before .before .plan-of .ensures), ← (c .before .before .before .before .slack .ensures), ← (c .slack-number .ensures), ← (c .before .slack-second .ensures), ← (c .before .before .slack-first .ensures), ← (c .before .before .before .slack-figure .ensures))
+    (rw (toZ-ofZ (sfits-of {w = w64} {z = c .before .before .before .slack-figure .result} (c .before .before .before .slack-figure .ok))) refl)
+
+pub gateway-slack-spec : {M : Type 1} → statement M
+gateway-slack-spec =
+    tie.close
+    (tie.spec
+    cast-result
+    returns
+    plan-of-requires
+    slack-requires
+    slack-figure-requires
+    slack-first-requires
+    slice-write-place
+    slack-second-requires
+    slice-write-place-2
+    slack-number-requires
+    same-length
+    returns-2)

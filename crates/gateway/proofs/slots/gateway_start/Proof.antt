@@ -1,0 +1,73 @@
+-- `gateway::slots::gateway_start` meets its contract: 22, and else the verdict with its place and the run that it allows.
+use mathlib.Core.Path.{_≡_, refl, sym, _∙_, ap}
+use Prim.Native.Nat.{_≤_}
+use native.Mathlib.Omega.{arith}
+use lib.ListN.{length, length-set}
+use Rattle.gateway.specs.Memory.{planWords, runWords, placeWords}
+use Rattle.gateway.specs.Calls.{startCall}
+use Rattle.gateway.proofs.Laws.{all-long}
+use borrow.Author.Needs.{needs}
+use Rattle.gateway.proofs.slots.gateway_start.Statement.{statement}
+use Rattle.gateway.proofs.slots.gateway_start.Tie as tie
+
+-- Past the first test all three buffers are long enough.
+long : (c : tie.Else1)
+    → (planWords ≤ length (c .before .before .before .before .before .args .plan .now)) × (runWords ≤ length (c .before .before .before .before .before .args .run .now)) × (placeWords ≤ length (c .before .before .before .before .before .args .place .now))
+long c =
+    all-long (c .before .before .before .before .before .args .plan .now) (c .before .before .before .before .before .args .run .now) (c .before .before .before .before .before .args .place .now) planWords runWords placeWords (c .if1 .left)
+
+cast-result : tie.Need-cast-result
+cast-result c = search needs
+
+returns : tie.Need-returns
+unfolding startCall
+returns c = rw (c .if1 .taken) refl
+
+plan-of-requires : tie.Need-plan-of-requires
+plan-of-requires c κs = long (c .before) .0
+
+start-in-requires : tie.Need-start-in-requires
+start-in-requires c κs = long (c .before .before) .1
+
+first-of-requires : tie.Need-first-of-requires
+first-of-requires c κs = search needs
+
+slice-write-place : tie.Need-slice-write-place
+slice-write-place c = omega (arith, long (c .before .before .before .before .before .before) .2)
+
+second-of-requires : tie.Need-second-of-requires
+second-of-requires c κs = search needs
+
+slice-write-place-2 : tie.Need-slice-write-place-2
+slice-write-place-2 c = simp length-set (omega (arith, long (c .before .before .before .before .before .before .before) .2))
+
+number-of-requires : tie.Need-number-of-requires
+number-of-requires c κs = search needs
+
+same-length : tie.Need-same-length
+same-length c = search needs
+
+same-length-2 : tie.Need-same-length-2
+same-length-2 c = search needs
+
+returns-2 : tie.Need-returns-2
+unfolding startCall
+returns-2 c =
+    rw (c .before .before .before .before .before .before .before .before .if1 .left, ← (c .before .before .before .before .before .before .plan-of .ensures), ← (c .before .before .before .before .before .start-in .ensures .1), ← (c .before .before .before .before .before .start-in .ensures .0), ← (c .number-of .ensures), ← (c .before .second-of .ensures), ← (c .before .before .first-of .ensures)) refl
+
+pub gateway-start-spec : {M : Type 1} → statement M
+gateway-start-spec =
+    tie.close
+    (tie.spec
+    cast-result
+    returns
+    plan-of-requires
+    start-in-requires
+    first-of-requires
+    slice-write-place
+    second-of-requires
+    slice-write-place-2
+    number-of-requires
+    same-length
+    same-length-2
+    returns-2)

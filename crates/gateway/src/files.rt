@@ -1,0 +1,60 @@
+// The plan file's calls for hosts.
+use crate::answers::read_number;
+use crate::answers::written_length;
+use crate::answers::written_number;
+use crate::plans::plan_of;
+use crate::plans::put_plan;
+use crate::sizes::Sizes;
+use plan::edition::Edition;
+use plan::refusal::BUFFER_TOO_SHORT;
+use planfile::lookup::name_of;
+use planfile::reader::read;
+use planfile::writer::write;
+ghost use mathlib.Core.Path.{_≡_};
+ghost use Rattle.gateway.specs.Calls.{readCall, writeCall, nameCall};
+
+// Reads a plan file into the lent plan and table.
+#[no_mangle]
+pub extern "C" fn gateway_read(file: &[u8], plan: &mut [u64], table: &mut [u32]) -> u32
+    ensures { λ r. ⌜ record { number = r; plan = now (plan .exit); table = now (table .exit) } ≡ readCall (now (file .entry)) (now (plan .entry)) (now (table .entry)) ⌝ }
+{
+    if (plan.len() < Sizes::PLAN) | (table.len() < Edition::PLACES) {
+        return BUFFER_TOO_SHORT as u32;
+    }
+    let reading = read(file, table);
+    let answer = reading.answer;
+    let p = reading.plan;
+    put_plan(plan, p);
+    read_number(answer)
+}
+
+// Writes the plan file of a sound plan and its table, and its length.
+#[no_mangle]
+pub extern "C" fn gateway_write(
+    plan: &[u64],
+    table: &[u32],
+    out: &mut [u8],
+    length: &mut usize,
+) -> u32
+    ensures { λ r. ⌜ record { number = r; length = now (length .exit); out = now (out .exit) } ≡ writeCall (now (plan .entry)) (now (table .entry)) (now (out .entry)) ⌝ }
+{
+    if plan.len() < Sizes::PLAN {
+        *length = 0;
+        return BUFFER_TOO_SHORT as u32;
+    }
+    let written = write(plan_of(plan), table, out);
+    *length = written_length(written);
+    written_number(written)
+}
+
+// Where the eight bytes of a job's name begin inside the file; 0 for a refused file or a position not below the job count.
+#[no_mangle]
+pub extern "C" fn gateway_name(file: &[u8], position: usize) -> usize
+    ensures { λ r. ⌜ r ≡ nameCall (now (file .entry)) position ⌝ }
+{
+    let shown = name_of(file, position);
+    if shown.len() == 0 {
+        return 0;
+    }
+    Edition::HEADER_BYTES + position * (1 + Edition::JOB_LENGTH) + 1
+}
