@@ -1,0 +1,137 @@
+/* For hosts in C and C++: plan files, judging and slots, on memory that the host lends.
+ *
+ * Every call answers a number: 0 when it is done, a refusal's number from 1 to 22 (enum gateway_refusal), or a number from 256 on for the
+ * results that are named below. Every buffer is a pointer and then its length, counted in elements. What a call is not said to change stays.
+ *
+ * No call relies on checks by the host: every content of the lent memory means exactly one plan or run, or is refused by 21. What no call
+ * can check is the host's part: each pointer is valid for its length and aligned, buffers that are written overlap no other, and a single
+ * number's pointer is valid. A call keeps no pointer and has no state of its own, so calls on different memory may run at the same time. */
+#ifndef GATEWAY_H
+#define GATEWAY_H
+
+#include <stddef.h>
+#include <stdint.h>
+
+#ifdef __cplusplus
+extern "C" {
+#endif
+
+/* The plan edition's bounds. */
+#define GATEWAY_MOST_JOBS 32
+#define GATEWAY_MOST_INTERVALS 63
+/* The largest plan file, in bytes. */
+#define GATEWAY_LARGEST_FILE 30956
+/* The bytes of a job's name. */
+#define GATEWAY_NAME_BYTES 8
+
+/* A plan lives in 163 words of 64 bits beside its table. The words are n, d and the job count, then for each of 32 jobs name, grade
+ * (0 LO, 1 HI), release, size and deadline. A name is its eight bytes as one number, the first byte highest. A word that is too large for
+ * what it says means the largest number that could stand there, and no rule allows that number. Jobs from the count on are not looked at. */
+#define GATEWAY_PLAN_WORDS 163
+#define GATEWAY_NORMAL_RATE 0
+#define GATEWAY_FLOOR 1
+#define GATEWAY_JOB_COUNT 2
+/* Where the words of job i begin, and which of them says what. */
+#define GATEWAY_JOB(i) (3 + 5 * (size_t)(i))
+#define GATEWAY_JOB_NAME 0
+#define GATEWAY_JOB_GRADE 1
+#define GATEWAY_JOB_RELEASE 2
+#define GATEWAY_JOB_SIZE 3
+#define GATEWAY_JOB_DEADLINE 4
+
+/* The table has 2016 numbers of 32 bits: the allotment of job i in interval j stands at GATEWAY_PLACE(i, j). */
+#define GATEWAY_TABLE_PLACES 2016
+#define GATEWAY_PLACE(i, j) (63 * (size_t)(i) + (size_t)(j))
+
+/* A run lives in 35 words of 32 bits: the clock, the slow mark, the below-floor mark, and the units carried for each of 32 jobs.
+ * A mark is 0 or 1; any other mark is refused by 21. */
+#define GATEWAY_RUN_WORDS 35
+#define GATEWAY_CLOCK 0
+#define GATEWAY_SLOW 1
+#define GATEWAY_BELOW_FLOOR 2
+#define GATEWAY_CARRIED(i) (3 + (size_t)(i))
+
+/* A place has two words of 64 bits: with 15 job and interval, with 16 job and 0, with 17 interval and 0, with 18 interval and deadline,
+ * with any other answer of judge and start 0 and 0. */
+#define GATEWAY_PLACE_WORDS 2
+
+enum gateway_refusal {
+    GATEWAY_DONE = 0,
+    GATEWAY_WRONG_VERSION = 1,
+    GATEWAY_WRONG_EXTENT = 2,
+    GATEWAY_WRONG_RECORD_LENGTH = 3,
+    GATEWAY_WRONG_RATES = 4,
+    GATEWAY_WRONG_JOB_COUNT = 5,
+    GATEWAY_WRONG_NAME_BYTE = 6,
+    GATEWAY_NAME_TAKEN = 7,
+    GATEWAY_WRONG_GRADE = 8,
+    GATEWAY_WRONG_JOB_BOUNDS = 9,
+    GATEWAY_TOO_MANY_ROWS = 10,
+    GATEWAY_ROW_WITHOUT_JOB = 11,
+    GATEWAY_ROW_WITHOUT_INTERVAL = 12,
+    GATEWAY_ROW_WITHOUT_UNITS = 13,
+    GATEWAY_ROW_OUT_OF_ORDER = 14,
+    GATEWAY_OUTSIDE_WINDOW = 15,
+    GATEWAY_WRONG_TOTAL = 16,
+    GATEWAY_OVER_CAPACITY = 17,
+    GATEWAY_BELOW_FLOOR_RULE = 18,
+    GATEWAY_CLOCK_AT_END = 19,
+    GATEWAY_SPEED_ABOVE_NORMAL = 20,
+    GATEWAY_UNSOUND = 21,
+    GATEWAY_BUFFER_TOO_SHORT = 22
+};
+
+/* Results that are no refusals. */
+enum gateway_result {
+    GATEWAY_NONE_ESSENTIAL = 256,
+    GATEWAY_MET = 257,
+    GATEWAY_DISCARDED = 258,
+    GATEWAY_MISSED = 259,
+    GATEWAY_OPEN = 260
+};
+
+/* Reads a plan file.
+ * In: the file's bytes. Out: plan and table. Answers 0 or 1 to 14 or 22.
+ * 22 (plan under GATEWAY_PLAN_WORDS or table under GATEWAY_TABLE_PLACES): nothing is touched.
+ * 1 to 14: the plan's words and the table's places are all 0. Words and places beyond are not touched, ever. */
+uint32_t gateway_read(const uint8_t *file, size_t file_length, uint64_t *plan, size_t plan_length, uint32_t *table, size_t table_length);
+
+/* Writes the plan file of a sound plan, accepted or not.
+ * In: plan and table. Out: the file's bytes in out, and their number in *written. Answers 0, 21 or 22.
+ * 22 (plan, table or out too short) and 21 (an unsound plan): *written is 0 and out stays. Bytes past the file stay. */
+uint32_t gateway_write(const uint64_t *plan, size_t plan_length, const uint32_t *table, size_t table_length, uint8_t *out, size_t out_length, size_t *written);
+
+/* Where the eight bytes of a job's name begin inside a plan file. It is counted from the file's first byte.
+ * 0 for a file that gateway_read refuses, and for a position not below its job count. No buffer is changed. */
+size_t gateway_name(const uint8_t *file, size_t file_length, size_t position);
+
+/* Judges a plan.
+ * In: plan and table. Out: the place of the fault. Answers 0 (accepted), 22, 21, 15, 16, 17 or 18.
+ * 22 for plan or place: place stays. Any other answer: both words of place are written. */
+uint32_t gateway_judge(const uint64_t *plan, size_t plan_length, const uint32_t *table, size_t table_length, uint64_t *place, size_t place_length);
+
+/* The slack figure of a plan.
+ * In: plan and table. Out: with 0, the least slack in *slack (below zero when the plan falls short), and its interval and deadline in place.
+ * Answers 0, GATEWAY_NONE_ESSENTIAL, or what gateway_judge answers but for 18.
+ * 22 for plan or place: *slack and place stay. Any other refusal: *slack is 0, place as with gateway_judge. None essential: all are 0. */
+uint32_t gateway_slack(const uint64_t *plan, size_t plan_length, const uint32_t *table, size_t table_length, int64_t *slack, uint64_t *place, size_t place_length);
+
+/* Judges a plan, and starts its run if it is accepted.
+ * In: plan and table. Out: the run (clock at the first release, nothing carried, both marks clear), and place as with gateway_judge.
+ * 22 for plan, run or place: nothing is touched. Any other refusal: run stays. */
+uint32_t gateway_start(const uint64_t *plan, size_t plan_length, const uint32_t *table, size_t table_length, uint32_t *run, size_t run_length, uint64_t *place, size_t place_length);
+
+/* Carries one slot at a speed in units.
+ * In: plan, table, run and speed. Out: the run, advanced in place, and for each job its grant. Answers 0, 22, 21, 19 or 20.
+ * After any refusal run and grants stay. grants has at least as many places as the plan has jobs; places beyond stay. */
+uint32_t gateway_step(const uint64_t *plan, size_t plan_length, const uint32_t *table, size_t table_length, uint32_t *run, size_t run_length, uint16_t speed, uint32_t *grants, size_t grants_length);
+
+/* How a job's transfer ended.
+ * In: plan, run and the job's position. Answers GATEWAY_MET, GATEWAY_DISCARDED, GATEWAY_MISSED, GATEWAY_OPEN, 22 or 21. No buffer is changed. */
+uint32_t gateway_outcome(const uint64_t *plan, size_t plan_length, const uint32_t *run, size_t run_length, size_t position);
+
+#ifdef __cplusplus
+}
+#endif
+
+#endif

@@ -1,0 +1,307 @@
+//! A safe wrapper over `libgateway.a`, without dependencies: plan files, judging and slots.
+//!
+//! A [`Plan`] and a [`Run`] own the memory that the library works on. Every refusal is a [`Refusal`] with its number, its place and its words.
+
+use std::fmt;
+
+pub const MOST_JOBS: usize = 32;
+pub const MOST_INTERVALS: usize = 63;
+pub const LARGEST_FILE: usize = 30_956;
+
+const PLAN_WORDS: usize = 163;
+const TABLE_PLACES: usize = MOST_JOBS * MOST_INTERVALS;
+const RUN_WORDS: usize = 35;
+const PLACE_WORDS: usize = 2;
+
+const HEAD_WORDS: usize = 3;
+const JOB_WORDS: usize = 5;
+const MARK_WORDS: usize = 3;
+
+const DONE: u32 = 0;
+const NONE_ESSENTIAL: u32 = 256;
+const MET: u32 = 257;
+const DISCARDED: u32 = 258;
+const MISSED: u32 = 259;
+const OPEN: u32 = 260;
+
+// The declarations of gateway.h; nothing checks one against the other.
+#[link(name = "gateway", kind = "static")]
+extern "C" {
+    fn gateway_read(file: *const u8, file_length: usize, plan: *mut u64, plan_length: usize, table: *mut u32, table_length: usize) -> u32;
+    fn gateway_write(plan: *const u64, plan_length: usize, table: *const u32, table_length: usize, out: *mut u8, out_length: usize, written: *mut usize) -> u32;
+    fn gateway_name(file: *const u8, file_length: usize, position: usize) -> usize;
+    fn gateway_judge(plan: *const u64, plan_length: usize, table: *const u32, table_length: usize, place: *mut u64, place_length: usize) -> u32;
+    fn gateway_slack(plan: *const u64, plan_length: usize, table: *const u32, table_length: usize, slack: *mut i64, place: *mut u64, place_length: usize) -> u32;
+    fn gateway_start(plan: *const u64, plan_length: usize, table: *const u32, table_length: usize, run: *mut u32, run_length: usize, place: *mut u64, place_length: usize) -> u32;
+    fn gateway_step(plan: *const u64, plan_length: usize, table: *const u32, table_length: usize, run: *mut u32, run_length: usize, speed: u16, grants: *mut u32, grants_length: usize) -> u32;
+    fn gateway_outcome(plan: *const u64, plan_length: usize, run: *const u32, run_length: usize, position: usize) -> u32;
+}
+
+/// What a refusal names beside its number.
+#[derive(Clone, Copy, Debug, PartialEq, Eq)]
+pub enum Place {
+    Nowhere,
+    JobAndInterval(usize, usize),
+    Job(usize),
+    Interval(usize),
+    IntervalAndDeadline(usize, u32),
+}
+
+/// A refusal: its number, and the place that it names.
+#[derive(Clone, Copy, Debug, PartialEq, Eq)]
+pub struct Refusal {
+    number: u8,
+    place: Place,
+}
+
+impl Refusal {
+    fn new(number: u32, place: [u64; PLACE_WORDS]) -> Refusal {
+        let place = match number {
+            15 => Place::JobAndInterval(place[0] as usize, place[1] as usize),
+            16 => Place::Job(place[0] as usize),
+            17 => Place::Interval(place[0] as usize),
+            18 => Place::IntervalAndDeadline(place[0] as usize, place[1] as u32),
+            _ => Place::Nowhere,
+        };
+        Refusal { number: number as u8, place }
+    }
+
+    fn nowhere(number: u32) -> Refusal {
+        Refusal::new(number, [0; PLACE_WORDS])
+    }
+
+    pub fn number(&self) -> u8 {
+        self.number
+    }
+
+    pub fn place(&self) -> Place {
+        self.place
+    }
+
+    /// What the number says.
+    pub fn words(&self) -> &'static str {
+        match self.number {
+            1 => "no first byte, or it is not the version",
+            2 => "the bytes end inside a field, the length field is wrong, or bytes remain",
+            3 => "a job's or a row's length byte is wrong",
+            4 => "rates outside the bounds",
+            5 => "no job, or too many",
+            6 => "a name byte outside 0x21 to 0x7E",
+            7 => "a name that an earlier job has",
+            8 => "a grade that is neither 0 nor 1",
+            9 => "release, size or deadline outside the bounds",
+            10 => "too many rows",
+            11 => "a row names no job",
+            12 => "a row's interval is not below the number of intervals",
+            13 => "a row's units are 0",
+            14 => "a row does not come strictly after the one before",
+            15 => "an allotment outside its job's window",
+            16 => "a job's allotments do not sum to its size",
+            17 => "an interval's allotments exceed the normal rate times its length",
+            18 => "the floor rule fails",
+            19 => "the clock is at the last deadline",
+            20 => "the speed is above the normal rate",
+            21 => "an unsound plan or run",
+            22 => "a lent buffer is too short",
+            _ => "a number that the library does not give",
+        }
+    }
+}
+
+impl fmt::Display for Refusal {
+    fn fmt(&self, f: &mut fmt::Formatter<'_>) -> fmt::Result {
+        write!(f, "refused {}: {}", self.number, self.words())?;
+        match self.place {
+            Place::Nowhere => Ok(()),
+            Place::JobAndInterval(job, interval) => write!(f, " (job {job}, interval {interval})"),
+            Place::Job(job) => write!(f, " (job {job})"),
+            Place::Interval(interval) => write!(f, " (interval {interval})"),
+            Place::IntervalAndDeadline(interval, deadline) => write!(f, " (interval {interval}, deadline {deadline})"),
+        }
+    }
+}
+
+impl std::error::Error for Refusal {}
+
+#[derive(Clone, Copy, Debug, PartialEq, Eq)]
+pub enum Grade {
+    Lo,
+    Hi,
+}
+
+/// A transfer as a plan asks for it.
+#[derive(Clone, Copy, Debug, PartialEq, Eq)]
+pub struct Job {
+    pub name: [u8; 8],
+    pub grade: Grade,
+    pub release: u32,
+    pub size: u64,
+    pub deadline: u32,
+}
+
+/// The tightest interval and deadline of a plan, and by how much the floor carries more than they ask.
+#[derive(Clone, Copy, Debug, PartialEq, Eq)]
+pub struct Slack {
+    pub units: i64,
+    pub interval: usize,
+    pub deadline: u32,
+}
+
+#[derive(Clone, Copy, Debug, PartialEq, Eq)]
+pub enum Outcome {
+    Met,
+    Discarded,
+    Missed,
+    Open,
+}
+
+/// A plan with its table.
+#[derive(Clone)]
+pub struct Plan {
+    words: [u64; PLAN_WORDS],
+    table: [u32; TABLE_PLACES],
+}
+
+impl Plan {
+    /// A plan of these rates and jobs with an empty table. Nothing is judged yet; more jobs than there is room for are refused by 5.
+    pub fn new(normal_rate: u16, floor: u16, jobs: &[Job]) -> Result<Plan, Refusal> {
+        if jobs.len() > MOST_JOBS {
+            return Err(Refusal::nowhere(5));
+        }
+        let mut plan = Plan { words: [0; PLAN_WORDS], table: [0; TABLE_PLACES] };
+        plan.words[0] = normal_rate.into();
+        plan.words[1] = floor.into();
+        plan.words[2] = jobs.len() as u64;
+        for (job, words) in jobs.iter().zip(plan.words[HEAD_WORDS..].chunks_exact_mut(JOB_WORDS)) {
+            let grade = (job.grade == Grade::Hi).into();
+            words.copy_from_slice(&[u64::from_be_bytes(job.name), grade, job.release.into(), job.size, job.deadline.into()]);
+        }
+        Ok(plan)
+    }
+
+    /// Reads a plan file.
+    pub fn read(file: &[u8]) -> Result<Plan, Refusal> {
+        let mut plan = Plan { words: [0; PLAN_WORDS], table: [0; TABLE_PLACES] };
+        // SAFETY: each pointer is valid for the length beside it, and the two that are written are separate fields.
+        let number = unsafe { gateway_read(file.as_ptr(), file.len(), plan.words.as_mut_ptr(), PLAN_WORDS, plan.table.as_mut_ptr(), TABLE_PLACES) };
+        done(number).map(|()| plan)
+    }
+
+    /// The plan file.
+    pub fn write(&self) -> Result<Vec<u8>, Refusal> {
+        let mut out = vec![0; LARGEST_FILE];
+        let mut written = 0;
+        // SAFETY: each pointer is valid for the length beside it; out and written are fresh.
+        let number = unsafe { gateway_write(self.words.as_ptr(), PLAN_WORDS, self.table.as_ptr(), TABLE_PLACES, out.as_mut_ptr(), out.len(), &mut written) };
+        out.truncate(written);
+        done(number).map(|()| out)
+    }
+
+    /// Whether the plan is accepted.
+    pub fn judge(&self) -> Result<(), Refusal> {
+        let mut place = [0; PLACE_WORDS];
+        // SAFETY: each pointer is valid for the length beside it; place is fresh.
+        let number = unsafe { gateway_judge(self.words.as_ptr(), PLAN_WORDS, self.table.as_ptr(), TABLE_PLACES, place.as_mut_ptr(), PLACE_WORDS) };
+        if number == DONE { Ok(()) } else { Err(Refusal::new(number, place)) }
+    }
+
+    /// The slack figure; none for a plan without essential jobs.
+    pub fn slack(&self) -> Result<Option<Slack>, Refusal> {
+        let mut place = [0; PLACE_WORDS];
+        let mut units = 0;
+        // SAFETY: each pointer is valid for the length beside it; place and units are fresh.
+        let number = unsafe { gateway_slack(self.words.as_ptr(), PLAN_WORDS, self.table.as_ptr(), TABLE_PLACES, &mut units, place.as_mut_ptr(), PLACE_WORDS) };
+        match number {
+            DONE => Ok(Some(Slack { units, interval: place[0] as usize, deadline: place[1] as u32 })),
+            NONE_ESSENTIAL => Ok(None),
+            _ => Err(Refusal::new(number, place)),
+        }
+    }
+
+    /// Judges the plan, and starts its run.
+    pub fn start(&self) -> Result<Run, Refusal> {
+        let mut run = Run { words: [0; RUN_WORDS] };
+        let mut place = [0; PLACE_WORDS];
+        // SAFETY: each pointer is valid for the length beside it; run and place are fresh.
+        let number = unsafe { gateway_start(self.words.as_ptr(), PLAN_WORDS, self.table.as_ptr(), TABLE_PLACES, run.words.as_mut_ptr(), RUN_WORDS, place.as_mut_ptr(), PLACE_WORDS) };
+        if number == DONE { Ok(run) } else { Err(Refusal::new(number, place)) }
+    }
+
+    pub fn job_count(&self) -> usize {
+        self.words[2] as usize
+    }
+
+    /// The allotment of a job in an interval; none where the table has no such place.
+    pub fn allotment(&self, job: usize, interval: usize) -> Option<u32> {
+        place_of(job, interval).map(|at| self.table[at])
+    }
+
+    /// Sets an allotment. Whether there is such a place.
+    pub fn allot(&mut self, job: usize, interval: usize, units: u32) -> bool {
+        place_of(job, interval).map(|at| self.table[at] = units).is_some()
+    }
+}
+
+fn place_of(job: usize, interval: usize) -> Option<usize> {
+    (job < MOST_JOBS && interval < MOST_INTERVALS).then(|| MOST_INTERVALS * job + interval)
+}
+
+fn done(number: u32) -> Result<(), Refusal> {
+    if number == DONE { Ok(()) } else { Err(Refusal::nowhere(number)) }
+}
+
+/// The eight bytes of a job's name inside a plan file; none for a refused file or a position not below its job count.
+pub fn name(file: &[u8], position: usize) -> Option<&[u8]> {
+    // SAFETY: the pointer is valid for the length beside it.
+    let at = unsafe { gateway_name(file.as_ptr(), file.len(), position) };
+    if at == 0 { None } else { file.get(at..at + 8) }
+}
+
+/// A run of a plan.
+#[derive(Clone, Debug, PartialEq, Eq)]
+pub struct Run {
+    words: [u32; RUN_WORDS],
+}
+
+impl Run {
+    /// Carries one slot at a speed; the grant of each of the plan's jobs. A refusal leaves the run as it was.
+    pub fn step(&mut self, plan: &Plan, speed: u16) -> Result<Vec<u32>, Refusal> {
+        let mut grants = vec![0; MOST_JOBS];
+        // SAFETY: each pointer is valid for the length beside it; grants is fresh, and the run is borrowed for writing.
+        let number = unsafe {
+            gateway_step(plan.words.as_ptr(), PLAN_WORDS, plan.table.as_ptr(), TABLE_PLACES, self.words.as_mut_ptr(), RUN_WORDS, speed, grants.as_mut_ptr(), MOST_JOBS)
+        };
+        grants.truncate(plan.job_count());
+        done(number).map(|()| grants)
+    }
+
+    /// How a job's transfer ended, or that it is still open.
+    pub fn outcome(&self, plan: &Plan, position: usize) -> Result<Outcome, Refusal> {
+        // SAFETY: each pointer is valid for the length beside it.
+        let number = unsafe { gateway_outcome(plan.words.as_ptr(), PLAN_WORDS, self.words.as_ptr(), RUN_WORDS, position) };
+        match number {
+            MET => Ok(Outcome::Met),
+            DISCARDED => Ok(Outcome::Discarded),
+            MISSED => Ok(Outcome::Missed),
+            OPEN => Ok(Outcome::Open),
+            _ => Err(Refusal::nowhere(number)),
+        }
+    }
+
+    pub fn clock(&self) -> u32 {
+        self.words[0]
+    }
+
+    pub fn is_slow(&self) -> bool {
+        self.words[1] == 1
+    }
+
+    pub fn is_below_floor(&self) -> bool {
+        self.words[2] == 1
+    }
+
+    /// The units carried for a job; none where there is no such place.
+    pub fn carried(&self, job: usize) -> Option<u32> {
+        self.words[MARK_WORDS..].get(job).copied()
+    }
+}
