@@ -16,7 +16,7 @@ use Rattle.plan.specs.declared.kinds.Job.{Job}
 use Rattle.plan.specs.declared.kinds.Plan.{Plan}
 use Rattle.judge.proofs.Tests.{both}
 use Rattle.judge.specs.Verdict.{Report}
-use Rattle.planfile.proofs.Sets.{sets-whole}
+use Rattle.planwriter.proofs.Sets.{sets-whole}
 use Rattle.dispatch.specs.declared.Run.{Run}
 use Rattle.gateway.specs.Memory.{headWords, jobWords, planWords, runWords, markWords, most8, most16, most32, jobPlace, jobAt, jobsTo, planOf, jobOut, jobsOut, planOut, marksHold, runOf, markOut, runOut}
 use Rattle.gateway.proofs.Laws.{jobs-long}

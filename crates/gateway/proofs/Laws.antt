@@ -14,7 +14,7 @@ use Rattle.judge.specs.Verdict.{Report, isNone}
 use Rattle.planfile.specs.Reading.{readFile, nameShown}
 use Rattle.planfile.specs.Answers.{countOf}
 use Rattle.planfile.proofs.Whole.{shown-none}
-use Rattle.planfile.proofs.Sets.{sets-append}
+use Rattle.planwriter.proofs.Sets.{sets-append}
 use Rattle.dispatch.specs.Step.{started}
 use Rattle.dispatch.proofs.Line.{neither}
 use Rattle.gateway.specs.Memory.{headWords, jobWords, jobPlace, jobOut, jobsOut, runOut}

@@ -12,7 +12,7 @@ use Rattle.plan.specs.declared.kinds.Plan.{Plan}
 use Rattle.judge.specs.Verdict.{Report, judged}
 use Rattle.judge.specs.Slack as slack
 use Rattle.planfile.specs.Reading.{Left, reader, nameAt, nameShown}
-use Rattle.planfile.specs.Writing as writing
+use Rattle.planwriter.specs.Writing as writing
 use Rattle.dispatch.specs.Step.{Slot, Ending, met, discarded, missed, stillOpen, refused, started, stepped, outcome}
 use Rattle.gateway.specs.Memory.{planWords, runWords, placeWords, planOf, planOut, marksHold, runOf, runOut}
 

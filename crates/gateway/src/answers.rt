@@ -10,10 +10,11 @@ use plan::refusal::OVER_CAPACITY;
 use plan::refusal::UNSOUND;
 use plan::refusal::WRONG_TOTAL;
 use planfile::reader::Answer as Reader;
-use planfile::writer::Written;
+use planwriter::writer::Written;
 ghost use mathlib.Core.Path.{_≡_};
 ghost use Rattle.judge.specs.Answers.{report, figure};
 ghost use Rattle.planfile.specs.Answers as files;
+ghost use Rattle.planwriter.specs.Answers as written;
 ghost use Rattle.dispatch.specs.Answers as slots;
 ghost use Rattle.gateway.specs.Calls.{numberOf, firstOf, secondOf, endingNumber, figureNumber, figureSlack, figureFirst, figureSecond, writtenNumber, writtenLength};
 
@@ -29,7 +30,7 @@ pub const MISSED: u32 = 259;
 
 pub const OPEN: u32 = 260;
 
-pub fn number_of(v: Verdict) -> u32
+pub(crate) fn number_of(v: Verdict) -> u32
     ensures { λ r. ⌜ r ≡ numberOf (report v) ⌝ }
 {
     match v {
@@ -44,7 +45,7 @@ pub fn number_of(v: Verdict) -> u32
 }
 
 // The first part of the place that a verdict names; 0 where it names none.
-pub fn first_of(v: Verdict) -> u64
+pub(crate) fn first_of(v: Verdict) -> u64
     ensures { λ r. ⌜ r ≡ firstOf (report v) ⌝ }
 {
     match v {
@@ -59,7 +60,7 @@ pub fn first_of(v: Verdict) -> u64
 }
 
 // The second part of that place.
-pub fn second_of(v: Verdict) -> u64
+pub(crate) fn second_of(v: Verdict) -> u64
     ensures { λ r. ⌜ r ≡ secondOf (report v) ⌝ }
 {
     match v {
@@ -73,7 +74,7 @@ pub fn second_of(v: Verdict) -> u64
     }
 }
 
-pub fn answer_number(a: Answer) -> u32
+pub(crate) fn answer_number(a: Answer) -> u32
     ensures { λ r. ⌜ r ≡ numberOf (slots.report a) ⌝ }
 {
     match a {
@@ -82,7 +83,7 @@ pub fn answer_number(a: Answer) -> u32
     }
 }
 
-pub fn outcome_number(o: Outcome) -> u32
+pub(crate) fn outcome_number(o: Outcome) -> u32
     ensures { λ r. ⌜ r ≡ endingNumber (slots.ending o) ⌝ }
 {
     match o {
@@ -94,7 +95,7 @@ pub fn outcome_number(o: Outcome) -> u32
     }
 }
 
-pub fn slack_number(s: Slack) -> u32
+pub(crate) fn slack_number(s: Slack) -> u32
     ensures { λ r. ⌜ r ≡ figureNumber (figure s) ⌝ }
 {
     match s {
@@ -104,7 +105,7 @@ pub fn slack_number(s: Slack) -> u32
     }
 }
 
-pub fn slack_figure(s: Slack) -> i64
+pub(crate) fn slack_figure(s: Slack) -> i64
     ensures { λ r. ⌜ r ≡ figureSlack (figure s) ⌝ }
 {
     match s {
@@ -115,7 +116,7 @@ pub fn slack_figure(s: Slack) -> i64
 }
 
 // The place of a figure: interval and deadline of the least slack, or the place of a refusal.
-pub fn slack_first(s: Slack) -> u64
+pub(crate) fn slack_first(s: Slack) -> u64
     ensures { λ r. ⌜ r ≡ figureFirst (figure s) ⌝ }
 {
     match s {
@@ -125,7 +126,7 @@ pub fn slack_first(s: Slack) -> u64
     }
 }
 
-pub fn slack_second(s: Slack) -> u64
+pub(crate) fn slack_second(s: Slack) -> u64
     ensures { λ r. ⌜ r ≡ figureSecond (figure s) ⌝ }
 {
     match s {
@@ -135,7 +136,7 @@ pub fn slack_second(s: Slack) -> u64
     }
 }
 
-pub fn read_number(a: Reader) -> u32
+pub(crate) fn read_number(a: Reader) -> u32
     ensures { λ r. ⌜ r ≡ numberOf (files.answerTold a) ⌝ }
 {
     match a {
@@ -144,8 +145,8 @@ pub fn read_number(a: Reader) -> u32
     }
 }
 
-pub fn written_number(w: Written) -> u32
-    ensures { λ r. ⌜ r ≡ writtenNumber (files.writtenTold w) ⌝ }
+pub(crate) fn written_number(w: Written) -> u32
+    ensures { λ r. ⌜ r ≡ writtenNumber (written.writtenTold w) ⌝ }
 {
     match w {
         Written::Length(_) => DONE,
@@ -154,8 +155,8 @@ pub fn written_number(w: Written) -> u32
 }
 
 // The length of a written file; 0 after a refusal.
-pub fn written_length(w: Written) -> usize
-    ensures { λ r. ⌜ r ≡ writtenLength (files.writtenTold w) ⌝ }
+pub(crate) fn written_length(w: Written) -> usize
+    ensures { λ r. ⌜ r ≡ writtenLength (written.writtenTold w) ⌝ }
 {
     match w {
         Written::Length(n) => n,

@@ -9,7 +9,7 @@ use plan::edition::Edition;
 use plan::refusal::BUFFER_TOO_SHORT;
 use planfile::lookup::name_of;
 use planfile::reader::read;
-use planfile::writer::write;
+use planwriter::writer::write;
 ghost use mathlib.Core.Path.{_≡_};
 ghost use Rattle.gateway.specs.Calls.{readCall, writeCall, nameCall};
 

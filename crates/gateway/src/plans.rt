@@ -67,7 +67,7 @@ fn no_job() -> Job {
 }
 
 // The plan that words mean.
-pub fn plan_of(words: &[u64]) -> Plan
+pub(crate) fn plan_of(words: &[u64]) -> Plan
     requires { ⌜ planWords ≤ length (now words) ⌝ }
     ensures { λ r. ⌜ r ≡ planOf (now (words .entry)) ⌝ }
 {
@@ -118,7 +118,7 @@ fn put_jobs(words: &mut [u64], p: Plan)
 }
 
 // Puts a plan's words in the place of those that were there.
-pub fn put_plan(words: &mut [u64], p: Plan)
+pub(crate) fn put_plan(words: &mut [u64], p: Plan)
     requires { ⌜ planWords ≤ length (now words) ⌝ }
     ensures { λ r. ⌜ now (words .exit) ≡ sets (now (words .entry)) 0 (planOut p) ⌝ }
 {

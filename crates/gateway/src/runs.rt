@@ -11,7 +11,7 @@ ghost use Rattle.plan.specs.Edition.{mostJobs};
 ghost use Rattle.gateway.specs.Memory.{markWords, runWords, marksHold, runOf, markOut, runOut};
 
 // Whether both marks of a run's words are 0 or 1.
-pub fn marks_hold(words: &[u32]) -> bool
+pub(crate) fn marks_hold(words: &[u32]) -> bool
     requires { ⌜ runWords ≤ length (now words) ⌝ }
     ensures { λ r. ⌜ r ≡ marksHold (now (words .entry)) ⌝ }
 {
@@ -33,7 +33,7 @@ fn carried_of(words: &[u32]) -> [u32; Edition::MOST_JOBS]
 }
 
 // The run that words mean.
-pub fn run_of(words: &[u32]) -> Run
+pub(crate) fn run_of(words: &[u32]) -> Run
     requires { ⌜ runWords ≤ length (now words) ⌝ }
     ensures { λ r. ⌜ r ≡ runOf (now (words .entry)) ⌝ }
 {
@@ -66,7 +66,7 @@ fn put_carried(words: &mut [u32], carried: [u32; Edition::MOST_JOBS])
 }
 
 // Puts a run's words in the place of those that were there.
-pub fn put_run(words: &mut [u32], run: Run)
+pub(crate) fn put_run(words: &mut [u32], run: Run)
     requires { ⌜ runWords ≤ length (now words) ⌝ }
     ensures { λ r. ⌜ now (words .exit) ≡ sets (now (words .entry)) 0 (runOut run) ⌝ }
 {
