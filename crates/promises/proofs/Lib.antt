@@ -3,6 +3,7 @@ pub mod Keep
 pub mod Sound
 pub mod Same
 pub mod SameVerdict
+pub mod SameFile
 pub mod Slots
 pub mod Demand3
 pub mod Strategy

@@ -4,9 +4,9 @@ use mathlib.Core.Bool.{Bool, true, false, not, _&&_, _||_}
 use mathlib.Core.List.{List, [], _∷_, _++_}
 use Prim.Native.Nat.{ℕ, suc, _+_, _*_, _-_, _≤_, _<_, min}
 use native.Mathlib.Omega.{arith}
-use borrow.Author.Tests.{ltb-true, ltb-false, leb-true, eqb-false, not-false, lt-ltb, le-ltb}
+use borrow.Author.Tests.{ltb-true, ltb-false, eqb-false, not-false, lt-ltb, le-ltb}
 use lib.Dec.{leb, ltb, eqb}
-use lib.ListN.{length, getD, take, drop, replicate, length-take}
+use lib.ListN.{length, getD, length-take}
 use lib.Seq.{getD-take}
 use Rattle.sums.specs.Sum.{sum}
 use Rattle.sums.proofs.Laws.{sum-ext}
@@ -26,8 +26,8 @@ use Rattle.plan.proofs.Timeline.{present-inside}
 use Rattle.judge.specs.Verdict.{Report, orElse, fault}
 use Rattle.dispatch.specs.declared.Run.{Run}
 use Rattle.dispatch.specs.Dues.{carriedOf, live, slowAfter, belowAfter, goal, due}
-use Rattle.dispatch.specs.Turns.{line, order, serve}
-use Rattle.dispatch.specs.Step.{slotSound, slotFault, granted, added, advanced, Slot, slotBy, stepped, outcome}
+use Rattle.dispatch.specs.Turns.{line, order}
+use Rattle.dispatch.specs.Step.{slotSound, slotFault, granted, added, advanced, slotBy, stepped, outcome}
 use Rattle.dispatch.proofs.Line.{stands, if-true, if-less, neither, line-ext, serve-ext, stands-both, stands-below}
 use Rattle.promises.proofs.Sound.{SlotSound, slot-sound}
 
@@ -90,7 +90,7 @@ module _ (p : Plan) (table : List ℕ) (q : Plan) (other : List ℕ) (same : Sam
   pub boundaries-same : boundaries p ≡ boundaries q
   boundaries-same = boundaries-ext p q (counted p) release-same deadline-same ∙ ap (boundariesTo q) counted-same
 
-  first-same : firstRelease p ≡ firstRelease q
+  pub first-same : firstRelease p ≡ firstRelease q
   first-same = least-ext (release p) (release q) (counted p) release-same ∙ ap (least (release q)) counted-same
 
   last-same : lastDeadline p ≡ lastDeadline q

@@ -1,31 +1,39 @@
--- Plans that are the same get the same verdict and the same slack figure.
+-- Plans that are the same get the same verdict, the same slack figure and the same start.
 use mathlib.Core.Path.{_≡_, refl, sym, _∙_, ap, ap₂}
-use mathlib.Core.Bool.{Bool, not, cond, _&&_, _||_}
+use mathlib.Core.Bool.{false, not, _&&_, _||_}
 use mathlib.Core.List.{List, [], _∷_}
-use Prim.Native.Nat.{ℕ, zero, suc, _+_, _*_, _-_, _≤_, _<_}
+use Prim.Native.Nat.{ℕ, zero, suc, _+_, _*_, _-_, _<_}
 use native.Mathlib.Omega.{arith}
 use lib.Dec.{leb, ltb, eqb}
-use lib.IntN.{ℤ, subℕ}
-use lib.ListN.{length, getD, take}
+use lib.IntN.{subℕ}
+use lib.ListN.{length, getD, replicate}
 use lib.Seq.{getD-take}
 use Rattle.sums.specs.Sum.{sum, on}
 use Rattle.sums.proofs.Laws.{sum-ext}
-use Rattle.plan.specs.Edition.{mostIntervals, places}
-use Rattle.plan.specs.Refusal.{outsideWindow, wrongTotal, overCapacity, belowFloorRule, unsound, bufferTooShort}
+use Rattle.plan.specs.Edition.{mostJobs, mostIntervals, places}
+use Rattle.plan.specs.Refusal.{outsideWindow, wrongTotal, overCapacity, belowFloorRule}
 use Rattle.plan.specs.Below.{every}
-use Rattle.plan.specs.Rules.{counted, name, release, size, deadline, isHi, nameAllowed, sameName, gradeAllowed, windowAllowed, sizeAllowed, ratesAllowed, countAllowed, namesHold, namesDiffer, gradesHold, boundsHold, rulesHold}
-use Rattle.plan.specs.Boundaries.{boundaries, boundary, intervals}
-use Rattle.plan.specs.Table.{noStray, sound}
+use Rattle.plan.specs.Rules.{counted, name, release, size, deadline, nameAllowed, sameName, gradeAllowed, windowAllowed, sizeAllowed, ratesAllowed, countAllowed, namesHold, namesDiffer, gradesHold, boundsHold, rulesHold}
+use Rattle.plan.specs.Boundaries.{boundary, intervals}
+use Rattle.plan.specs.Table.{sound}
 use Rattle.plan.specs.Same.{Same}
-use Rattle.plan.specs.declared.kinds.Job.{Job}
 use Rattle.plan.specs.declared.kinds.Rate.{Rate}
 use Rattle.plan.specs.declared.kinds.Plan.{Plan}
 use Rattle.plan.proofs.Below.{every-ext}
 use Rattle.plan.proofs.Rising.{boundaries-few}
-use Rattle.judge.specs.Constraints.{units, inWindow, span, total, load, unitsBetween, demand, floorCarries}
-use Rattle.judge.specs.Verdict.{Report, orElse, fault, first, isStray, outsideFault, totalFault, capacityFault, isHiDeadline, isPair, fallsShort, floorFault, handFault, constraintFault, judged}
+use Rattle.judge.specs.Constraints.{units, inWindow, span, demand, floorCarries}
+use Rattle.judge.specs.Verdict.{fault, first, outsideFault, totalFault, capacityFault, isHiDeadline, isPair, fallsShort, floorFault, judged}
+use Rattle.judge.specs.Slack.{Figure, noneEssential, slackOf, taken, through, leastSlack, slackFigure}
 use Rattle.judge.proofs.First.{first-ext}
-use Rattle.promises.proofs.Same.{counted-same, release-same, deadline-same, size-same, hi-same, boundaries-same, every-same, long-same}
+use Rattle.dispatch.specs.Step.{started, startFrom, startIn}
+use Rattle.dispatch.specs.declared.Run.{Run}
+use Rattle.promises.proofs.Same.{counted-same, release-same, deadline-same, size-same, hi-same, boundaries-same, first-same, every-same, long-same}
+
+-- Steps that agree give the same, however often.
+through-ext : {A : Type 0} (f g : ℕ → A → A) (n : ℕ) → ((k : ℕ) (a : A) → f k a ≡ g k a) → (a : A) → through f n a ≡ through g n a
+unfolding through
+through-ext f g zero h a = refl
+through-ext f g (suc n) h a = h n (through f n a) ∙ ap (g n) (through-ext f g n h a)
 
 module _ (p : Plan) (table : List ℕ) (q : Plan) (other : List ℕ) (same : Same p table q other) where
   jobs-same : counted p ≡ counted q
@@ -60,7 +68,7 @@ module _ (p : Plan) (table : List ℕ) (q : Plan) (other : List ℕ) (same : Sam
       (every-same p table q other same (λ j. gradeAllowed (j .grade))))
       (every-same p table q other same (λ j. windowAllowed (j .release .0) (j .deadline .0) && sizeAllowed (j .size .0)))
 
-  sound-same : sound p table ≡ sound q other
+  pub sound-same : sound p table ≡ sound q other
   unfolding sound
   sound-same = rw (rules-same, same .cells, intervals-same, jobs-same) refl
 
@@ -151,3 +159,37 @@ module _ (p : Plan) (table : List ℕ) (q : Plan) (other : List ℕ) (same : Sam
   pub same-verdict : judged p table ≡ judged q other
   unfolding judged
   same-verdict = rw (long-same p table q other same, sound-same, outside-same, totals-same, capacity-same, floor-same) refl
+
+  -- Nor can the slack figure and the slack of a pair.
+  pub same-slack-of : (l D : ℕ) → slackOf p table l D ≡ slackOf q other l D
+  same-slack-of l D = ap₂ subℕ (carries-same l D) (demand-same l D)
+
+  taken-same : (l m : ℕ) (f : Figure) → taken p table l m f ≡ taken q other l m f
+  taken-same l m f =
+      rw (boundary-same m, hi-deadline-same (boundary q m), carries-same l (boundary q m), demand-same l (boundary q m)) refl
+
+  least-same : leastSlack p table ≡ leastSlack q other
+  unfolding leastSlack
+  least-same =
+      through-ext _ _ (intervals p)
+      (λ l f. through-ext _ _ (suc (intervals p)) (taken-same l) f ∙ ap (λ n. through (taken q other l) (suc n) f) intervals-same)
+      noneEssential
+      ∙ ap (λ n. through (λ l. through (taken q other l) (suc (intervals q))) n noneEssential) intervals-same
+
+  pub same-slack : slackFigure p table ≡ slackFigure q other
+  unfolding slackFigure
+  same-slack = rw (long-same p table q other same, sound-same, outside-same, totals-same, capacity-same, least-same) refl
+
+  -- A start begins the same run, by value and in a lent record.
+  started-same : started p ≡ started q
+  unfolding started
+  started-same =
+      let first = first-same p table q other same in
+      λ i. record { clock = record { 0 = first i }; slow = false; below = false; carried = replicate mostJobs 0 }
+
+  pub same-start : (was : Run) → startFrom (judged p table) (started p) was ≡ startFrom (judged q other) (started q) was
+  same-start was = ap₂ (λ r run. startFrom r run was) same-verdict started-same
+
+  pub same-start-in : (was : Run) → startIn p table was ≡ startIn q other was
+  unfolding startIn
+  same-start-in was = same-start was

@@ -58,7 +58,7 @@ readable p table s long fits k h =
     }
 
 -- Rows of a table without stray places are written by the counted names alone.
-rows-counted : (jobs spans : ℕ) (a b : List ℕ) → ((k : ℕ) → k < jobs → getD a k 0 ≡ getD b k 0) → (q : ℕ) (l : List ℕ)
+pub rows-counted : (jobs spans : ℕ) (a b : List ℕ) → ((k : ℕ) → k < jobs → getD a k 0 ≡ getD b k 0) → (q : ℕ) (l : List ℕ)
     → noStray mostIntervals jobs spans q l ≡ true → rowsBytes mostIntervals a q l ≡ rowsBytes mostIntervals b q l
 unfolding rowsBytes noStray
 rows-counted jobs spans a b same q [] clear = refl
