@@ -7,4 +7,7 @@ pub mod SameFile
 pub mod Slots
 pub mod Demand3
 pub mod Strategy
+pub mod Numbers
+pub mod Refused
+pub mod Unique
 pub mod Demands

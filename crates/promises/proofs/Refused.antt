@@ -1,0 +1,113 @@
+-- Demand 1, the buffers: what each refusal leaves, over the definitions that the calls are promised by. Judge, slack and outcome are lent
+-- no buffer to change.
+use mathlib.Core.Path.{_≡_, refl, sym, _∙_, ap}
+use mathlib.Core.Bool.{Bool, true, false, not, cond, false≢true}
+use mathlib.Core.List.{List, [], _∷_, _++_}
+use mathlib.Core.Logic.{_≢_}
+use Prim.Native.Nat.{ℕ, _≤_}
+use native.Mathlib.Omega.{arith}
+use lib.Dec.{ltb}
+use lib.ListN.{length, take, drop, replicate}
+use Rattle.plan.specs.Edition.{places}
+use Rattle.plan.specs.Refusal.{unsound, bufferTooShort}
+use Rattle.plan.specs.Table.{sound}
+use Rattle.plan.specs.declared.kinds.Plan.{Plan}
+use Rattle.planfields.specs.Fields.{Step, got, no}
+use Rattle.planfile.specs.Reading.{Held, readFile, noPlan, leaves, reader, nameShown}
+use Rattle.planfile.proofs.Whole.{shown-none}
+use Rattle.planwriter.specs.Writing as writing
+use Rattle.planwriter.specs.Writing.{wrote, withheld, written, writer}
+use Rattle.judge.specs.Verdict.{Report, judged}
+use Rattle.dispatch.specs.Step.{started, noRun, startFrom, startIn, stepped}
+use Rattle.dispatch.specs.declared.Run.{Run}
+use Rattle.dispatch.proofs.Never as never
+use Rattle.lines.specs.Answers as line
+use Rattle.lines.specs.Answers.{refusal, printed}
+use Rattle.promises.proofs.Numbers.{Only, fileNumbers, file-only, isOneOf}
+
+-- Reader: 22 leaves the table untouched, and a plan of zeros.
+pub reader-22-leaves : (file table : List ℕ) → reader file table .answer ≡ bufferTooShort ∷ []
+    → (reader file table .table ≡ table) × (reader file table .plan ≡ noPlan)
+unfolding reader
+reader-22-leaves file table e = by (ltb (length table) places) (readFile file) (file-only file) e
+  where
+    by : (b : Bool) (s : Step Held) → Only fileNumbers s
+        → cond b (record { answer = bufferTooShort ∷ []; plan = noPlan; table = table }) (leaves s table) .answer ≡ bufferTooShort ∷ []
+        → (cond b (record { answer = bufferTooShort ∷ []; plan = noPlan; table = table }) (leaves s table) .table ≡ table)
+        × (cond b (record { answer = bufferTooShort ∷ []; plan = noPlan; table = table }) (leaves s table) .plan ≡ noPlan)
+    by true s h e = (refl, refl)
+    by false (got held end) h e = absurd (let z : _≡_ {A = ℕ} 0 1 = cc in omega arith)
+    by false (no k) h e = absurd (false≢true (let n : k ≡ bufferTooShort = cc in sym (ap (isOneOf fileNumbers) n) ∙ h))
+
+-- Any other number leaves 2,016 zeros, the places beyond as they were, and a plan of zeros.
+pub reader-other-leaves : (file table : List ℕ) (number : ℕ) (rest : List ℕ) → reader file table .answer ≡ number ∷ rest → number ≢ bufferTooShort
+    → (reader file table .table ≡ replicate places 0 ++ drop places table) × (reader file table .plan ≡ noPlan)
+unfolding reader
+reader-other-leaves file table number rest e other = by (ltb (length table) places) (readFile file) e
+  where
+    by : (b : Bool) (s : Step Held)
+        → cond b (record { answer = bufferTooShort ∷ []; plan = noPlan; table = table }) (leaves s table) .answer ≡ number ∷ rest
+        → (cond b (record { answer = bufferTooShort ∷ []; plan = noPlan; table = table }) (leaves s table) .table ≡ replicate places 0 ++ drop places table)
+        × (cond b (record { answer = bufferTooShort ∷ []; plan = noPlan; table = table }) (leaves s table) .plan ≡ noPlan)
+    by true s e = absurd (other (cc))
+    by false (got held end) e = absurd (let z : _≡_ {A = ℕ} 0 1 = cc in omega arith)
+    by false (no k) e = (refl, refl)
+
+-- Name lookup: a file that the reader refuses, and a position not below the job count, show an empty part.
+pub refused-file-shows-nothing : (file : List ℕ) (number position : ℕ) → readFile file ≡ no number → nameShown file position ≡ []
+unfolding nameShown
+refused-file-shows-nothing file number position e = rw e refl
+
+pub no-job-shows-nothing : (file : List ℕ) (held : Held) (end position : ℕ) → readFile file ≡ got held end → held .plan .count ≤ position
+    → nameShown file position ≡ []
+unfolding nameShown
+no-job-shows-nothing file held end position e h = rw e (shown-none (got held end) file position h)
+
+-- Writer: a refusal writes nothing.
+pub writer-refused-leaves : (p : Plan) (table out : List ℕ) (number : ℕ) → writer p table out .answer ≡ writing.refused number
+    → writer p table out .out ≡ out
+unfolding writer
+writer-refused-leaves p table out number e =
+    by (ltb (length table) places) (not (sound p table)) (ltb (length out) (length file)) e
+  where
+    file : List ℕ
+    file = written p (take places table)
+
+    left : Bool → Bool → Bool → writing.Output
+    left a b c =
+        cond a (withheld bufferTooShort out)
+        (cond b (withheld unsound out)
+        (cond c (withheld bufferTooShort out) (record { answer = wrote (length file); out = file ++ drop (length file) out })))
+
+    by : (a b c : Bool) → left a b c .answer ≡ writing.refused number → left a b c .out ≡ out
+    by true b c e = refl
+    by false true c e = refl
+    by false false true e = refl
+    by false false false e = absurd (let z : _≡_ {A = ℕ} 0 1 = cc in omega arith)
+
+-- Start: after a refusal no run exists, which is a record of zeros; and a lent record stays as it was.
+pub start-refused-leaves : (p : Plan) (table : List ℕ) (number : ℕ) (place : Report) → judged p table ≡ number ∷ place
+    → startFrom (judged p table) (started p) noRun ≡ noRun
+start-refused-leaves p table number place e = ap (λ r. startFrom r (started p) noRun) e
+
+pub start-in-refused-leaves : (p : Plan) (table : List ℕ) (was : Run) (number : ℕ) (place : Report) → judged p table ≡ number ∷ place
+    → startIn p table was ≡ was
+start-in-refused-leaves = never.refused-start-changes-nothing
+
+-- Step: run and grants stay as they were.
+pub step-refused-leaves : (p : Plan) (table : List ℕ) (run : Run) (v : ℕ) (grants : List ℕ) (number : ℕ) (rest : Report)
+    → stepped p table run v grants .answer ≡ number ∷ rest
+    → (stepped p table run v grants .run ≡ run) × (stepped p table run v grants .grants ≡ grants)
+step-refused-leaves = never.refused-changes-nothing
+
+-- The lines: a buffer that is too short stays as it was.
+pub line-refused-leaves : (text out : List ℕ) (number : ℕ) → printed text out .answer ≡ line.withheld number → printed text out .out ≡ out
+unfolding printed
+line-refused-leaves text out number e = by (ltb (length out) (length text)) e
+  where
+    left : Bool → line.Output
+    left b = cond b (refusal bufferTooShort out) (record { answer = line.wrote (length text); out = text ++ drop (length text) out })
+
+    by : (b : Bool) → left b .answer ≡ line.withheld number → left b .out ≡ out
+    by true e = refl
+    by false e = absurd (let z : _≡_ {A = ℕ} 0 1 = cc in omega arith)
