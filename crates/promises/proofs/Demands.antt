@@ -1,4 +1,4 @@
--- The tender's demands as theorems over the definitions that the public calls are promised by, each with an instance that meets its premises.
+-- Demand 3 as a theorem over the definitions that the public calls are promised by, with instances that meet its premises.
 use mathlib.Core.Path.{_≡_, refl}
 use mathlib.Core.Bool.{true}
 use mathlib.Core.List.{List, [], _∷_}
@@ -12,42 +12,36 @@ use Rattle.plan.specs.Rules.{counted, size, deadline, isHi, nameAllowed, namesH
 use Rattle.plan.specs.Boundaries.{insert, boundariesTo, come}
 use Rattle.plan.specs.Table.{noStray, sound}
 use Rattle.plan.specs.declared.kinds.Plan.{Plan}
-use Rattle.judge.specs.Constraints.{Accepted}
 use Rattle.judge.specs.Verdict.{first, outsideFault, totalFault, capacityFault, isHiDeadline, floorFault, judged}
-use Rattle.judge.proofs.Exact.{accepted-parts, exact}
-use Rattle.judge.proofs.Hand.{hand-none}
 use Rattle.dispatch.specs.Turns
 use Rattle.dispatch.specs.Step.{started, slotSound, slotFault, granted, added, advanced, stepped}
-use Rattle.promises.specs.Cases.{Case, planOf, tableOf, P1, P9}
+use Rattle.promises.specs.Cases.{planOf, tableOf, planE, tableE, P9}
 use Rattle.promises.specs.Night.{Call, runAfter, had, Allowed, Kept, nightAt, Between, CorrectStrategy}
 use Rattle.promises.proofs.Sound.{rules-of}
+use Rattle.promises.proofs.Demand2.{judge-is-exact, accepted-E}
 use Rattle.promises.proofs.Demand3.{kept}
 use Rattle.promises.proofs.Strategy.{night-allowed, correct-strategy}
-
--- What an accepted plan is: its table has all its places, it is sound, and figure 2 holds.
-accepted-is : (p : Plan) (table : List ℕ) → judged p table ≡ [] → (sound p table ≡ true) × Accepted p table
-accepted-is p table e = exact p table (hand-none p table (accepted-parts p table e .0) .0) .0 e
 
 -- Demand 3. For every plan and table that the judge accepts, and every night begun from them in which each call was refused or has the
 -- accepted plan and table, unchanged, and a speed from floor to normal: what is promised to depositors is kept.
 pub promise-kept : (p : Plan) (table : List ℕ) → judged p table ≡ [] → (night : List Call) → Allowed p table night → Kept p night
 promise-kept p table e night a =
-    let w = accepted-is p table e in
-    kept p table (rules-of p table (w .0) .rules) (w .1) night a
+    let w = judge-is-exact p table .0 e in
+    kept p table (rules-of p table (w .1) .rules) (w .2) night a
 
 -- Every accepted plan has a correct scheduling strategy.
 pub strategy-is-correct : (p : Plan) (table : List ℕ) → judged p table ≡ [] → CorrectStrategy p table
 strategy-is-correct p table e =
-    let w = accepted-is p table e in
-    let r = rules-of p table (w .0) in
-    correct-strategy p table (r .rules) (omega (arith, r .rates)) (w .1)
+    let w = judge-is-exact p table .0 e in
+    let r = rules-of p table (w .1) in
+    correct-strategy p table (r .rules) (omega (arith, r .rates)) (w .2)
 
 -- In a night at the floor throughout, every essential transfer has its size by its deadline.
 pub floor-night-meets : (p : Plan) (table : List ℕ) → judged p table ≡ [] → (slots i : ℕ) → i < counted p → isHi p i ≡ true
     → deadline p i ≤ runAfter p (nightAt p table (replicate slots (p .d .0))) .clock .0
     → had p (nightAt p table (replicate slots (p .d .0))) i ≡ size p i
 floor-night-meets p table e slots i k h o =
-    let r = rules-of p table (accepted-is p table e .0) in
+    let r = rules-of p table (judge-is-exact p table .0 e .1) in
     strategy-is-correct p table e .degraded (replicate slots (p .d .0)) (at-floor (omega (arith, r .rates)) slots) i k h o
   where
     at-floor : p .d .0 ≤ p .n .0 → (slots : ℕ) → Between (p .d .0) (p .n .0) (replicate slots (p .d .0))
@@ -55,19 +49,9 @@ floor-night-meets p table e slots i k h o =
     at-floor below (suc slots) = (omega arith, below, at-floor below slots)
 
 -- Plan E meets the premises at speeds 2 2 2 1 1 1 1 and on to its last deadline; so does P9 at speeds 2 1.
-abbrev planE : Plan
-planE = planOf (P1 .jobs)
-
-abbrev tableE : List ℕ
-tableE = tableOf (P1 .rows)
-
 -- The latest first.
 abbrev speedsE : List ℕ
 speedsE = 1 ∷ 1 ∷ 1 ∷ 1 ∷ 1 ∷ 1 ∷ 1 ∷ 2 ∷ 2 ∷ 2 ∷ []
-
-accepted-E : judged planE tableE ≡ []
-unfolding tableOf sum Below.every nameAllowed namesHold namesDiffer gradesHold boundsHold rulesHold insert boundariesTo noStray sound first outsideFault totalFault capacityFault isHiDeadline floorFault judged
-accepted-E = refl
 
 kept-in-E : Kept planE (nightAt planE tableE speedsE)
 kept-in-E = promise-kept planE tableE accepted-E (nightAt planE tableE speedsE) (night-allowed planE tableE speedsE (omega arith))

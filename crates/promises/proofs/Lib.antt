@@ -10,4 +10,5 @@ pub mod Strategy
 pub mod Numbers
 pub mod Refused
 pub mod Unique
+pub mod Demand2
 pub mod Demands

@@ -97,6 +97,24 @@ jobsOfE = job capitalMirror lo 0 6 5 ∷ job smallMirror hi 1 8 10 ∷ []
 abbrev pub rowsOfE : List (List ℕ)
 rowsOfE = (2 ∷ 4 ∷ 0 ∷ []) ∷ (0 ∷ 4 ∷ 4 ∷ []) ∷ []
 
+abbrev pub planE : Plan
+planE = planOf jobsOfE
+
+abbrev pub tableE : List ℕ
+tableE = tableOf rowsOfE
+
+-- Its file: the head, two jobs, the row count and four rows.
+abbrev pub fileE : List ℕ
+fileE =
+    1 ∷ 0 ∷ 0 ∷ 0 ∷ 111 ∷ 0 ∷ 2 ∷ 0 ∷ 1 ∷ 2
+    ∷ 21 ∷ 77 ∷ 105 ∷ 114 ∷ 114 ∷ 111 ∷ 114 ∷ 45 ∷ 65 ∷ 0 ∷ 0 ∷ 0 ∷ 0 ∷ 0 ∷ 0 ∷ 0 ∷ 0 ∷ 6 ∷ 0 ∷ 0 ∷ 0 ∷ 5
+    ∷ 21 ∷ 109 ∷ 105 ∷ 114 ∷ 114 ∷ 111 ∷ 114 ∷ 45 ∷ 65 ∷ 1 ∷ 0 ∷ 0 ∷ 0 ∷ 1 ∷ 0 ∷ 0 ∷ 0 ∷ 8 ∷ 0 ∷ 0 ∷ 0 ∷ 10
+    ∷ 0 ∷ 4
+    ∷ 14 ∷ 77 ∷ 105 ∷ 114 ∷ 114 ∷ 111 ∷ 114 ∷ 45 ∷ 65 ∷ 0 ∷ 0 ∷ 0 ∷ 0 ∷ 0 ∷ 2
+    ∷ 14 ∷ 77 ∷ 105 ∷ 114 ∷ 114 ∷ 111 ∷ 114 ∷ 45 ∷ 65 ∷ 0 ∷ 1 ∷ 0 ∷ 0 ∷ 0 ∷ 4
+    ∷ 14 ∷ 109 ∷ 105 ∷ 114 ∷ 114 ∷ 111 ∷ 114 ∷ 45 ∷ 65 ∷ 0 ∷ 1 ∷ 0 ∷ 0 ∷ 0 ∷ 4
+    ∷ 14 ∷ 109 ∷ 105 ∷ 114 ∷ 114 ∷ 111 ∷ 114 ∷ 45 ∷ 65 ∷ 0 ∷ 2 ∷ 0 ∷ 0 ∷ 0 ∷ 4 ∷ []
+
 -- Plan E with another second row.
 abbrev withSecondRow : List ℕ → List (List ℕ)
 withSecondRow row = (2 ∷ 4 ∷ 0 ∷ []) ∷ row ∷ []
