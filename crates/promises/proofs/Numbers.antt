@@ -21,11 +21,13 @@ use Rattle.planwriter.specs.Writing.{wrote, withheld, written, writer}
 use Rattle.judge.specs.Constraints.{span, total, load}
 use Rattle.judge.specs.Verdict.{Report, orElse, fault, first, isStray, isPair, fallsShort, outsideFault, totalFault, capacityFault, floorFault, handFault, constraintFault, judged}
 use Rattle.judge.specs.Slack.{refused, leastSlack, unless, slackFigure}
-use Rattle.judge.proofs.Figures.{is-attained}
+use Rattle.judge.proofs.Least.{first-of-all}
 use Rattle.dispatch.specs.Dues.{carriedOf}
 use Rattle.dispatch.specs.Step as step
 use Rattle.dispatch.specs.Step.{slotSound, slotFault, slotBy, stepped, outcome}
 use Rattle.dispatch.specs.declared.Run.{Run}
+use Rattle.lines.specs.Answers as line
+use Rattle.lines.specs.Answers.{refusal, printed}
 
 -- A number is one of some numbers.
 abbrev pub isOneOf : List ℕ → ℕ → Bool
@@ -153,7 +155,7 @@ module _ (file : List ℕ) where
       (rows-only (f .rows) mostIntervals (f .names) (intervals (f .plan)) 0 (replicate places 0) b₁)
       (λ _ b₂. only-onward fileNumbers (ended file b₂) _ file (only-cond fileNumbers (eqb b₂ (length file)) wrongExtent tt b₂ refl) (λ _ _. tt)))
 
--- The reader is refused by 1 to 14 and 22: by 22 exactly where the table is too short.
+-- The reader is refused by 1 to 14 and 22.
 pub reader-numbers : (file table : List ℕ) (number : ℕ) (rest : List ℕ) → reader file table .answer ≡ number ∷ rest
     → isOneOf
     (wrongVersion ∷ wrongExtent ∷ wrongRecordLength ∷ wrongRates ∷ wrongJobCount ∷ wrongNameByte ∷ nameTaken ∷ wrongGrade ∷ wrongJobBounds
@@ -282,7 +284,7 @@ slack-numbers p table report e =
 
     by : (l : Report) → Within numbers l → unless l (leastSlack p table) ≡ refused report
         → (number : ℕ) × (place : Report) × (report ≡ number ∷ place) × (isOneOf numbers number ≡ true)
-    by [] h e = absurd (rw e at (is-attained p table))
+    by [] h e = absurd (rw e at (first-of-all p table .reached))
     by (number ∷ place) h e = (number, place, sym (same e), h)
 
 -- A slot's call is refused by 19 to 22.
@@ -330,3 +332,15 @@ outcome-numbers p run i number e =
     by false false true d e = absurd (let z : _≡_ {A = ℕ} 0 1 = cc in omega arith)
     by false false false true e = absurd (let z : _≡_ {A = ℕ} 0 1 = cc in omega arith)
     by false false false false e = absurd (let z : _≡_ {A = ℕ} 0 1 = cc in omega arith)
+
+-- A line is refused by 22.
+pub line-numbers : (text out : List ℕ) (number : ℕ) → printed text out .answer ≡ line.withheld number → number ≡ bufferTooShort
+unfolding printed
+line-numbers text out number e = by (ltb (length out) (length text)) e
+  where
+    by : (b : Bool)
+        → cond b (refusal bufferTooShort out) (record { answer = line.wrote (length text); out = text ++ drop (length text) out }) .answer
+        ≡ line.withheld number
+        → number ≡ bufferTooShort
+    by true e = cc
+    by false e = absurd (let z : _≡_ {A = ℕ} 0 1 = cc in omega arith)

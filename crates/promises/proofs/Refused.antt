@@ -18,11 +18,14 @@ use Rattle.planfile.proofs.Whole.{shown-none}
 use Rattle.planwriter.specs.Writing as writing
 use Rattle.planwriter.specs.Writing.{wrote, withheld, written, writer}
 use Rattle.judge.specs.Verdict.{Report, judged}
-use Rattle.dispatch.specs.Step.{started, noRun, startFrom, startIn, stepped}
+use Rattle.dispatch.specs.Step as step
+use Rattle.dispatch.specs.Step.{Ending, started, noRun, startFrom, startIn, stepped}
 use Rattle.dispatch.specs.declared.Run.{Run}
 use Rattle.dispatch.proofs.Never as never
 use Rattle.lines.specs.Answers as line
-use Rattle.lines.specs.Answers.{refusal, printed}
+use Rattle.lines.specs.Answers.{refusal, printed, outcomePrinted}
+use Rattle.lines.specs.Lines.{outcomeLine}
+use Rattle.lines.specs.Text.{text}
 use Rattle.promises.proofs.Numbers.{Only, fileNumbers, file-only, isOneOf}
 
 -- Reader: 22 leaves the table untouched, and a plan of zeros.
@@ -101,13 +104,22 @@ pub step-refused-leaves : (p : Plan) (table : List ℕ) (run : Run) (v : ℕ) (g
 step-refused-leaves = never.refused-changes-nothing
 
 -- The lines: a buffer that is too short stays as it was.
-pub line-refused-leaves : (text out : List ℕ) (number : ℕ) → printed text out .answer ≡ line.withheld number → printed text out .out ≡ out
+pub line-refused-leaves : (words out : List ℕ) (number : ℕ) → printed words out .answer ≡ line.withheld number → printed words out .out ≡ out
 unfolding printed
-line-refused-leaves text out number e = by (ltb (length out) (length text)) e
+line-refused-leaves words out number e = by (ltb (length out) (length words)) e
   where
     left : Bool → line.Output
-    left b = cond b (refusal bufferTooShort out) (record { answer = line.wrote (length text); out = text ++ drop (length text) out })
+    left b = cond b (refusal bufferTooShort out) (record { answer = line.wrote (length words); out = words ++ drop (length words) out })
 
     by : (b : Bool) → left b .answer ≡ line.withheld number → left b .out ≡ out
     by true e = refl
     by false e = absurd (let z : _≡_ {A = ℕ} 0 1 = cc in omega arith)
+
+-- So does that of a transfer's line, also where the outcome itself is refused.
+pub outcome-line-refused-leaves : (name : ℕ) (ended : Ending) (carried : ℕ) (out : List ℕ) (number : ℕ)
+    → outcomePrinted name ended carried out .answer ≡ line.withheld number → outcomePrinted name ended carried out .out ≡ out
+outcome-line-refused-leaves name step.met carried out number e = line-refused-leaves (outcomeLine name (text "met") carried) out number e
+outcome-line-refused-leaves name step.discarded carried out number e = line-refused-leaves (outcomeLine name (text "discarded") carried) out number e
+outcome-line-refused-leaves name step.missed carried out number e = line-refused-leaves (outcomeLine name (text "missed") carried) out number e
+outcome-line-refused-leaves name step.stillOpen carried out number e = line-refused-leaves (outcomeLine name (text "open") carried) out number e
+outcome-line-refused-leaves name (step.refused k) carried out number e = refl

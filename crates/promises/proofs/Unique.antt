@@ -11,10 +11,20 @@ use Rattle.plan.specs.Edition.{places}
 use Rattle.plan.specs.Refusal.{clockAtEnd, speedAboveNormal, unsound, bufferTooShort}
 use Rattle.plan.specs.Rules.{counted}
 use Rattle.plan.specs.Boundaries.{lastDeadline}
+use Rattle.plan.specs.declared.kinds.Job.{Job}
 use Rattle.plan.specs.declared.kinds.Name.{Name}
 use Rattle.plan.specs.declared.kinds.Plan.{Plan}
 use Rattle.plan.specs.declared.kinds.Slots.{Slots}
-use Rattle.planfields.specs.Fields.{Step, got, no}
+use Rattle.planfields.specs.Fields.{Step, got, no, Head}
+use Rattle.planfields.specs.Answers.{fieldTold, passedTold, headTold, jobTold}
+use Rattle.planfields.specs.declared.field.Field.{Field}
+use Rattle.planfields.specs.declared.field.Field.the-variants as field
+use Rattle.planfields.specs.declared.field.Passed.{Passed}
+use Rattle.planfields.specs.declared.field.Passed.the-variants as passed
+use Rattle.planfields.specs.declared.head.HeadRead.{HeadRead}
+use Rattle.planfields.specs.declared.head.HeadRead.the-variants as head
+use Rattle.planfields.specs.declared.job.JobRead.{JobRead}
+use Rattle.planfields.specs.declared.job.JobRead.the-variants as job
 use Rattle.planfile.specs.Reading.{Held, noPlan, leaves, readFile, reader, nameShown}
 use Rattle.planfile.specs.Answers.{readTold, Reads, Shows}
 use Rattle.planfile.specs.declared.reader.Answer.the-variants as read-answer
@@ -35,7 +45,7 @@ use Rattle.judge.specs.declared.answers.Slack.the-variants.{NoneEssential, Leas
 use Rattle.judge.specs.declared.answers.Verdict.{Verdict}
 use Rattle.judge.specs.declared.answers.Verdict.the-variants.{Accepted, BufferTooShort, Unsound, OutsideWindow, WrongTotal, OverCapacity, BelowFloor}
 use Rattle.judge.proofs.Apart.{reports-differ, figures-differ}
-use Rattle.judge.proofs.Figures.{is-attained}
+use Rattle.judge.proofs.Least.{first-of-all}
 use Rattle.judge.proofs.Places.{every-place-is-the-first}
 use Rattle.dispatch.specs.Step as step
 use Rattle.dispatch.specs.Step.{Slot, Ending, started, noRun, startFrom, startIn, slotSound, slotFault, slotBy, stepped, outcome}
@@ -129,7 +139,7 @@ some-figure p table = by (orElse (handFault p table) (constraintFault p table)) 
     whole (number ∷ rest) b c = refl
 
     never : {A : Type 0} (l : Report) → leastSlack p table ≡ refused l → A
-    never l e = absurd (rw e at (is-attained p table))
+    never l e = absurd (rw e at (first-of-all p table .reached))
 
     measured : (f : Figure) → leastSlack p table ≡ f → (r : Slack) × (figure r ≡ f)
     measured noneEssential e = (NoneEssential, refl)
@@ -278,3 +288,48 @@ pub some-opening : (file table out : List ℕ) → (r : Turn) × (filled : List 
 some-opening file table out =
     let t = some-turn (opened (reader file table)) out in
     (t .0, reader file table .table, t .1, (t .2 .0, refl, t .2 .1))
+
+-- The field readers of `planfields`, which reader and lookup share: a report of what was read is one answer's.
+pub one-field : (s : Step ℕ) (r t : Field) → fieldTold r ≡ s → fieldTold t ≡ s → r ≡ t
+one-field s r t d e = sym (back r) ∙ ap of (d ∙ sym e) ∙ back t
+  where
+    of : Step ℕ → Field
+    of (got v next) = field.Value v next
+    of (no number) = field.Refused number
+
+    back : (r : Field) → of (fieldTold r) ≡ r
+    back (field.Value v next) = refl
+    back (field.Refused number) = refl
+
+pub one-passed : (s : Step (Unit {0})) (r t : Passed) → passedTold r ≡ s → passedTold t ≡ s → r ≡ t
+one-passed s r t d e = sym (back r) ∙ ap of (d ∙ sym e) ∙ back t
+  where
+    of : Step (Unit {0}) → Passed
+    of (got u next) = passed.Next next
+    of (no number) = passed.Refused number
+
+    back : (r : Passed) → of (passedTold r) ≡ r
+    back (passed.Next next) = refl
+    back (passed.Refused number) = refl
+
+pub one-head : (s : Step Head) (r t : HeadRead) → headTold r ≡ s → headTold t ≡ s → r ≡ t
+one-head s r t d e = sym (back r) ∙ ap of (d ∙ sym e) ∙ back t
+  where
+    of : Step Head → HeadRead
+    of (got h next) = head.Head (record { n = record { 0 = h .n }; d = record { 0 = h .d }; count = h .count }) next
+    of (no number) = head.Refused number
+
+    back : (r : HeadRead) → of (headTold r) ≡ r
+    back (head.Head h next) = refl
+    back (head.Refused number) = refl
+
+pub one-job : (s : Step Job) (r t : JobRead) → jobTold r ≡ s → jobTold t ≡ s → r ≡ t
+one-job s r t d e = sym (back r) ∙ ap of (d ∙ sym e) ∙ back t
+  where
+    of : Step Job → JobRead
+    of (got j next) = job.Job j next
+    of (no number) = job.Refused number
+
+    back : (r : JobRead) → of (jobTold r) ≡ r
+    back (job.Job j next) = refl
+    back (job.Refused number) = refl
