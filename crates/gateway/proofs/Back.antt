@@ -1,12 +1,12 @@
 -- Words and what they mean: a run and a plan come back from their words, and the words of a run that is sound come back from the run.
 use mathlib.Core.Path.{_≡_, refl, sym, _∙_, ap}
-use mathlib.Core.Bool.{Bool, true, false, cond, _&&_}
+use mathlib.Core.Bool.{Bool, true, false, not, cond, _&&_, _||_}
 use mathlib.Core.List.{List, [], _∷_, _++_, append-assoc}
 use Prim.Native.Nat.{ℕ, zero, suc, _+_, _*_, _≤_, _<_, min}
 use native.Mathlib.Nat.{add-zero}
 use native.Mathlib.Numerals.{add-one}
 use native.Mathlib.Omega.{arith}
-use borrow.Author.Tests.{leb-true, ltb-true, ltb-false}
+use borrow.Author.Tests.{leb-true, ltb-true, ltb-false, not-false}
 use lib.Dec.{leb, ltb, eqb}
 use lib.ListN.{length, getD, take, drop, length-append, take-append-drop, List·getD-append}
 use lib.Seq.{sets, take-at, take-suc, take-all, length-take-le, getD-append-add}
@@ -14,12 +14,16 @@ use Rattle.plan.specs.Edition.{mostJobs}
 use Rattle.plan.specs.Rules.{jobOf, noJob}
 use Rattle.plan.specs.declared.kinds.Job.{Job}
 use Rattle.plan.specs.declared.kinds.Plan.{Plan}
-use Rattle.judge.proofs.Tests.{both}
+use Rattle.plan.proofs.Below.{both}
 use Rattle.judge.specs.Verdict.{Report}
 use Rattle.planwriter.proofs.Sets.{sets-whole}
+use Rattle.plan.specs.Refusal.{unsound, bufferTooShort}
 use Rattle.dispatch.specs.declared.Run.{Run}
+use Rattle.dispatch.specs.Step.{Slot, stepped}
+use Rattle.dispatch.proofs.Never.{refused-changes-nothing}
 use Rattle.gateway.specs.Memory.{headWords, jobWords, planWords, runWords, markWords, most8, most16, most32, jobPlace, jobAt, jobsTo, planOf, jobOut, jobsOut, planOut, marksHold, runOf, markOut, runOut}
-use Rattle.gateway.proofs.Laws.{jobs-long}
+use Rattle.gateway.specs.Calls.{Stepped, numberOf, shortPlan, shortRun, slotWords, stepCall}
+use Rattle.gateway.proofs.Laws.{jobs-long, both-long}
 
 -- A mark comes back from its word, and a word that is 0 or 1 from its mark.
 mark-back : (b : Bool) → eqb (markOut b) 1 ≡ b
@@ -129,3 +133,31 @@ plan-back w p fit h =
     let rest = drop (length out) w in
     let jobs = jobs-back p fit (p .n .0) (p .d .0) (p .count) rest mostJobs (omega arith) ∙ take-all mostJobs (p .jobs) (omega (arith, fit .all)) in
     rw (sets-whole out w (omega (arith, jobs-long p mostJobs)), n, d, jobs) refl
+
+-- A step's call after its two tests.
+abbrev stepBy : Bool → Bool → Slot → List ℕ → List ℕ → Stepped
+stepBy short bad slot run grants =
+    cond short (record { number = bufferTooShort; run = run; grants = grants })
+    (cond bad (record { number = unsound; run = run; grants = grants }) (slotWords slot run))
+
+-- A step's call that is refused leaves run and grants, by its tests in turn.
+refused-by : (short bad : Bool) (slot : Slot) (run grants : List ℕ)
+    → (short ≡ false → bad ≡ false → (n : ℕ) (rest : Report) → slot .answer ≡ n ∷ rest → (sets run 0 (runOut (slot .run)) ≡ run) × (slot .grants ≡ grants))
+    → (stepBy short bad slot run grants .number ≡ 0 → ⊥) → (stepBy short bad slot run grants .run ≡ run) × (stepBy short bad slot run grants .grants ≡ grants)
+refused-by true bad slot run grants kept busy = (refl, refl)
+refused-by false true slot run grants kept busy = (refl, refl)
+refused-by false false slot run grants kept busy = by-answer (slot .answer) refl
+  where
+    by-answer : (a : Report) → slot .answer ≡ a → (sets run 0 (runOut (slot .run)) ≡ run) × (slot .grants ≡ grants)
+    by-answer [] e = absurd (busy (ap numberOf e))
+    by-answer (n ∷ rest) e = kept refl refl n rest e
+
+-- A refused step leaves the lent run and the grant row as they were, word for word.
+pub refused-step-stays : (plan table run : List ℕ) (v : ℕ) (grants : List ℕ) → (stepCall plan table run v grants .number ≡ 0 → ⊥)
+    → (stepCall plan table run v grants .run ≡ run) × (stepCall plan table run v grants .grants ≡ grants)
+unfolding stepCall
+refused-step-stays plan table run v grants =
+    refused-by (shortPlan plan || shortRun run) (not (marksHold run)) (stepped (planOf plan) table (runOf run) v grants) run grants
+    (λ long marks n rest e.
+      let so = refused-changes-nothing (planOf plan) table (runOf run) v grants n rest e in
+      (ap (λ r. sets run 0 (runOut r)) (so .0) ∙ run-again run (not-false (marksHold run) marks) (both-long plan run planWords runWords long .1), so .1))
