@@ -1,6 +1,6 @@
 //! Makes plans that the judge accepts: units are laid down only where every rule leaves room.
 
-use super::draft::Draft;
+use super::draft::{Draft, Limits};
 use super::prng::Prng;
 use crate::edition::{HI, LO, MOST_DEADLINE, MOST_JOBS, MOST_RATE, NAME_BYTES};
 use crate::plan::{place_of, Job};
@@ -93,27 +93,29 @@ impl Rooms {
     }
 }
 
-/// An accepted plan of any shape; small ones are the most frequent.
-pub fn accepted(prng: &mut Prng) -> Draft {
-    let jobs = match prng.below(16) {
+/// An accepted plan of any shape within limits; small ones are the most frequent.
+pub fn accepted(prng: &mut Prng, limits: &Limits) -> Draft {
+    let jobs: usize = match prng.below(16) {
         0 => 1,
         1 => MOST_JOBS,
         2 => prng.between(9, MOST_JOBS as u64) as usize,
         3..=8 => prng.between(2, 4) as usize,
         _ => prng.between(3, 8) as usize,
     };
+    let jobs = jobs.min(limits.jobs);
     let boundaries = match prng.below(4) {
         0 => 2 * jobs,
         _ => prng.between(2, 2 * jobs as u64) as usize,
     };
-    accepted_of(prng, jobs, boundaries)
+    accepted_of(prng, limits, jobs, boundaries)
 }
 
 /// An accepted plan of so many jobs, with so many boundaries or a few more.
-pub fn accepted_of(prng: &mut Prng, jobs: usize, boundaries: usize) -> Draft {
+pub fn accepted_of(prng: &mut Prng, limits: &Limits, jobs: usize, boundaries: usize) -> Draft {
     let mut attempts = 0;
     loop {
-        let draft = empty_draft(prng, jobs, boundaries, attempts >= ATTEMPTS_AT_ANY_RATE);
+        let high = attempts >= ATTEMPTS_AT_ANY_RATE;
+        let draft = empty_draft(prng, limits, jobs, boundaries, high);
         if let Some(draft) = lay_down(prng, draft) {
             return draft;
         }
@@ -122,11 +124,17 @@ pub fn accepted_of(prng: &mut Prng, jobs: usize, boundaries: usize) -> Draft {
 }
 
 /// Jobs with windows, grades and names; no units yet.
-fn empty_draft(prng: &mut Prng, jobs: usize, boundaries: usize, high: bool) -> Draft {
+fn empty_draft(
+    prng: &mut Prng,
+    limits: &Limits,
+    jobs: usize,
+    boundaries: usize,
+    high: bool,
+) -> Draft {
     let (n, d) = rates(prng, high);
     let windows = windows(prng, jobs, boundaries);
     let last = windows.iter().map(|window| window.1).max().unwrap_or(0);
-    let times = times(prng, last + 1);
+    let times = times(prng, limits, last + 1);
     let grades = grades(prng, jobs);
     let names = names(prng, jobs);
     let records: Vec<Job> = (0..jobs)
@@ -198,13 +206,14 @@ fn joined_windows(prng: &mut Prng, jobs: usize, boundaries: usize) -> Vec<(usize
 }
 
 /// So many rising times, the last of them now and then the latest allowed.
-fn times(prng: &mut Prng, count: usize) -> Vec<u32> {
-    let longest = match prng.below(12) {
+fn times(prng: &mut Prng, limits: &Limits, count: usize) -> Vec<u32> {
+    let longest: u64 = match prng.below(12) {
         0 => 1_500,
         1 | 2 => 12,
         3 | 4 => 1,
         _ => 3,
     };
+    let longest = longest.min(u64::from(limits.slots) / (count as u64 - 1));
     let mut times = vec![0];
     for earlier in 0..count - 1 {
         times.push(times[earlier] + prng.between(1, longest) as u32);

@@ -2,8 +2,9 @@
 
 use super::accepted::accepted_of;
 use super::draft::{
-    job_at, patch, row_at, row_count_at, seal, Draft, Where, DEADLINE_IN, GRADE_IN, INTERVAL_IN,
-    JOB_COUNT_AT, LENGTH_AT, NAME_IN, RATES_AT, RELEASE_IN, ROW_BYTES, SIZE_IN, UNITS_IN,
+    job_at, patch, row_at, row_count_at, seal, Draft, Limits, Where, DEADLINE_IN, GRADE_IN,
+    INTERVAL_IN, JOB_COUNT_AT, LENGTH_AT, NAME_IN, RATES_AT, RELEASE_IN, ROW_BYTES, SIZE_IN,
+    UNITS_IN,
 };
 use super::prng::Prng;
 use crate::edition::{
@@ -77,18 +78,17 @@ impl Damage {
     /// A cut, a wrong length field, a promise of more, or leftovers.
     fn strike_length(&mut self, prng: &mut Prng) {
         let length = self.file.len();
+        // Earlier damage may have left less than a head; a cut at or beyond the end then cuts nothing.
+        let last = length as u64 - 1;
         match prng.below(6) {
-            0 => self
-                .file
-                .truncate(prng.between(1, length as u64 - 1) as usize),
+            0 => self.file.truncate(prng.between(1, last.max(1)) as usize),
             1 => {
-                self.file
-                    .truncate(prng.between(5, length as u64 - 1) as usize);
+                self.file.truncate(prng.between(5, last.max(5)) as usize);
                 seal(&mut self.file);
             }
             2 => {
                 let change = prng.pick(&[1, 256, 65_536, 1 << 24]);
-                let wrong = (length as u32 - 5) ^ change;
+                let wrong = (length as u32).saturating_sub(5) ^ change;
                 self.set(LENGTH_AT, &wrong.to_be_bytes());
             }
             3 => {
@@ -219,33 +219,38 @@ impl Damage {
 }
 
 /// An accepted plan with three rows at least, so that a first, a middle and a last one exist.
-pub fn sound_base(prng: &mut Prng) -> Draft {
-    let mut draft = small_base(prng);
+pub fn sound_base(prng: &mut Prng, limits: &Limits) -> Draft {
+    let mut draft = small_base(prng, limits);
     for _ in 0..TRIES {
         if draft.rows() >= 3 {
             break;
         }
-        draft = small_base(prng);
+        draft = small_base(prng, limits);
     }
     draft
 }
 
-fn small_base(prng: &mut Prng) -> Draft {
+fn small_base(prng: &mut Prng, limits: &Limits) -> Draft {
     let jobs = prng.between(3, 6) as usize;
     let boundaries = prng.between(2, 2 * jobs as u64) as usize;
-    accepted_of(prng, jobs, boundaries)
+    accepted_of(prng, limits, jobs, boundaries)
 }
 
 /// A file with one fault of a number.
-pub fn damaged(prng: &mut Prng, number: u8, place: Where) -> Vec<u8> {
-    let mut damage = Damage::new(&sound_base(prng));
+pub fn damaged(prng: &mut Prng, limits: &Limits, number: u8, place: Where) -> Vec<u8> {
+    let mut damage = Damage::new(&sound_base(prng, limits));
     damage.strike(prng, number, place);
     damage.file
 }
 
 /// A file with faults of two numbers at two places.
-pub fn damaged_twice(prng: &mut Prng, numbers: (u8, u8), places: (Where, Where)) -> Vec<u8> {
-    let mut damage = Damage::new(&sound_base(prng));
+pub fn damaged_twice(
+    prng: &mut Prng,
+    limits: &Limits,
+    numbers: (u8, u8),
+    places: (Where, Where),
+) -> Vec<u8> {
+    let mut damage = Damage::new(&sound_base(prng, limits));
     // The greater number first: a cut or an emptied file must not go before other damage.
     damage.strike(prng, numbers.0.max(numbers.1), places.0);
     damage.strike(prng, numbers.0.min(numbers.1), places.1);
@@ -277,8 +282,8 @@ pub fn random_bytes(prng: &mut Prng) -> Vec<u8> {
 }
 
 /// A file with a few bytes replaced by random ones.
-pub fn sprinkled(prng: &mut Prng) -> Vec<u8> {
-    let mut file = sound_base(prng).file();
+pub fn sprinkled(prng: &mut Prng, limits: &Limits) -> Vec<u8> {
+    let mut file = sound_base(prng, limits).file();
     for _ in 0..prng.between(1, 3) {
         let at = prng.index(file.len());
         file[at] = match prng.below(3) {
@@ -287,4 +292,23 @@ pub fn sprinkled(prng: &mut Prng) -> Vec<u8> {
         };
     }
     file
+}
+
+#[cfg(test)]
+mod tests {
+    //! Damage on top of damage.
+
+    use super::super::draft::SMALL;
+    use super::*;
+
+    #[test]
+    fn length_can_be_struck_twice() {
+        let numbers = (refusal::CUT_OR_LENGTH, refusal::CUT_OR_LENGTH);
+        for input in 0..5_000 {
+            let mut prng = Prng::new(1, input);
+            let places = (Where::First, Where::Last);
+            let file = damaged_twice(&mut prng, &SMALL, numbers, places);
+            assert!(!file.is_empty());
+        }
+    }
 }

@@ -1,6 +1,6 @@
 //! A plan in the making: its records and table, its file, and where each field of the file stands.
 
-use crate::edition::{HI, LARGEST_FILE, LO, MOST_JOBS, NAME_BYTES, TABLE_PLACES};
+use crate::edition::{HI, LARGEST_FILE, LO, MOST_DEADLINE, MOST_JOBS, NAME_BYTES, TABLE_PLACES};
 use crate::plan::{boundaries, intervals, place_of, Interval, Job, Plan};
 use crate::record::{Lent, MOST_LENT_GRANTS, MOST_LENT_OUTPUT, MOST_LENT_TABLE};
 use crate::writer::writer;
@@ -28,6 +28,33 @@ pub const AMPLE: Lent = Lent {
     table: MOST_LENT_TABLE - 60,
     output: MOST_LENT_OUTPUT - 100,
     grants: MOST_LENT_GRANTS - 8,
+};
+
+/// How large a drawn plan may be, and the buffers lent with it.
+#[derive(Clone, Copy, Debug)]
+pub struct Limits {
+    pub jobs: usize,
+    /// Slots from the first release to the last deadline.
+    pub slots: u32,
+    pub lent: Lent,
+}
+
+/// All that the rules allow.
+pub const ANY: Limits = Limits {
+    jobs: MOST_JOBS,
+    slots: MOST_DEADLINE,
+    lent: AMPLE,
+};
+
+/// Plans on which much happens in little time. Three slots are left for speeds after the last deadline.
+pub const SMALL: Limits = Limits {
+    jobs: 6,
+    slots: 27,
+    lent: Lent {
+        table: AMPLE.table,
+        output: 1_200,
+        grants: 8,
+    },
 };
 
 /// First, middle or last among the jobs, rows or intervals.

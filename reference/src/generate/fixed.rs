@@ -6,7 +6,7 @@ use super::accepted::accepted_of;
 use super::damaged::{sound_base, Damage};
 use super::draft::{
     job, job_at, patch, plan_e, plan_e_with, row_at, row_count_at, seal, widest_windows, Draft,
-    AMPLE, DEADLINE_IN, EVERYWHERE, GRADE_IN, INTERVAL_IN, JOB_COUNT_AT, LENGTH_AT, NAME_IN,
+    AMPLE, ANY, DEADLINE_IN, EVERYWHERE, GRADE_IN, INTERVAL_IN, JOB_COUNT_AT, LENGTH_AT, NAME_IN,
     RATES_AT, RELEASE_IN, SIZE_IN, UNITS_IN,
 };
 use super::hand::{in_hand, rubbish, twist_input, TWISTS};
@@ -339,9 +339,9 @@ fn every_width() -> Vec<Input> {
     for intervals in 1..=MOST_INTERVALS {
         let jobs = (intervals / 2 + 1 + intervals % 2).min(MOST_JOBS);
         let mut prng = Prng::new(SEED, intervals as u64);
-        let mut draft = accepted_of(&mut prng, jobs, intervals + 1);
+        let mut draft = accepted_of(&mut prng, &ANY, jobs, intervals + 1);
         while draft.intervals().len() != intervals {
-            draft = accepted_of(&mut prng, jobs, intervals + 1);
+            draft = accepted_of(&mut prng, &ANY, jobs, intervals + 1);
         }
         let run = [
             draft.plan.n,
@@ -396,7 +396,7 @@ fn widest_files() -> Vec<Input> {
     inputs.push(of_draft(&largest, &run));
     for input in 0..6 {
         let mut prng = Prng::new(SEED, input);
-        let draft = accepted_of(&mut prng, MOST_JOBS, 2 * MOST_JOBS);
+        let draft = accepted_of(&mut prng, &ANY, MOST_JOBS, 2 * MOST_JOBS);
         inputs.push(of_draft(&draft, &[draft.plan.n; 70]));
     }
     inputs
@@ -458,7 +458,7 @@ fn damages() -> Vec<Input> {
         for place in EVERYWHERE {
             for _ in 0..DRAWS_OF_DAMAGE {
                 let mut prng = Prng::new(SEED, inputs.len() as u64);
-                let mut damage = Damage::new(&sound_base(&mut prng));
+                let mut damage = Damage::new(&sound_base(&mut prng, &ANY));
                 damage.strike(&mut prng, number, place);
                 inputs.push(of_file(damage.file, &[2]));
             }
@@ -474,7 +474,7 @@ fn twists() -> Vec<Input> {
         for place in EVERYWHERE {
             for _ in 0..DRAWS_OF_TWIST {
                 let mut prng = Prng::new(SEED, inputs.len() as u64);
-                let draft = sound_base(&mut prng);
+                let draft = sound_base(&mut prng, &ANY);
                 let (n, d) = (draft.plan.n, draft.plan.d);
                 let mut input = in_hand(&draft, &[n, n, n + 1, n, d, d]);
                 twist_input(&mut prng, &mut input, twist, place);

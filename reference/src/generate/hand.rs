@@ -2,7 +2,7 @@
 //! rubbish where nothing may be looked at, clocks and carried units of every kind.
 
 use super::accepted::{accepted, accepted_of};
-use super::draft::{row_at, Draft, Where, AMPLE, EVERYWHERE};
+use super::draft::{row_at, Draft, Limits, Where, AMPLE, EVERYWHERE};
 use super::prng::Prng;
 use super::refused::{refused, wide_column, PLACED};
 use super::speeds::speeds;
@@ -71,10 +71,11 @@ pub fn in_hand(draft: &Draft, speeds: &[u16]) -> HandInput {
 }
 
 /// A plan in hand, now and then one that the judge refuses; up to three twists.
-pub fn hand(prng: &mut Prng) -> HandInput {
-    let draft = base(prng);
+pub fn hand(prng: &mut Prng, limits: &Limits) -> HandInput {
+    let draft = base(prng, limits);
     let speeds = speeds(prng, &draft.plan);
     let mut input = in_hand(&draft, &speeds);
+    input.lent = limits.lent;
     set_clock(prng, &mut input, &draft.boundaries());
     for _ in 0..prng.below(4) {
         let place = prng.pick(&EVERYWHERE);
@@ -87,15 +88,15 @@ pub fn hand(prng: &mut Prng) -> HandInput {
     input
 }
 
-fn base(prng: &mut Prng) -> Draft {
+fn base(prng: &mut Prng, limits: &Limits) -> Draft {
     match prng.below(8) {
         0 | 1 => {
             let number = prng.pick(&PLACED);
-            refused(prng, number, Where::Middle)
+            refused(prng, limits, number, Where::Middle)
         }
-        2 => wide_column(prng),
-        3 => accepted_of(prng, 1, 2),
-        _ => accepted(prng),
+        2 => wide_column(prng, limits),
+        3 => accepted_of(prng, limits, 1, 2),
+        _ => accepted(prng, limits),
     }
 }
 

@@ -1,7 +1,7 @@
 //! Makes plans that keep every rule of a file and that the judge refuses at a wanted place.
 
 use super::accepted::{accepted_of, covered, Rooms};
-use super::draft::{Draft, Where};
+use super::draft::{Draft, Limits, Where};
 use super::prng::Prng;
 use crate::edition::{HI, LO, MOST_JOBS, MOST_SIZE};
 use crate::judge::judge;
@@ -15,25 +15,26 @@ const TRIES: usize = 60;
 pub const PLACED: [u8; 4] = [OUTSIDE_WINDOW, NOT_THE_SIZE, ABOVE_RATE, FLOOR_RULE];
 
 /// A plan refused with a number, if it can be at the first, a middle or the last place.
-pub fn refused(prng: &mut Prng, number: u8, place: Where) -> Draft {
-    let mut draft = spoilt(prng, number, place);
+pub fn refused(prng: &mut Prng, limits: &Limits, number: u8, place: Where) -> Draft {
+    let mut draft = spoilt(prng, limits, number, place);
     for _ in 0..TRIES {
         if is_refused_at(&draft, number, place) {
             break;
         }
-        draft = spoilt(prng, number, place);
+        draft = spoilt(prng, limits, number, place);
     }
     draft
 }
 
-fn spoilt(prng: &mut Prng, number: u8, place: Where) -> Draft {
-    let jobs = match prng.below(20) {
+fn spoilt(prng: &mut Prng, limits: &Limits, number: u8, place: Where) -> Draft {
+    let jobs: usize = match prng.below(20) {
         0 => MOST_JOBS,
         1 => 1,
         _ => prng.between(3, 7) as usize,
     };
+    let jobs = jobs.min(limits.jobs);
     let boundaries = prng.between(2, 2 * jobs as u64) as usize;
-    let mut draft = accepted_of(prng, jobs, boundaries);
+    let mut draft = accepted_of(prng, limits, jobs, boundaries);
     match number {
         OUTSIDE_WINDOW => spoil_window(prng, &mut draft, place),
         NOT_THE_SIZE => spoil_size(prng, &mut draft, place),
@@ -163,9 +164,9 @@ fn add(draft: &mut Draft, position: usize, interval: usize, units: u64) {
 /// A plan with an interval whose units are 2^32 more than they should be.
 ///
 /// No plan with right sizes can hold so many, so the sizes are found wrong before.
-pub fn wide_column(prng: &mut Prng) -> Draft {
+pub fn wide_column(prng: &mut Prng, limits: &Limits) -> Draft {
     let jobs = prng.between(2, 5) as usize;
-    let mut draft = accepted_of(prng, jobs, 2);
+    let mut draft = accepted_of(prng, limits, jobs, 2);
     for i in 0..2 {
         draft.table[place_of(i, 0)] += 1 << 31;
     }

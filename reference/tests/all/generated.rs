@@ -3,7 +3,7 @@
 use std::collections::BTreeMap;
 use std::ops::RangeInclusive;
 
-use reference::generate::{generate, STORED_COUNT, STORED_SEED};
+use reference::generate::{generate, mixed, STORED_COUNT, STORED_SEED};
 use reference::judge::judge;
 use reference::plan::{intervals, Plan};
 use reference::reader::reader;
@@ -97,6 +97,49 @@ fn same_seed_gives_the_same_bytes_and_another_seed_does_not() {
     };
     assert!(bytes(1) == bytes(1));
     assert!(bytes(1) != bytes(2));
+}
+
+/// A part of a mixed set.
+fn mixed_part(first: u64, count: u64) -> Vec<u8> {
+    let mut bytes = Vec::new();
+    mixed(1, first, count, &mut bytes).unwrap();
+    bytes
+}
+
+#[test]
+fn parts_of_a_mixed_set_join() {
+    let parts = [mixed_part(20, 15), mixed_part(35, 40)].concat();
+    assert!(parts == mixed_part(20, 55));
+}
+
+/// How many jobs an input has, as far as it is right, and how many speeds.
+fn jobs_and_speeds(input: &Input) -> (usize, usize) {
+    match input {
+        Input::File(input) => {
+            let (_, plan) = reader(&input.file, &mut [0; 2_016]);
+            (plan.count as usize, input.speeds.len())
+        }
+        Input::Hand(input) if input.plan.count > 32 => (0, input.speeds.len()),
+        Input::Hand(input) => (input.plan.count as usize, input.speeds.len()),
+    }
+}
+
+#[test]
+fn nine_in_ten_of_a_mixed_set_are_small() {
+    let bytes = mixed_part(0, 3_000);
+    let mut bytes = bytes.as_slice();
+    let mut number = 0;
+    let mut most = (0, 0);
+    while let Some(input) = get(&mut bytes).unwrap() {
+        let (jobs, speeds) = jobs_and_speeds(&input);
+        if number % 10 != 0 {
+            assert!(jobs <= 6 && speeds <= 30, "input {}", number);
+        }
+        most = (most.0.max(jobs), most.1.max(speeds));
+        number += 1;
+    }
+    assert_eq!(number, 3_000);
+    assert!(most.0 == 32 && most.1 > 100);
 }
 
 #[test]
