@@ -159,5 +159,5 @@ unfolding stepCall
 refused-step-stays plan table run v grants =
     refused-by (shortPlan plan || shortRun run) (not (marksHold run)) (stepped (planOf plan) table (runOf run) v grants) run grants
     (λ long marks n rest e.
-      let so = refused-changes-nothing (planOf plan) table (runOf run) v grants n rest e in
-      (ap (λ r. sets run 0 (runOut r)) (so .0) ∙ run-again run (not-false (marksHold run) marks) (both-long plan run planWords runWords long .1), so .1))
+    let so = refused-changes-nothing (planOf plan) table (runOf run) v grants n rest e in
+    (ap (λ r. sets run 0 (runOut r)) (so .0) ∙ run-again run (not-false (marksHold run) marks) (both-long plan run planWords runWords long .1), so .1))
