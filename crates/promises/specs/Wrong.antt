@@ -4,14 +4,18 @@ use mathlib.Core.Bool.{Bool, true, false, not, cond, _&&_}
 use mathlib.Core.List.{List, [], _∷_, _++_}
 use Prim.Native.Nat.{ℕ, zero, suc, _+_, _*_, _-_, _/_, _%_, _<_}
 use lib.Dec.{leb, ltb, eqb, lit<}
+use lib.IntN.{pos, negsuc}
 use lib.ListN.{replicate}
 use Rattle.sums.specs.Sum.{sum, on}
 use Rattle.plan.specs.Below
-use Rattle.plan.specs.Rules.{counted, size, deadline, isHi}
+use Rattle.plan.specs.Refusal.{unsound}
+use Rattle.plan.specs.Rules.{counted, size, deadline, isHi, nameAllowed, namesHold, namesDiffer, gradesHold, boundsHold, rulesHold}
 use Rattle.plan.specs.Boundaries.{insert, boundariesTo, come, boundary, intervals, firstRelease}
+use Rattle.plan.specs.Table.{noStray, sound}
 use Rattle.plan.specs.declared.kinds.Plan.{Plan}
 use Rattle.judge.specs.Constraints.{demand, floorCarries}
-use Rattle.judge.specs.Verdict.{Report, orElse, fault, first, outsideFault, totalFault, capacityFault, isHiDeadline, floorFault}
+use Rattle.judge.specs.Verdict.{Report, orElse, fault, first, outsideFault, totalFault, capacityFault, isHiDeadline, floorFault, judged}
+use Rattle.judge.specs.Slack.{Figure, least, through, leastSlack, slackFigure}
 use Rattle.dispatch.specs.declared.Run.{Run}
 use Rattle.dispatch.specs.Dues.{carriedOf, live, slowAfter, belowAfter, due}
 use Rattle.dispatch.specs.Turns.{enqueue, order, serve}
@@ -95,6 +99,29 @@ at-start-passes = refl
 pub at-start-loses : Short order due P3 (2 ∷ 2 ∷ 2 ∷ 2 ∷ 2 ∷ 1 ∷ 1 ∷ 1 ∷ 1 ∷ 1 ∷ []) 1
 unfolding nightBy tableOf started added serve order enqueue Turns.line sum Below.least insert boundariesTo come
 at-start-loses = lit< tt
+
+-- A judge that accepts everything passes P3 too, and mirror-A is lost as above.
+abbrev pub acceptsAll : Plan → List ℕ → Report
+acceptsAll p table = []
+
+pub accepts-all-loses : (acceptsAll (planOf (P3 .jobs)) (tableOf (P3 .rows)) ≡ []) × Short order due P3 (2 ∷ 2 ∷ 2 ∷ 2 ∷ 2 ∷ 1 ∷ 1 ∷ 1 ∷ 1 ∷ 1 ∷ []) 1
+accepts-all-loses = (refl, at-start-loses)
+
+-- A judge that refuses everything refuses plan E, which the rules accept.
+abbrev pub refusesAll : Plan → List ℕ → Report
+refusesAll p table = unsound ∷ []
+
+pub refuses-all-refuses-E : (judged (planOf (P1 .jobs)) (tableOf (P1 .rows)) ≡ []) × (refusesAll (planOf (P1 .jobs)) (tableOf (P1 .rows)) ≡ unsound ∷ [])
+unfolding tableOf sum Below.every Below.least Below.greatest nameAllowed namesHold namesDiffer gradesHold boundsHold rulesHold insert boundariesTo come noStray sound first outsideFault totalFault capacityFault isHiDeadline floorFault judged
+refuses-all-refuses-E = (refl, refl)
+
+-- A slack figure that is invented, 0 for every plan, hides that P3 falls short by 1.
+abbrev pub inventedSlack : Plan → List ℕ → Figure
+inventedSlack p table = least (pos 0) 0 0
+
+pub invented-slack-hides : (slackFigure (planOf (P3 .jobs)) (tableOf (P3 .rows)) ≡ least (negsuc 0) 2 10) × (inventedSlack (planOf (P3 .jobs)) (tableOf (P3 .rows)) ≡ least (pos 0) 0 0)
+unfolding tableOf sum Below.every Below.least Below.greatest nameAllowed namesHold namesDiffer gradesHold boundsHold rulesHold insert boundariesTo come noStray sound first outsideFault totalFault capacityFault isHiDeadline through leastSlack slackFigure
+invented-slack-hides = (refl, refl)
 
 -- An allotment counted by job and not by window.
 abbrev pub judgedByJob : Plan → List ℕ → Report
