@@ -1,0 +1,364 @@
+//! Makes the calls of `libgateway.a` and the plain ones of this package on the same inputs. `bench/measure` counts its instructions.
+//!
+//! It first compares what both answer, and stops if they differ.
+
+use std::arch::global_asm;
+use std::env;
+use std::hint::black_box;
+use std::process::ExitCode;
+
+use bench::inputs::{Input, Shape, LARGEST_FILE};
+use bench::{judge, read, slack, step, write, Plan, Run, Slack, Verdict, MOST_JOBS, PLACES};
+
+const USAGE: &str = "usage: both count usual|full|file JOBS
+       both stack";
+
+const PLAN_WORDS: usize = 163;
+const RUN_WORDS: usize = 35;
+const PLACE_WORDS: usize = 2;
+
+#[link(name = "gateway", kind = "static")]
+extern "C" {
+    fn gateway_read(file: *const u8, file_length: usize, plan: *mut u64, plan_length: usize, table: *mut u32, table_length: usize) -> u32;
+    fn gateway_write(plan: *const u64, plan_length: usize, table: *const u32, table_length: usize, out: *mut u8, out_length: usize, written: *mut usize) -> u32;
+    fn gateway_name(file: *const u8, file_length: usize, position: usize) -> usize;
+    fn gateway_judge(plan: *const u64, plan_length: usize, table: *const u32, table_length: usize, place: *mut u64, place_length: usize) -> u32;
+    fn gateway_slack(plan: *const u64, plan_length: usize, table: *const u32, table_length: usize, slack: *mut i64, place: *mut u64, place_length: usize) -> u32;
+    fn gateway_start(plan: *const u64, plan_length: usize, table: *const u32, table_length: usize, run: *mut u32, run_length: usize, place: *mut u64, place_length: usize) -> u32;
+    fn gateway_step(plan: *const u64, plan_length: usize, table: *const u32, table_length: usize, run: *mut u32, run_length: usize, speed: u16, grants: *mut u32, grants_length: usize) -> u32;
+    fn gateway_outcome(plan: *const u64, plan_length: usize, run: *const u32, run_length: usize, position: usize) -> u32;
+}
+
+fn main() -> ExitCode {
+    let words: Vec<String> = env::args().skip(1).collect();
+    let words: Vec<&str> = words.iter().map(String::as_str).collect();
+    let done = match words[..] {
+        ["count", shape, jobs] => input_of(shape, jobs).map(|(input, judged)| count(&Both::new(input), judged)),
+        ["stack"] => Some(stacks()),
+        _ => None,
+    };
+    if done.is_none() {
+        eprintln!("{USAGE}");
+        return ExitCode::from(2);
+    }
+    ExitCode::SUCCESS
+}
+
+/// An input, and whether the judge accepts it.
+fn input_of(shape: &str, jobs: &str) -> Option<(Input, bool)> {
+    let jobs: usize = jobs.parse().ok()?;
+    if !jobs.is_power_of_two() || jobs > MOST_JOBS {
+        return None;
+    }
+    match shape {
+        "usual" => Some((Input::new(jobs, Shape::Usual), true)),
+        "full" => Some((Input::new(jobs, Shape::Fullest), true)),
+        "file" => Some((Input::new(jobs, Shape::LargestFile), false)),
+        _ => None,
+    }
+}
+
+/// An input for both sides: the plain one's, and the words that a host lends.
+struct Both {
+    plain: Input,
+    plan: [u64; PLAN_WORDS],
+    run: [u32; RUN_WORDS],
+}
+
+impl Both {
+    fn new(plain: Input) -> Both {
+        Both { plan: plan_words(&plain.plan), run: run_words(&plain.run), plain }
+    }
+
+    fn read(&self, plan: &mut [u64; PLAN_WORDS], table: &mut [u32]) -> u32 {
+        let file = &self.plain.file;
+        // SAFETY: here and below each pointer is valid for the length beside it, and what is written overlaps nothing else.
+        unsafe { gateway_read(file.as_ptr(), file.len(), plan.as_mut_ptr(), PLAN_WORDS, table.as_mut_ptr(), table.len()) }
+    }
+
+    fn write(&self, out: &mut [u8], written: &mut usize) -> u32 {
+        let table = &self.plain.table;
+        unsafe { gateway_write(self.plan.as_ptr(), PLAN_WORDS, table.as_ptr(), table.len(), out.as_mut_ptr(), out.len(), written) }
+    }
+
+    fn judge(&self, table: &[u32], place: &mut [u64; PLACE_WORDS]) -> u32 {
+        unsafe { gateway_judge(self.plan.as_ptr(), PLAN_WORDS, table.as_ptr(), table.len(), place.as_mut_ptr(), PLACE_WORDS) }
+    }
+
+    fn slack(&self, least: &mut i64, place: &mut [u64; PLACE_WORDS]) -> u32 {
+        let table = &self.plain.table;
+        unsafe { gateway_slack(self.plan.as_ptr(), PLAN_WORDS, table.as_ptr(), table.len(), least, place.as_mut_ptr(), PLACE_WORDS) }
+    }
+
+    fn step(&self, run: &mut [u32; RUN_WORDS], grants: &mut [u32; MOST_JOBS]) -> u32 {
+        let table = &self.plain.table;
+        let speed = self.plain.plan.n;
+        unsafe {
+            gateway_step(self.plan.as_ptr(), PLAN_WORDS, table.as_ptr(), table.len(), run.as_mut_ptr(), RUN_WORDS, speed, grants.as_mut_ptr(), MOST_JOBS)
+        }
+    }
+}
+
+fn plan_words(plan: &Plan) -> [u64; PLAN_WORDS] {
+    let mut words = [0; PLAN_WORDS];
+    words[..3].copy_from_slice(&[plan.n.into(), plan.d.into(), plan.count as u64]);
+    for (words, job) in words[3..].chunks_exact_mut(5).zip(&plan.jobs) {
+        words.copy_from_slice(&[job.name, job.grade.into(), job.release.into(), job.size, job.deadline.into()]);
+    }
+    words
+}
+
+fn run_words(run: &Run) -> [u32; RUN_WORDS] {
+    let mut words = [0; RUN_WORDS];
+    words[..3].copy_from_slice(&[run.clock, run.slow.into(), run.below_floor.into()]);
+    words[3..].copy_from_slice(&run.carried);
+    words
+}
+
+// What lies between these two is counted. Their bodies differ, so that no compiler makes one function of them.
+#[no_mangle]
+#[inline(never)]
+extern "C" fn section_begins() {
+    black_box(1);
+}
+
+#[no_mangle]
+#[inline(never)]
+extern "C" fn section_ends() {
+    black_box(2);
+}
+
+/// Two sections, of one call and of three: half of their difference is one call without what is around it.
+fn section(call: &str, who: &str, mut make: impl FnMut()) {
+    for repeat in [1, 3] {
+        section_begins();
+        for _ in 0..black_box(repeat) {
+            make();
+        }
+        section_ends();
+        println!("section {call} {who} {repeat}");
+    }
+}
+
+fn count(both: &Both, judged: bool) {
+    let plain = &both.plain;
+    println!("input {} {} {} {}", plain.plan.count, plain.intervals, plain.rows, plain.file.len());
+    count_read(both);
+    count_write(both);
+    if judged {
+        count_judge(both);
+        count_slack(both);
+        count_step(both);
+    }
+}
+
+fn count_read(both: &Both) {
+    let plain = &both.plain;
+    let (mut plan, mut table, mut other) = ([1; PLAN_WORDS], vec![1; PLACES], vec![1; PLACES]);
+    assert_eq!(both.read(&mut plan, &mut table), 0);
+    assert_eq!(read(&plain.file, &mut other).map(|plan| plan_words(&plan)), Ok(plan));
+    assert!(table == other && table == plain.table && plan == both.plan);
+    section("read", "plain", || {
+        black_box(&read(black_box(&plain.file), black_box(&mut other)));
+    });
+    section("read", "ours", || {
+        black_box(black_box(both).read(black_box(&mut plan), black_box(&mut table)));
+    });
+}
+
+fn count_write(both: &Both) {
+    let plain = &both.plain;
+    let (mut out, mut written, mut other) = (vec![0; LARGEST_FILE], 0, vec![0; LARGEST_FILE]);
+    assert_eq!(both.write(&mut out, &mut written), 0);
+    assert_eq!(write(&plain.plan, &plain.table, &mut other), Ok(written));
+    assert!(out == other && out[..written] == plain.file);
+    section("write", "plain", || {
+        black_box(&write(black_box(&plain.plan), black_box(&plain.table), black_box(&mut other)));
+    });
+    section("write", "ours", || {
+        black_box(black_box(both).write(black_box(&mut out), black_box(&mut written)));
+    });
+}
+
+fn count_judge(both: &Both) {
+    let plain = &both.plain;
+    let mut place = [0; PLACE_WORDS];
+    assert_eq!(both.judge(&plain.table, &mut place), 0);
+    assert_eq!(judge(&plain.plan, &plain.table), Verdict::Accepted);
+    section("judge", "plain", || {
+        black_box(&judge(black_box(&plain.plan), black_box(&plain.table)));
+    });
+    section("judge", "ours", || {
+        black_box(black_box(both).judge(black_box(&plain.table), black_box(&mut place)));
+    });
+    // A table without places is refused as soon as the plan is there: what is left is the way from words to a plan.
+    assert_eq!(both.judge(&[], &mut place), 22);
+    section("decode", "ours", || {
+        black_box(black_box(both).judge(black_box(&[]), black_box(&mut place)));
+    });
+}
+
+fn count_slack(both: &Both) {
+    let plain = &both.plain;
+    let (mut least, mut place) = (0, [0; PLACE_WORDS]);
+    assert_eq!(both.slack(&mut least, &mut place), 0);
+    let ours = Slack::Least { slack: least, interval: place[0] as usize, deadline: place[1] as u32 };
+    assert_eq!(slack(&plain.plan, &plain.table), ours);
+    section("slack", "plain", || {
+        black_box(&slack(black_box(&plain.plan), black_box(&plain.table)));
+    });
+    section("slack", "ours", || {
+        black_box(black_box(both).slack(black_box(&mut least), black_box(&mut place)));
+    });
+}
+
+fn count_step(both: &Both) {
+    let plain = &both.plain;
+    let (mut grants, mut other) = ([0; MOST_JOBS], [0; MOST_JOBS]);
+    let (mut run, mut other_run) = (both.run, plain.run);
+    assert_eq!(both.step(&mut run, &mut grants), 0);
+    assert_eq!(step(&plain.plan, &plain.table, &mut other_run, plain.plan.n, &mut other), Ok(()));
+    assert!(run == run_words(&other_run) && grants == other);
+    // Each call gets the same run, so a copy of the record is counted with it, on both sides.
+    section("step", "plain", || {
+        let mut run = plain.run;
+        black_box(&step(black_box(&plain.plan), black_box(&plain.table), black_box(&mut run), black_box(plain.plan.n), black_box(&mut other)));
+    });
+    section("step", "ours", || {
+        let mut run = both.run;
+        black_box(black_box(both).step(black_box(&mut run), black_box(&mut grants)));
+    });
+}
+
+// Makes a call on another stack: rdi is the function, rsi the other stack's top, rdx points to nine words, of which six go to registers.
+global_asm!(
+    ".globl call_on",
+    "call_on:",
+    "push rbp",
+    "push rbx",
+    "mov rbp, rsp",
+    "mov rsp, rsi",
+    "mov rax, rdi",
+    "mov rbx, rdx",
+    "sub rsp, 8",
+    "push qword ptr [rbx + 64]",
+    "push qword ptr [rbx + 56]",
+    "push qword ptr [rbx + 48]",
+    "mov rdi, [rbx]",
+    "mov rsi, [rbx + 8]",
+    "mov rdx, [rbx + 16]",
+    "mov rcx, [rbx + 24]",
+    "mov r8, [rbx + 32]",
+    "mov r9, [rbx + 40]",
+    "call rax",
+    "mov rsp, rbp",
+    "pop rbx",
+    "pop rbp",
+    "ret",
+);
+
+extern "C" {
+    fn call_on(function: *const (), top: *mut u8, words: *const [u64; 9]) -> u64;
+}
+
+/// Bytes of the painted stack.
+const PAINTED: usize = 1 << 16;
+/// What `call_on` puts on it before the call.
+const PUSHED: usize = 32;
+
+/// What a call answers, and how many bytes of stack it wrote: its arguments there, its return address and all below.
+fn stack_of(function: *const (), arguments: &[u64]) -> (u64, usize) {
+    let mut words = [0; 9];
+    words[..arguments.len()].copy_from_slice(arguments);
+    let mut answer = 0;
+    let mut deepest = 0;
+    // Two paints, since a call may write one of them itself.
+    for paint in [0xA5, 0x5A] {
+        let mut stack = vec![u128::from_ne_bytes([paint; 16]); PAINTED / 16];
+        let bottom = stack.as_mut_ptr() as *mut u8;
+        // SAFETY: the function is one of the library's with its own arguments, and the top is aligned.
+        answer = unsafe { call_on(function, bottom.add(PAINTED), &words) };
+        let bytes = stack.iter().flat_map(|word| word.to_ne_bytes());
+        let kept = bytes.take_while(|&byte| byte == paint).count();
+        deepest = deepest.max(PAINTED - PUSHED - kept);
+    }
+    (answer & 0xFFFF_FFFF, deepest + 8 * arguments.len().saturating_sub(6))
+}
+
+/// Prints the deepest stack of each call, over plans of all sizes and over ways to refuse them.
+fn stacks() {
+    let mut deepest = [("read", 0), ("write", 0), ("name", 0), ("judge", 0), ("slack", 0), ("start", 0), ("step", 0), ("outcome", 0)];
+    let mut answers = std::collections::BTreeSet::new();
+    for shape in ["usual", "full", "file"] {
+        for jobs in ["1", "8", "16", "32"] {
+            let (input, _) = input_of(shape, jobs).expect("an input");
+            for change in 0..CHANGES {
+                let mut both = Both::new(Input { table: input.table.clone(), file: input.file.clone(), ..input });
+                let speed = change_input(&mut both, change);
+                for (kept, (answer, bytes)) in deepest.iter_mut().zip(stacks_of(&mut both, speed)) {
+                    kept.1 = kept.1.max(bytes);
+                    answers.insert(answer);
+                }
+            }
+        }
+    }
+    for (call, bytes) in deepest {
+        println!("stack {call} {bytes}");
+    }
+    let answers: Vec<String> = answers.iter().map(u64::to_string).collect();
+    println!("answers {}", answers.join(" "));
+}
+
+const CHANGES: usize = 12;
+
+/// Spoils an input in one of several ways; the answer is the speed of its slot.
+fn change_input(both: &mut Both, change: usize) -> u64 {
+    let n = both.plan[0];
+    let length = both.plain.file.len();
+    match change {
+        1 => both.plan[1] = 1,                // the floor rule
+        2 => both.plan[..2].copy_from_slice(&[2, 1]), // over capacity
+        3 => both.plan[6] += 1,               // a wrong total
+        4 => both.plan[7] += 1_000,           // a later boundary, so that the table no longer fits
+        5 => both.plan[2] = 33,               // a wrong count
+        6 => both.run[0] = both.plan[7] as u32, // another clock
+        7 => return n + 1,                    // a speed above normal
+        8 => return n / 2,                    // a slow slot
+        9 => both.run[1] = 2,                 // no mark
+        10 => both.plain.file[length - 1] ^= 0xFF, // another last row
+        11 => both.plain.file.truncate(length - 1),
+        _ => {}
+    }
+    n
+}
+
+/// Answer and stack of each call, in the order of the table.
+fn stacks_of(both: &mut Both, speed: u64) -> [(u64, usize); 8] {
+    let mut plan = both.plan;
+    let mut table = both.plain.table.clone();
+    let mut out = vec![0_u8; LARGEST_FILE];
+    let (mut written, mut least) = (0_usize, 0_i64);
+    let mut place = [0_u64; PLACE_WORDS];
+    let mut grants = [0_u32; MOST_JOBS];
+    let mut fresh = both.run;
+    let [file, file_length] = [both.plain.file.as_ptr() as u64, both.plain.file.len() as u64];
+    let [words, cells] = [plan.as_mut_ptr() as u64, table.as_mut_ptr() as u64];
+    let [plan_length, places, run_length] = [PLAN_WORDS, PLACES, RUN_WORDS].map(|length| length as u64);
+    let in_hand = [words, plan_length, cells, places];
+    let place = [place.as_mut_ptr() as u64, PLACE_WORDS as u64];
+    let run = [both.run.as_mut_ptr() as u64, run_length];
+    let fresh = [fresh.as_mut_ptr() as u64, run_length];
+    let out = [out.as_mut_ptr() as u64, LARGEST_FILE as u64, &mut written as *mut usize as u64];
+    let grants = [grants.as_mut_ptr() as u64, MOST_JOBS as u64];
+    let least = [&mut least as *mut i64 as u64];
+    let write = stack_of(gateway_write as *const (), &[&in_hand[..], &out].concat());
+    let judge = stack_of(gateway_judge as *const (), &[&in_hand[..], &place].concat());
+    let slack = stack_of(gateway_slack as *const (), &[&in_hand[..], &least, &place].concat());
+    let start = stack_of(gateway_start as *const (), &[&in_hand[..], &fresh, &place].concat());
+    let step = stack_of(gateway_step as *const (), &[&in_hand[..], &run, &[speed], &grants].concat());
+    let outcome = stack_of(gateway_outcome as *const (), &[&in_hand[..2], &run, &[0]].concat());
+    let name = stack_of(gateway_name as *const (), &[file, file_length, 0]);
+    // The reader last, since it writes plan and table.
+    let read = stack_of(gateway_read as *const (), &[file, file_length, words, plan_length, cells, places]);
+    [read, write, name, judge, slack, start, step, outcome]
+}
