@@ -1,5 +1,5 @@
-# From an emulator's trace of bench/both, a line for each executed instruction, to lines 'call who function instructions' of one call:
-# what three calls take more than one, halved. The second file has the lines that bench/both printed.
+# From an emulator's trace of bench/both, a line for each executed instruction, to lines 'call who function address times' of one
+# call: what three calls take more than one, halved. The second file has the lines that bench/both printed.
 FNR != NR {
     if ($1 == "section") { printed++; call[printed] = $2 " " $3; repeat[printed] = $4 }
     next
@@ -9,7 +9,8 @@ $NF == "section_begins" { if (!inside) { inside = 1; traced++ }; next }
 $NF == "section_ends" { inside = 0; next }
 inside {
     # What has no name is the way to the C library's functions.
-    place = NF > 4 ? $5 : "(link)"
+    split($4, words, "/")
+    place = (NF > 4 ? $5 : "(link)") " " words[2]
     count[traced, place]++
     if (!(place in known)) { known[place] = 1; places[++many] = place }
 }

@@ -1,5 +1,5 @@
-# From the library's disassembly to lines 'function bytes': the most stack that a function and what it calls can take, as the sum of what
-# each puts there. It fails where a stack pointer moves by what it cannot read, or where functions call each other in a circle.
+# From the library's disassembly to lines 'function own all': the stack that a function takes with its return address, and the most that it
+# takes with what it calls. It fails where a stack pointer moves by what it cannot read, or where functions call each other in a circle.
 /^[0-9a-f]+ <.*>:$/ { name = $0; sub(/^[^<]*</, "", name); sub(/>:$/, "", name); many++; names[many] = name; frame[name] = 8; next }
 /\tpush / { frame[name] += 8; next }
 /\tsub +\$0x[0-9a-f]+,%rsp/ { match($0, /0x[0-9a-f]+/); frame[name] += hex(substr($0, RSTART + 2, RLENGTH - 2)); next }
@@ -22,5 +22,5 @@ function most(f, depth, list, n, i, here, deepest) {
 }
 END {
     if (failed) exit 1
-    for (k = 1; k <= many; k++) print names[k], most(names[k], 0)
+    for (k = 1; k <= many; k++) print names[k], frame[names[k]], most(names[k], 0)
 }

@@ -1,6 +1,6 @@
 # Draws how the calls grow with the plan, from what bench/measure counted: a panel for each call, instructions over jobs, both on scales
 # where each step doubles.
-$1 == "usual" || $1 == "full" { total[$1, $6, $7, $2] += $9 }
+$1 == "usual" || $1 == "full" { total[$1, $6, $7, $2] += $10 }
 
 function log2(x) { return log(x) / log(2) }
 function x_of(panel, jobs) { return 52 + 184 * panel + 24 * log2(jobs) }

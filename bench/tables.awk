@@ -2,12 +2,20 @@
 FILENAME ~ /counts$/ {
     input = $1 " " $2
     sizes[input] = $2 " | " $3 " | " with_commas($4) " | " with_commas($5)
-    total[input, $6, $7] += $9
-    if (input == "usual 32" && $7 == "ours") { part[$6, $8] += $9; if (!($8 in known)) { known[$8] = 1; functions[++many] = $8 } }
+    total[input, $6, $7] += $10
+    if (input == "usual 32" && $7 == "ours") {
+        part[$6, $8] += $10
+        if (!($8 in known)) { known[$8] = 1; functions[++many] = $8 }
+        # A block: instructions of one function that follow each other and are executed equally often.
+        if (last[$6] != $8 " " $10) { last[$6] = $8 " " $10; blocks[$6]++ }
+        block_function[$6, blocks[$6]] = $8
+        block_times[$6, blocks[$6]] = $10
+        block_length[$6, blocks[$6]]++
+    }
     next
 }
 FILENAME ~ /stack$/ { if ($1 == "stack") { calls[++stacks] = $2; painted[$2] = $3 } else { sub(/^answers /, ""); answers = $0 } next }
-FILENAME ~ /frames$/ { frames[$1] = $2; next }
+FILENAME ~ /frames$/ { framed[++all_frames] = $1; own[$1] = $2; frames[$1] = $3; next }
 { undefined = undefined (undefined == "" ? "" : ", ") "`" $1 "`"; if ($1 !~ /^mem(cpy|set|move|cmp)$/) strange = 1 }
 
 function with_commas(number, text) {
@@ -23,6 +31,7 @@ function end() { print "<!-- end -->" }
 # The largest file is one that the judge refuses.
 function input_of(call, size) { return size != "largest" ? "usual " size : (call ~ /read|write/ ? "file 32" : "full 32") }
 
+function goal_of(call) { return call ~ /read|write/ ? 1 : 0.9 }
 function speed(n, list, m, names, i, k, call, input, ratio, goal, ours, plain) {
     n = split("read write judge slack step", list, " ")
     m = split("1 8 16 32 largest", names, " ")
@@ -36,13 +45,24 @@ function speed(n, list, m, names, i, k, call, input, ratio, goal, ours, plain) {
             ours = total[input, call, "ours"]
             plain = total[input, call, "plain"]
             ratio = ours / plain
-            goal = call ~ /read|write/ ? 1 : 0.9
+            goal = goal_of(call)
+            if (!(call in least) || ratio < least[call]) least[call] = ratio
+            if (ratio > greatest[call]) greatest[call] = ratio
+            if (ratio <= goal) met[call]++
             printf "| %s | %s | %s | %s | %s | %.2f | %.1f, %s |\n", call, names[k], sizes[input], with_commas(plain), with_commas(ours), ratio, goal, ratio <= goal ? "met" : "not met"
         }
     end()
+    begin("goals")
+    print "| call | goal, at most | least of the five | greatest of the five | met |"
+    print "|---|---|---|---|---|"
+    for (i = 1; i <= n; i++) printf "| %s | %.1f | %.2f | %.2f | %d of %d |\n", list[i], goal_of(list[i]), least[list[i]], greatest[list[i]], met[list[i]], m
+    end()
     begin("decode")
-    print "| from words to a plan | " with_commas(total["usual 32", "decode", "ours"]) " |"
-    print "|---|---|"
+    print "| | 1 | 8 | 16 | 32 |"
+    print "|---|---|---|---|---|"
+    printf "| from words to a plan |"
+    for (k = 1; k < m; k++) printf " %s |", with_commas(total["usual " names[k], "decode", "ours"])
+    print ""
     end()
 }
 function where(n, list, i, f, call, rest, shown) {
@@ -60,6 +80,24 @@ function where(n, list, i, f, call, rest, shown) {
                 rest -= shown
             }
         printf "| %s | all others | %s | %d %% |\n", call, with_commas(rest), 100 * rest / total["usual 32", call, "ours"] + 0.5
+    }
+    end()
+}
+# The four blocks of each call that take most.
+function hottest(n, list, i, call, k, b, best, most) {
+    n = split("read write judge slack step", list, " ")
+    begin("blocks")
+    print "| call | function | times | instructions each | instructions | part |"
+    print "|---|---|---|---|---|---|"
+    for (i = 1; i <= n; i++) {
+        call = list[i]
+        for (k = 1; k <= 4; k++) {
+            most = 0
+            for (b = 1; b <= blocks[call]; b++)
+                if (block_times[call, b] * block_length[call, b] > most) { most = block_times[call, b] * block_length[call, b]; best = b }
+            printf "| %s | `%s` | %s | %d | %s | %d %% |\n", call, block_function[call, best], with_commas(block_times[call, best]), block_length[call, best], with_commas(most), 100 * most / total["usual 32", call, "ours"] + 0.5
+            block_times[call, best] = 0
+        }
     }
     end()
 }
@@ -81,6 +119,25 @@ function growth(k, m, n, names, shapes, s, input, list, i) {
         }
     end()
 }
+function factor(words, from, to, list, n, i) {
+    n = split("read write judge slack step", list, " ")
+    printf "| %s |", words
+    for (i = 1; i <= n; i++)
+        printf " %s |", (to, list[i], "ours") in total ? sprintf("%.2f", total[to, list[i], "ours"] / total[from, list[i], "ours"]) : "refused"
+    print ""
+}
+function factors() {
+    begin("factors")
+    print "| from, to | read | write | judge | slack | step |"
+    print "|---|---|---|---|---|---|"
+    factor("8 to 16 jobs, few rows", "usual 8", "usual 16")
+    factor("16 to 32 jobs, few rows", "usual 16", "usual 32")
+    factor("8 to 16 jobs, many rows", "full 8", "full 16")
+    factor("16 to 32 jobs, many rows", "full 16", "full 32")
+    factor("31 to 63 intervals and 127 to 1,024 rows, 32 jobs", "usual 32", "full 32")
+    factor("1,024 to 2,016 rows, 32 jobs, 63 intervals", "full 32", "file 32")
+    end()
+}
 function stack(k, call, arguments) {
     split("write 1 slack 1 start 2 step 3", arguments, " ")
     for (k = 1; k in arguments; k += 2) on_stack[arguments[k]] = 8 * arguments[k + 1]
@@ -92,6 +149,11 @@ function stack(k, call, arguments) {
         printf "| %s | %s | %s |\n", call, with_commas(painted[call]), with_commas(frames["gateway_" call] + on_stack[call] + 128)
     }
     end()
+    begin("frames")
+    print "| function | bytes, its own | with what it calls |"
+    print "|---|---|---|"
+    for (k = 1; k <= all_frames; k++) printf "| `%s` | %s | %s |\n", framed[k], with_commas(own[framed[k]]), with_commas(frames[framed[k]])
+    end()
     begin("outside")
     print "Answers seen: " answers ". What the archive needs from outside: " undefined "."
     end()
@@ -99,7 +161,9 @@ function stack(k, call, arguments) {
 END {
     speed()
     where()
+    hottest()
     growth()
+    factors()
     stack()
     if (strange) { print "tables.awk: the archive needs more than copying and filling memory" > "/dev/stderr"; exit 1 }
 }
