@@ -1,1 +1,1 @@
-// What the tender asks, as theorems over the definitions that the public calls are promised by. There is no code here.
+// What is promised, as theorems over the definitions that the public calls are promised by. There is no code here.
