@@ -92,7 +92,7 @@ enum gateway_result {
 
 /* Reads a plan file.
  * In: the file's bytes. Out: plan and table. Answers 0 or 1 to 14 or 22.
- * 22 (plan under GATEWAY_PLAN_WORDS or table under GATEWAY_TABLE_PLACES): nothing is touched.
+ * 22 (plan under GATEWAY_PLAN_WORDS): nothing is touched. 22 (table under GATEWAY_TABLE_PLACES): the plan's words are all 0, the table stays.
  * 1 to 14: the plan's words and the table's places are all 0. Words and places beyond are not touched, ever. */
 uint32_t gateway_read(const uint8_t *file, size_t file_length, uint64_t *plan, size_t plan_length, uint32_t *table, size_t table_length);
 

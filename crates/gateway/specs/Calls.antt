@@ -6,7 +6,6 @@ use lib.Dec.{ltb, eqb}
 use lib.IntN.{ℤ, pos}
 use lib.ListN.{length, set}
 use lib.Seq.{sets}
-use Rattle.plan.specs.Edition.{places}
 use Rattle.plan.specs.Refusal.{unsound, bufferTooShort}
 use Rattle.plan.specs.declared.kinds.Plan.{Plan}
 use Rattle.judge.specs.Verdict.{Report, judged}
@@ -183,10 +182,10 @@ pub record Read : Type 0 where
 abbrev pub readWords : Left → List ℕ → Read
 readWords left plan = record { number = numberOf (left .answer); plan = sets plan 0 (planOut (left .plan)); table = left .table }
 
--- The read's call: 22 for plan or table, and then nothing is touched; else what the reader leaves, a plan of zeros with a refusal.
+-- The read's call: 22 for the plan, and then nothing is touched; else what the reader leaves, a plan of zeros with every refusal.
 unfoldable pub readCall : List ℕ → List ℕ → List ℕ → Read
 readCall file plan table =
-    cond (shortPlan plan || ltb (length table) places) (record { number = bufferTooShort; plan = plan; table = table })
+    cond (shortPlan plan) (record { number = bufferTooShort; plan = plan; table = table })
     (readWords (reader file table) plan)
 
 -- What a write's call leaves.

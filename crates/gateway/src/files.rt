@@ -18,7 +18,7 @@ ghost use Rattle.gateway.specs.Calls.{readCall, writeCall, nameCall};
 pub extern "C" fn gateway_read(file: &[u8], plan: &mut [u64], table: &mut [u32]) -> u32
     ensures { λ r. ⌜ record { number = r; plan = now (plan .exit); table = now (table .exit) } ≡ readCall (now (file .entry)) (now (plan .entry)) (now (table .entry)) ⌝ }
 {
-    if (plan.len() < Sizes::PLAN) | (table.len() < Edition::PLACES) {
+    if plan.len() < Sizes::PLAN {
         return BUFFER_TOO_SHORT as u32;
     }
     let reading = read(file, table);

@@ -1,31 +1,23 @@
 -- `gateway::files::gateway_read` meets its contract: 22, and else what the reader leaves.
 use mathlib.Core.Path.{_≡_, refl, sym, _∙_, ap}
-use Prim.Native.Nat.{_≤_}
-use lib.ListN.{length}
-use Rattle.plan.specs.Edition.{places}
-use Rattle.gateway.specs.Memory.{planWords}
-use Rattle.gateway.specs.Calls.{readCall}
-use Rattle.gateway.proofs.Laws.{both-long}
+use borrow.Author.Tests.{lt-ltb, le-ltb}
 use borrow.Author.Needs.{needs}
+use Rattle.gateway.specs.Calls.{readCall}
 use Rattle.gateway.proofs.files.gateway_read.Statement.{statement}
 use Rattle.gateway.proofs.files.gateway_read.Tie as tie
-
--- Past the first test both buffers are long enough.
-long : (c : tie.Else1) → (planWords ≤ length (c .before .before .before .before .args .plan .now)) × (places ≤ length (c .before .before .before .before .args .table .now))
-long c = both-long (c .before .before .before .before .args .plan .now) (c .before .before .before .before .args .table .now) planWords places (c .if1 .left)
 
 cast-result : tie.Need-cast-result
 cast-result c = search needs
 
 returns : tie.Need-returns
 unfolding readCall
-returns c = rw (c .if1 .taken) refl
+returns c = rw (lt-ltb _ _ (c .if1 .taken)) refl
 
 read-requires : tie.Need-read-requires
 read-requires c κs = search needs
 
 put-plan-requires : tie.Need-put-plan-requires
-put-plan-requires c κs = long (c .before .before .before .before .before .before) .0
+put-plan-requires c κs = search needs
 
 read-number-requires : tie.Need-read-number-requires
 read-number-requires c κs = search needs
@@ -39,7 +31,7 @@ same-length-2 c = search needs
 returns-2 : tie.Need-returns-2
 unfolding readCall
 returns-2 c =
-    rw (c .before .before .before .before .before .before .before .before .before .before .if1 .left, ← (c .before .before .before .before .before .before .before .before .read .ensures), ← (c .read-number .ensures), ← (c .before .before .before .put-plan .ensures)) refl
+    rw (le-ltb _ _ (c .before .before .before .before .before .before .before .before .before .before .if1 .left), ← (c .before .before .before .before .before .before .before .before .read .ensures), ← (c .read-number .ensures), ← (c .before .before .before .put-plan .ensures)) refl
 
 pub gateway-read-spec : {M : Type 1} → statement M
 gateway-read-spec =
