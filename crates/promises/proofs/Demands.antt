@@ -13,10 +13,12 @@ use Rattle.plan.specs.Boundaries.{insert, boundariesTo, come}
 use Rattle.plan.specs.Table.{noStray, sound}
 use Rattle.plan.specs.declared.kinds.Plan.{Plan}
 use Rattle.judge.specs.Verdict.{first, outsideFault, totalFault, capacityFault, isHiDeadline, floorFault, judged}
+use Rattle.dispatch.specs.Dues.{due}
 use Rattle.dispatch.specs.Turns
 use Rattle.dispatch.specs.Step.{started, slotSound, slotFault, granted, added, advanced, stepped}
 use Rattle.promises.specs.Cases.{planOf, tableOf, planE, tableE, P9}
 use Rattle.promises.specs.Night.{Call, runAfter, had, Allowed, Kept, nightAt, Between, CorrectStrategy}
+use Rattle.promises.specs.Wrong.{tableOrder, Short, table-order-loses}
 use Rattle.promises.proofs.Sound.{rules-of}
 use Rattle.promises.proofs.Demand2.{judge-is-exact, accepted-E}
 use Rattle.promises.proofs.Demand3.{kept}
@@ -61,9 +63,23 @@ mirror-A-met : had planE (nightAt planE tableE speedsE) 1 ≡ 8
 unfolding tableOf sum Below.every Below.least Below.greatest gradesHold boundsHold insert boundariesTo come runAfter started slotSound slotFault granted Turns.order Turns.line Turns.enqueue Turns.serve added advanced stepped
 mirror-A-met = kept-in-E .essential 1 (lit< tt) refl (lit≤ tt) .0
 
+-- So it has in ten slots at the floor; and plan E has a correct strategy.
+floor-night-of-E : had planE (nightAt planE tableE (replicate 10 1)) 1 ≡ 8
+unfolding tableOf sum Below.every Below.least Below.greatest gradesHold boundsHold insert boundariesTo come runAfter started slotSound slotFault granted Turns.order Turns.line Turns.enqueue Turns.serve added advanced stepped
+floor-night-of-E = floor-night-meets planE tableE accepted-E 10 1 (lit< tt) refl (lit≤ tt)
+
+strategy-of-E : CorrectStrategy planE tableE
+strategy-of-E = strategy-is-correct planE tableE accepted-E
+
 accepted-P9 : judged (planOf (P9 .jobs)) (tableOf (P9 .rows)) ≡ []
 unfolding tableOf sum Below.every nameAllowed namesHold namesDiffer gradesHold boundsHold rulesHold insert boundariesTo noStray sound first outsideFault totalFault capacityFault isHiDeadline floorFault judged
 accepted-P9 = refl
+
+-- Serving one grade in any order inside an interval, as the sources allow, loses an essential transfer of a plan that the judge accepts,
+-- at speeds from floor to normal: A of P9, when jobs are served by position.
+pub any-order-loses : (judged (planOf (P9 .jobs)) (tableOf (P9 .rows)) ≡ []) × Between 1 2 (2 ∷ 1 ∷ []) × (isHi (planOf (P9 .jobs)) 1 ≡ true)
+    × Short tableOrder due P9 (2 ∷ 1 ∷ []) 1
+any-order-loses = (accepted-P9, omega arith, refl, table-order-loses)
 
 kept-in-P9 : Kept (planOf (P9 .jobs)) (nightAt (planOf (P9 .jobs)) (tableOf (P9 .rows)) (1 ∷ 2 ∷ []))
 kept-in-P9 =
