@@ -9,10 +9,11 @@ use Rattle.plan.specs.Below.{every}
 use Rattle.plan.specs.declared.kinds.Job.{Job}
 use Rattle.plan.specs.declared.kinds.Plan.{Plan}
 
--- The grades: LO is other, HI is essential.
+-- The grade of an other transfer, LO.
 abbrev pub lo : ℕ
 lo = 0
 
+-- The grade of an essential transfer, HI.
 abbrev pub hi : ℕ
 hi = 1
 
@@ -60,19 +61,23 @@ noJob = record { name = record { 0 = 0 }; grade = 0; release = record { 0 = 0 };
 abbrev pub jobOf : Plan → ℕ → Job
 jobOf p i = getD (p .jobs) i noJob
 
--- What job i's record says.
+-- The name of job i, as its record has it.
 abbrev pub name : Plan → ℕ → ℕ
 name p i = jobOf p i .name .0
 
+-- The release of job i.
 abbrev pub release : Plan → ℕ → ℕ
 release p i = jobOf p i .release .0
 
+-- The size of job i.
 abbrev pub size : Plan → ℕ → ℕ
 size p i = jobOf p i .size .0
 
+-- The deadline of job i.
 abbrev pub deadline : Plan → ℕ → ℕ
 deadline p i = jobOf p i .deadline .0
 
+-- Job i is essential: its grade is HI's.
 abbrev pub isHi : Plan → ℕ → Bool
 isHi p i = eqb (jobOf p i .grade) hi
 
