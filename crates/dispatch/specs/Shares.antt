@@ -42,6 +42,7 @@ capped p table run slow v i = min (claim p table run slow i) v
 abbrev pub turnAt : Bool → ℕ → ℕ → ℕ
 turnAt isHi deadline i = (on (not isHi) (mostDeadline + 1) + deadline) * mostJobs + i
 
+-- The turn of job i.
 abbrev pub turn : Plan → ℕ → ℕ
 turn p i = turnAt (isHi p i) (deadline p i) i
 

@@ -3,7 +3,7 @@ use mathlib.Core.Bool.{Bool, false, not, cond, _&&_, _||_}
 use mathlib.Core.List.{List, [], _∷_, _++_}
 use Prim.Native.Nat.{ℕ, zero, suc, _+_}
 use lib.Dec.{leb, ltb, eqb}
-use lib.ListN.{length, drop, replicate}
+use lib.ListN.{length, getD, drop, replicate}
 use Rattle.plan.specs.Edition.{mostJobs, places}
 use Rattle.plan.specs.Refusal.{clockAtEnd, speedAboveNormal, unsound, bufferTooShort}
 use Rattle.plan.specs.Below.{every}
@@ -33,12 +33,16 @@ startFrom (number ∷ places) run was = was
 unfoldable pub startIn : Plan → List ℕ → Run → Run
 startIn p table was = startFrom (judged p table) (started p) was
 
--- A plan and a run are sound for a slot: rules 4, 5, 8 and 9 hold, the clock lies from first release to last deadline, and no
--- job has more carried than its size.
+-- A plan is sound for a slot at time t with those carried units: rules 4, 5, 8 and 9 hold, the time lies from first release to last
+-- deadline, and no job has more carried than its size.
+abbrev pub soundAt : Plan → ℕ → List ℕ → Bool
+soundAt p t carried =
+    ratesHold p && countHolds p && gradesHold p && boundsHold p && leb (firstRelease p) t
+    && leb t (lastDeadline p) && every (λ i. leb (getD carried i 0) (size p i)) (counted p)
+
+-- A plan and a run are sound for a slot: the plan is, at the run's clock and with what it carries.
 unfoldable pub slotSound : Plan → Run → Bool
-slotSound p run =
-    ratesHold p && countHolds p && gradesHold p && boundsHold p && leb (firstRelease p) (run .clock .0)
-    && leb (run .clock .0) (lastDeadline p) && every (λ i. leb (carriedOf run i) (size p i)) (counted p)
+slotSound p run = soundAt p (run .clock .0) (run .carried)
 
 -- What a slot's call is refused by: 21, 22, 19, 20.
 unfoldable pub slotFault : Plan → List ℕ → Run → ℕ → List ℕ → Report

@@ -1,29 +1,24 @@
--- `dispatch::claims::claim_of` meets its contract.
-use native.Mathlib.Omega.{arith}
+-- `dispatch::claims::claim_of` meets its contract: the due of the goal, capped.
+use mathlib.Core.Path.{refl}
 use borrow.Author.Needs.{needs}
-use borrow.Author.Tests.{not-true, not-false}
 use Rattle.dispatch.proofs.claims.claim_of.Statement.{statement}
 use Rattle.dispatch.proofs.claims.claim_of.Tie as tie
 
+goal-of-requires : tie.Need-goal-of-requires
+goal-of-requires c κs = search needs
+
+is-served-requires : tie.Need-is-served-requires
+is-served-requires c κs = search needs
+
+due-of-requires : tie.Need-due-of-requires
+due-of-requires c κs = search needs
+
+capped-at-requires : tie.Need-capped-at-requires
+capped-at-requires c κs = search needs
+
 returns : tie.Need-returns
-returns c = rw (not-true (c .before .args .served) (c .if1 .taken)) (omega arith)
-
-returns-2 : tie.Need-returns-2
-returns-2 c = rw (not-false (c .before .before .before .before .args .served) (c .before .before .before .if1 .left)) (omega arith)
-
-sub-due : tie.Need-sub-due
-sub-due c = search needs
-
-cast-result : tie.Need-cast-result
-cast-result c = search needs
-
-returns-3 : tie.Need-returns-3
-returns-3 c =
-    rw (not-false (c .before .before .before .before .before .before .before .args .served) (c .before .before .before .before .before .before .if1 .left)) (omega arith)
-
-returns-4 : tie.Need-returns-4
-returns-4 c =
-    rw (not-false (c .before .before .before .before .before .before .before .args .served) (c .before .before .before .before .before .before .if1 .left)) (omega arith)
+returns c =
+    rw (c .capped-at .ensures, c .before .due-of .ensures, c .before .before .is-served .ensures, c .before .before .before .goal-of .ensures) refl
 
 pub claim-of-spec : {M : Type 1} → statement M
-claim-of-spec = tie.close (tie.spec returns returns-2 sub-due cast-result returns-3 returns-4)
+claim-of-spec = tie.close (tie.spec goal-of-requires is-served-requires due-of-requires capped-at-requires returns)

@@ -1,20 +1,28 @@
 -- `dispatch::slot::grant_all` meets its contract: after i jobs the first i places of both rows are filled.
-use mathlib.Core.Path.{_≡_, sym, _∙_, ap}
+use mathlib.Core.Path.{_≡_, sym, _∙_, ap, ap₂}
 use Prim.Native.Nat.{_+_, _-_, _≤_}
 use native.Mathlib.Omega.{arith}
 use borrow.Author.Needs.{needs}
 use lib.ListN.{length, getD}
 use Rattle.dispatch.specs.Shares.{rowShare, filled}
-use Rattle.dispatch.proofs.Fills.{filled-start, filled-next, filled-length}
+use Rattle.dispatch.proofs.Fills.{filled-start, filled-next, filled-length, filled-rest}
 use Rattle.dispatch.proofs.slot.grant_all.Statement.{statement}
 use Rattle.dispatch.proofs.slot.grant_all.Tie as tie
 
 abbrev Inv-loop : tie.InvT-loop
-Inv-loop turns claims jobs v grants₀ carried after₀ i₀ grants after i =
-    (i ≤ jobs) × (grants ≡ filled (rowShare turns claims jobs v) i grants₀) × (after ≡ filled (λ k. getD carried k 0 + rowShare turns claims jobs v k) i carried)
+Inv-loop turns claims jobs v carried₀ grants₀ i₀ carried grants i =
+    (i ≤ jobs) × (grants ≡ filled (rowShare turns claims jobs v) i grants₀) × (carried ≡ filled (λ k. getD carried₀ k 0 + rowShare turns claims jobs v k) i carried₀)
 
 abbrev μ-loop : tie.MeasureT-loop
-μ-loop turns claims jobs v grants₀ carried after₀ i₀ grants after i = jobs - i
+μ-loop turns claims jobs v carried₀ grants₀ i₀ carried grants i = jobs - i
+
+-- What stands at the next place is still what stood there at first.
+same-here : (c : tie.In-loop Inv-loop μ-loop)
+    → getD (c .before .loop .carried) (c .before .loop .i) 0 ≡ getD (c .before .before .before .args .carried .now) (c .before .loop .i) 0
+same-here c =
+    let a = c .before .before .before .args in
+    let i = c .before .loop .i in
+    ap (λ l. getD l i 0) (c .before .loop .inv .2) ∙ filled-rest (λ k. getD (a .carried .now) k 0 + rowShare (a .turns .now) (a .claims .now) (a .jobs) (a .v) k) i (a .carried .now) i (omega arith)
 
 loop-holds : tie.Need-loop-holds Inv-loop μ-loop
 loop-holds c = (omega arith, sym (filled-start _ _), sym (filled-start _ _))
@@ -31,22 +39,23 @@ slice-write-grants c =
     let long = ap length (c .before .before .loop .inv .1) ∙ filled-length (rowShare (a .turns .now) (a .claims .now) (a .jobs) (a .v)) (c .before .before .loop .i) (a .grants .now) in
     omega arith
 
-mul-after : tie.Need-mul-after Inv-loop μ-loop
-mul-after c = omega arith
+mul-carried : tie.Need-mul-carried Inv-loop μ-loop
+mul-carried c = omega arith
 
-array-read-after : tie.Need-array-read-after Inv-loop μ-loop
-array-read-after c = omega arith
+element-copy-out-carried : tie.Need-element-copy-out-carried Inv-loop μ-loop
+element-copy-out-carried c = omega arith
 
-add-after : tie.Need-add-after Inv-loop μ-loop
-add-after c =
-    let i = c .before .before .loop .i in
-    omega (arith, c .before .before .before .before .pre .2 i (omega arith), c .before .before .before .before .pre .3 i (omega arith))
+add-carried : tie.Need-add-carried Inv-loop μ-loop
+add-carried c =
+    let i = c .before .before .before .loop .i in
+    let here = same-here (c .before .before) in
+    omega (arith, here, c .before .before .before .before .before .pre .2 i (omega arith), c .before .before .before .before .before .pre .3 i (omega arith), c .before .share-of .ensures)
 
-mul-after-2 : tie.Need-mul-after-2 Inv-loop μ-loop
-mul-after-2 c = omega arith
+mul-carried-2 : tie.Need-mul-carried-2 Inv-loop μ-loop
+mul-carried-2 c = omega arith
 
-array-write-after : tie.Need-array-write-after Inv-loop μ-loop
-array-write-after c = omega arith
+element-write-carried : tie.Need-element-write-carried Inv-loop μ-loop
+element-write-carried c = omega arith
 
 add-i : tie.Need-add-i Inv-loop μ-loop
 add-i c = search needs
@@ -56,12 +65,12 @@ loop-less c = search needs
 
 loop-again : tie.Need-loop-again Inv-loop μ-loop
 loop-again c =
-    let a = c .before .before .before .before .args in
-    let here = c .before .before .loop in (
+    let a = c .before .before .before .before .before .args in
+    let here = c .before .before .before .loop in (
       omega arith,
-      filled-next (rowShare (a .turns .now) (a .claims .now) (a .jobs) (a .v)) (here .i) (a .grants .now) (here .inv .1) (c .share-of .ensures),
-      filled-next (λ k. getD (a .t5) k 0 + rowShare (a .turns .now) (a .claims .now) (a .jobs) (a .v) k) (here .i) (a .t5) (here .inv .2)
-          (ap (λ g. getD (a .t5) (here .i) 0 + g) (c .share-of .ensures)),
+      filled-next (rowShare (a .turns .now) (a .claims .now) (a .jobs) (a .v)) (here .i) (a .grants .now) (here .inv .1) (c .before .share-of .ensures),
+      filled-next (λ k. getD (a .carried .now) k 0 + rowShare (a .turns .now) (a .claims .now) (a .jobs) (a .v) k) (here .i) (a .carried .now) (here .inv .2)
+          (ap₂ _+_ (same-here (c .before .before)) (c .before .share-of .ensures)),
     )
 
 same-length : tie.Need-same-length Inv-loop μ-loop
@@ -74,7 +83,7 @@ returns c =
     let a = c .before .before .before .args in
     let whole : c .before .loop .i ≡ a .jobs = omega arith in (
       c .before .loop .inv .2
-          ∙ ap (λ n. filled (λ k. getD (a .t5) k 0 + rowShare (a .turns .now) (a .claims .now) (a .jobs) (a .v) k) n (a .t5)) whole,
+          ∙ ap (λ n. filled (λ k. getD (a .carried .now) k 0 + rowShare (a .turns .now) (a .claims .now) (a .jobs) (a .v) k) n (a .carried .now)) whole,
       c .before .loop .inv .1 ∙ ap (λ n. filled (rowShare (a .turns .now) (a .claims .now) (a .jobs) (a .v)) n (a .grants .now)) whole,
     )
 
@@ -88,11 +97,11 @@ grant-all-spec =
     share-of-requires
     mul-grants
     slice-write-grants
-    mul-after
-    array-read-after
-    add-after
-    mul-after-2
-    array-write-after
+    mul-carried
+    element-copy-out-carried
+    add-carried
+    mul-carried-2
+    element-write-carried
     add-i
     loop-less
     loop-again

@@ -1,5 +1,5 @@
 -- `dispatch::soundness::carried_within` meets its contract: after i jobs the test holds over the first i.
-use mathlib.Core.Path.{_≡_, refl, sym, _∙_, ap}
+use mathlib.Core.Path.{_≡_, sym, _∙_, ap}
 use Prim.Native.Nat.{_-_, _≤_}
 use native.Mathlib.Omega.{arith}
 use borrow.Author.Needs.{needs}
@@ -7,15 +7,16 @@ use lib.Dec.{leb}
 use lib.ListN.{getD}
 use Rattle.plan.specs.Below.{every}
 use Rattle.plan.specs.Rules.{size, counted}
+use Rattle.plan.specs.declared.kinds.Units.{Units}
 use Rattle.plan.proofs.Below.{every-start, every-next}
 use Rattle.dispatch.proofs.soundness.carried_within.Statement.{statement}
 use Rattle.dispatch.proofs.soundness.carried_within.Tie as tie
 
 abbrev Inv-loop : tie.InvT-loop
-Inv-loop p carried jobs within₀ i₀ within i = (i ≤ jobs) × (within ≡ every (λ k. leb (getD carried k 0) (size p k)) i)
+Inv-loop carried p jobs within₀ i₀ within i = (i ≤ jobs) × (within ≡ every (λ k. leb (getD carried k 0) (size p k)) i)
 
 abbrev μ-loop : tie.MeasureT-loop
-μ-loop p carried jobs within₀ i₀ within i = jobs - i
+μ-loop carried p jobs within₀ i₀ within i = jobs - i
 
 counted-of-requires : tie.Need-counted-of-requires Inv-loop μ-loop
 counted-of-requires c κs = search needs
@@ -29,14 +30,14 @@ mul-job c = search needs
 element-copy-out-job : tie.Need-element-copy-out-job Inv-loop μ-loop
 element-copy-out-job c = search needs
 
-mul-t13 : tie.Need-mul-t13 Inv-loop μ-loop
-mul-t13 c = search needs
+mul-units : tie.Need-mul-units Inv-loop μ-loop
+mul-units c = search needs
 
-array-read-t19 : tie.Need-array-read-t19 Inv-loop μ-loop
-array-read-t19 c = search needs
+element-copy-out-units : tie.Need-element-copy-out-units Inv-loop μ-loop
+element-copy-out-units c = search needs
 
-cast-t20 : tie.Need-cast-t20 Inv-loop μ-loop
-cast-t20 c = search needs
+units-requires : tie.Need-units-requires Inv-loop μ-loop
+units-requires c κs = search needs
 
 add-i : tie.Need-add-i Inv-loop μ-loop
 add-i c = search needs
@@ -46,7 +47,8 @@ loop-less c = search needs
 
 loop-again : tie.Need-loop-again Inv-loop μ-loop
 loop-again c =
-    (omega arith, every-next _ (c .before .before .before .before .before .loop .i) (c .before .before .before .before .before .loop .inv .1) refl)
+    let here = c .before .before .before .before .before .before .before .loop in
+    (omega arith, every-next _ (here .i) (here .inv .1) (ap (λ (u : Units). leb (u .0) (size (c .before .before .before .before .before .before .before .before .before .args .t1) (here .i))) (c .before .before .units .ensures)))
 
 returns : tie.Need-returns Inv-loop μ-loop
 returns c =
@@ -63,9 +65,9 @@ carried-within-spec =
     loop-holds
     mul-job
     element-copy-out-job
-    mul-t13
-    array-read-t19
-    cast-t20
+    mul-units
+    element-copy-out-units
+    units-requires
     add-i
     loop-less
     loop-again

@@ -1,108 +1,301 @@
--- `dispatch::step::step` meets its contract: 21, 22, 19 and 20 in turn, and else the slot.
-use mathlib.Core.Path.{_≡_, refl, sym, _∙_, ap}
-use mathlib.Core.Bool.{true, false, _||_}
-use mathlib.Core.List.{[]}
-use borrow.Author.Tests.{not-true, not-false, lt-ltb, le-ltb, eq-eqb, ne-eqb, ltb-false}
+-- `dispatch::step::step` meets its contract: a refusal from the run's standing, or the slot from the rows of turns and claims.
+use mathlib.Core.Path.{_≡_, refl, sym, _∙_, ap, ap₂}
+use mathlib.Core.Bool.{Bool, true, false, cond, _&&_, _||_}
+use mathlib.Core.List.{List, []}
+use Prim.Native.Nat.{ℕ, suc, _+_, _*_, _-_, _≤_, _<_, min}
+use native.Mathlib.Omega.{arith}
+use native.Mathlib.Nat.{one-mul}
 use borrow.Author.Needs.{needs}
-use lib.Dec.{ltb, eqb}
-use lib.ListN.{length}
-use Rattle.plan.specs.Edition.{places}
-use Rattle.plan.specs.Rules.{counted}
-use Rattle.plan.specs.Boundaries.{lastDeadline}
+use borrow.Author.Tests.{not-true, not-false, ltb-false}
+use lib.Dec.{ltb}
+use lib.ListN.{length, getD, replicate}
+use Rattle.sums.specs.Sum.{sum, on, strided}
+use Rattle.sums.proofs.Laws.{sum-ext}
+use Rattle.plan.specs.Edition.{mostJobs, mostIntervals, places}
+use Rattle.plan.specs.Rules.{counted, size}
+use Rattle.plan.specs.Boundaries.{present}
+use Rattle.plan.specs.Table.{allotment}
+use Rattle.plan.specs.declared.kinds.Plan.{Plan}
 use Rattle.plan.specs.declared.kinds.Slots.{Slots}
-use Rattle.dispatch.specs.Step.{slotSound, slotFault, stepped}
+use Rattle.plan.specs.declared.kinds.Units.{Units}
+use Rattle.judge.specs.Verdict.{isNone}
+use Rattle.judge.proofs.First.{none-empty}
+use Rattle.dispatch.specs.declared.Run.{Run}
+use Rattle.dispatch.specs.Dues.{carriedOf, slowAfter}
+use Rattle.dispatch.specs.Shares.{served, turn, capped, filled}
+use Rattle.dispatch.specs.Step.{soundAt, slotSound, slotFault, advanced, stepped}
+use Rattle.dispatch.specs.Standing.{standing, begun, faultBy}
+use Rattle.dispatch.specs.Answers.{report}
 use Rattle.dispatch.proofs.Line.{neither}
+use Rattle.dispatch.proofs.Sound.{sound-parts, Parts, deadline-small, size-small, last-small}
+use Rattle.dispatch.proofs.Stands.{stands-fault, stands-clear, left-by}
+use Rattle.dispatch.proofs.Fills.{filled-start, filled-next, filled-length, capped-small, stored-grants, stored-carried}
 use Rattle.dispatch.proofs.step.step.Statement.{statement}
 use Rattle.dispatch.proofs.step.step.Tie as tie
 
--- What is known past each test.
-sound : (c : tie.Else1) → slotSound (c .before .before .before .before .args .p) (c .before .before .before .before .args .run) ≡ true
-sound c = sym (c .before .slot-sound .ensures) ∙ not-false (c .before .slot-sound .result) (c .if1 .left)
+-- A run at a clock with those carried units; claims do not look at its marks.
+abbrev with : Slots → List ℕ → Run
+with clock carried = record { clock = clock; slow = false; below = false; carried = carried }
 
-long : (c : tie.Else2)
-    → (ltb (length (c .before .before .before .before .before .before .args .table .now)) places || ltb (length (c .before .before .before .before .before .before .args .grants .now)) (counted (c .before .before .before .before .before .before .args .p))) ≡ false
-long c =
-    let a = c .before .before .before .before .before .before .args in
-    ap (λ n. ltb (length (a .table .now)) places || ltb (length (a .grants .now)) n) (sym (c .before .counted-of .ensures)) ∙ c .if2 .left
+-- The sum of the first numbers of a row is what is allotted in as many intervals.
+allotted : (table : List ℕ) (i spans : ℕ) → sum (strided table (mostIntervals * i) 1) spans ≡ sum (allotment mostIntervals table i) spans
+allotted table i spans =
+    sum-ext (strided table (mostIntervals * i) 1) (allotment mostIntervals table i) spans
+    (λ k l. ap (λ x. getD table (mostIntervals * i + x) 0) (one-mul k))
 
-running : (c : tie.Else3) → eqb (c .before .before .before .before .before .before .before .before .before .before .before .args .run .clock .0) (lastDeadline (c .before .before .before .before .before .before .before .before .before .before .before .args .p)) ≡ false
-running c = ne-eqb _ _ (λ e. c .if3 .left (e ∙ sym (ap (λ (s : Slots). s .0) (c .before .before .before .last-deadline .ensures))))
+-- The claim that a turn of the loop finds, from what each call in it gives.
+one-claim : (p : Plan) (table : List ℕ) (run : Run) (slow : Bool) (v i : ℕ) {claim total spans : ℕ} {carried : Units}
+    → claim ≡ min (on (served p (run .clock .0) slow i) (cond slow (size p i) (min (size p i) total) - carried .0)) v
+    → carried ≡ record { 0 = carriedOf run i }
+    → total ≡ sum (strided table (mostIntervals * i) 1) spans
+    → spans ≡ suc (present p (run .clock .0))
+    → claim ≡ capped p table run slow v i
+one-claim p table run slow v i is by-units by-sum by-begun =
+    is ∙ rw (by-units, by-sum, by-begun, allotted table i (suc (present p (run .clock .0)))) refl
 
-slot-sound-requires : tie.Need-slot-sound-requires
-slot-sound-requires c κs = search needs
+abbrev Inv-loop : tie.InvT-loop
+Inv-loop table v grants p clock carried jobs short answer slow below begun turns₀ claims₀ i₀ turns claims i =
+    (i ≤ jobs) × (turns ≡ filled (turn p) i (replicate mostJobs 0))
+    × (claims ≡ filled (capped p table (with clock carried) slow v) i (replicate mostJobs 0))
 
-refused-requires : tie.Need-refused-requires
-refused-requires c κs = search needs
+abbrev μ-loop : tie.MeasureT-loop
+μ-loop table v grants p clock carried jobs short answer slow below begun turns₀ claims₀ i₀ turns claims i = jobs - i
 
-returns : tie.Need-returns
-unfolding slotFault stepped
-returns c =
-    rw (c .refused .ensures, sym (c .before .before .slot-sound .ensures) ∙ not-true (c .before .before .slot-sound .result) (c .before .if1 .taken)) refl
+-- What the answer says: the slot's fault, by the run's standing.
+module _ (c : tie.After-answer-to Inv-loop μ-loop) where
+  abbrev p : Plan
+  p = c .before .before .before .before .before .before .before .before .before .args .t1
 
-counted-of-requires : tie.Need-counted-of-requires
+  abbrev table : List ℕ
+  table = c .before .before .before .before .before .before .before .before .before .args .table .now
+
+  abbrev run : Run
+  run = c .before .before .before .before .before .before .before .before .before .args .run
+
+  abbrev v : ℕ
+  v = c .before .before .before .before .before .before .before .before .before .args .v
+
+  abbrev grants : List ℕ
+  grants = c .before .before .before .before .before .before .before .before .before .args .grants .now
+
+  by-standing : report (c .answer-to .result)
+      ≡ faultBy (standing p (run .clock .0) (run .carried)) (ltb (length table) places || ltb (length grants) (counted p)) (ltb (p .n .0) v)
+  by-standing =
+      c .answer-to .ensures
+      ∙ ap₂ (λ s n. faultBy s (ltb (length table) places || ltb (length grants) n) (ltb (p .n .0) v)) (c .before .before .standing-of .ensures) (c .before .before .before .before .counted-of .ensures)
+
+  told : report (c .answer-to .result) ≡ slotFault p table run v grants
+  told = by-standing ∙ stands-fault p table run v grants
+
+-- Where the answer is that it is done: plan and run are sound, and there is room.
+module _ (c : tie.Else1 Inv-loop μ-loop) where
+  abbrev here : tie.After-answer-to Inv-loop μ-loop
+  here = c .before .before
+
+  none : isNone (report (here .answer-to .result)) ≡ true
+  none = sym (c .before .is-done .ensures) ∙ not-false _ (c .if1 .left)
+
+  going : (soundAt (p here) (run here .clock .0) (run here .carried) ≡ true)
+      × ((ltb (length (table here)) places || ltb (length (grants here)) (counted (p here))) ≡ false)
+      × (begun (standing (p here) (run here .clock .0) (run here .carried)) ≡ suc (present (p here) (run here .clock .0)))
+  going =
+      stands-clear (p here) (run here .clock .0) (run here .carried) (ltb (length (table here)) places || ltb (length (grants here)) (counted (p here))) (ltb (p here .n .0) (v here))
+      (ap isNone (sym (by-standing here)) ∙ none)
+
+  parts : Parts (p here) (run here)
+  unfolding slotSound
+  parts = sound-parts (p here) (run here) (going .0)
+
+  room : counted (p here) ≤ length (grants here)
+  room = ltb-false (length (grants here)) (counted (p here)) (neither (ltb (length (table here)) places) _ (going .1) .1)
+
+-- As many intervals have begun as end with the present one.
+spans : (c : tie.After-begun-in Inv-loop μ-loop) → c .begun-in .result ≡ suc (present (p (here (c .before .before .before .before .before))) (run (here (c .before .before .before .before .before)) .clock .0))
+spans c = c .begun-in .ensures ∙ ap begun (c .before .before .before .before .before .before .before .before .before .standing-of .ensures) ∙ going (c .before .before .before .before .before) .2
+
+counted-of-requires : tie.Need-counted-of-requires Inv-loop μ-loop
 counted-of-requires c κs = search needs
 
-refused-requires-2 : tie.Need-refused-requires-2
-refused-requires-2 c κs = search needs
+standing-of-requires : tie.Need-standing-of-requires Inv-loop μ-loop
+standing-of-requires c κs = search needs
 
-returns-2 : tie.Need-returns-2
-unfolding slotFault stepped
-returns-2 c =
-    let a = c .before .before .before .before .before .before .before .args in
-    let short = ap (λ n. ltb (length (a .table .now)) places || ltb (length (a .grants .now)) n) (sym (c .before .before .counted-of .ensures)) ∙ c .before .if2 .taken in
-    rw (c .refused2 .ensures, sound (c .before .before .before), short) refl
+answer-to-requires : tie.Need-answer-to-requires Inv-loop μ-loop
+answer-to-requires c κs = search needs
 
-last-deadline-requires : tie.Need-last-deadline-requires
-last-deadline-requires c κs = search needs
+is-done-requires : tie.Need-is-done-requires Inv-loop μ-loop
+is-done-requires c κs = search needs
 
-refused-requires-3 : tie.Need-refused-requires-3
-refused-requires-3 c κs = search needs
+refused-requires : tie.Need-refused-requires Inv-loop μ-loop
+refused-requires c κs = search needs
 
-returns-3 : tie.Need-returns-3
-unfolding slotFault stepped
-returns-3 c =
-    let at-end = eq-eqb _ _ (c .before .if3 .taken ∙ ap (λ (s : Slots). s .0) (c .before .before .before .before .last-deadline .ensures)) in
-    rw (c .refused3 .ensures, sound (c .before .before .before .before .before .before .before .before), long (c .before .before .before .before .before .before), at-end) refl
+returns : tie.Need-returns Inv-loop μ-loop
+unfolding stepped
+returns c =
+    let at = c .before .before .before in
+    let some = ap isNone (sym (told at)) ∙ sym (c .before .before .is-done .ensures) ∙ not-true _ (c .before .if1 .taken) in
+    rw (c .refused .ensures, told at) (sym (left-by (slotFault (p at) (table at) (run at) (v at) (grants at)) (p at) (table at) (run at) (v at) (grants at) some))
 
-refused-requires-4 : tie.Need-refused-requires-4
-refused-requires-4 c κs = search needs
+mark-after-requires : tie.Need-mark-after-requires Inv-loop μ-loop
+mark-after-requires c κs = search needs
 
-returns-4 : tie.Need-returns-4
-unfolding slotFault stepped
-returns-4 c =
-    rw (c .refused4 .ensures, sound (c .before .before .before .before .before .before .before .before .before .before .before), long (c .before .before .before .before .before .before .before .before .before), running (c .before .before .before .before), lt-ltb _ _ (c .before .if4 .taken)) refl
+mark-after-requires-2 : tie.Need-mark-after-requires-2 Inv-loop μ-loop
+mark-after-requires-2 c κs = search needs
 
-serve-requires : tie.Need-serve-requires
-serve-requires c κs =
-    let a = c .before .before .before .before .before .before .before .before .before .before .before .before .before .before .before .args in (
-      sound (c .before .before .before .before .before .before .before .before .before .before .before),
-      ltb-false (length (a .grants .now)) (counted (a .p)) (neither (ltb (length (a .table .now)) places) _ (long (c .before .before .before .before .before .before .before .before .before)) .1),
+begun-in-requires : tie.Need-begun-in-requires Inv-loop μ-loop
+begun-in-requires c κs = search needs
+
+loop-holds : tie.Need-loop-holds Inv-loop μ-loop
+loop-holds c = (omega arith, sym (filled-start _ _), sym (filled-start _ _))
+
+mul-job : tie.Need-mul-job Inv-loop μ-loop
+mul-job c = search needs
+
+element-copy-out-job : tie.Need-element-copy-out-job Inv-loop μ-loop
+element-copy-out-job c = search needs
+
+turn-of-requires : tie.Need-turn-of-requires Inv-loop μ-loop
+turn-of-requires c κs =
+    let was = c .before .before .before .before .before .before .before .before in
+    (deadline-small (p (here was)) (parts was .bounds) (c .before .before .loop .i) (omega arith), omega arith)
+
+mul-turns : tie.Need-mul-turns Inv-loop μ-loop
+mul-turns c = search needs
+
+array-write-turns : tie.Need-array-write-turns Inv-loop μ-loop
+array-write-turns c = omega arith
+
+mul-sum-of : tie.Need-mul-sum-of Inv-loop μ-loop
+mul-sum-of c = search needs
+
+sum-of-requires : tie.Need-sum-of-requires Inv-loop μ-loop
+sum-of-requires c κs = search needs
+
+mul-units : tie.Need-mul-units Inv-loop μ-loop
+mul-units c = search needs
+
+array-read-units : tie.Need-array-read-units Inv-loop μ-loop
+array-read-units c = omega arith
+
+units-requires : tie.Need-units-requires Inv-loop μ-loop
+units-requires c κs = search needs
+
+claim-of-requires : tie.Need-claim-of-requires Inv-loop μ-loop
+claim-of-requires c κs = search needs
+
+mul-claims : tie.Need-mul-claims Inv-loop μ-loop
+mul-claims c = search needs
+
+array-write-claims : tie.Need-array-write-claims Inv-loop μ-loop
+array-write-claims c = omega arith
+
+add-i : tie.Need-add-i Inv-loop μ-loop
+add-i c = search needs
+
+loop-less : tie.Need-loop-less Inv-loop μ-loop
+loop-less c = search needs
+
+loop-again : tie.Need-loop-again Inv-loop μ-loop
+loop-again c =
+    let at = here (c .before .before .before .before .before .before .before .before .before .before .before .before) in
+    let loop = c .before .before .before .before .before .before .loop in (
+      omega arith,
+      filled-next (turn (p at)) (loop .i) (replicate mostJobs 0) (loop .inv .1) (c .before .before .before .turn-of .ensures),
+      filled-next (capped (p at) (table at) (run at) (c .before .before .before .before .before .before .before .before .before .before .mark-after .result) (v at)) (loop .i) (replicate mostJobs 0) (loop .inv .2)
+          (one-claim (p at) (table at) (run at) (c .before .before .before .before .before .before .before .before .before .before .mark-after .result) (v at) (loop .i)
+          (c .claim-of .ensures) (c .before .units .ensures) (c .before .before .sum-of .ensures) (spans (c .before .before .before .before .before .before .before))),
     )
 
-same-length : tie.Need-same-length
+-- Past the loop both rows are whole.
+module _ (c : tie.After-loop Inv-loop μ-loop) where
+  abbrev at : tie.After-answer-to Inv-loop μ-loop
+  at = here (c .before .before .before .before .before .before .before)
+
+  whole : c .before .loop .i ≡ counted (p at)
+  whole = omega (arith, c .before .before .before .before .before .before .before .before .before .before .before .before .before .counted-of .ensures)
+
+  turn-row : c .before .loop .turns ≡ filled (turn (p at)) (counted (p at)) (replicate mostJobs 0)
+  turn-row = c .before .loop .inv .1 ∙ ap (λ n. filled (turn (p at)) n (replicate mostJobs 0)) whole
+
+  claim-row : c .before .loop .claims ≡ filled (capped (p at) (table at) (run at) (slowAfter (p at) (run at) (v at)) (v at)) (counted (p at)) (replicate mostJobs 0)
+  claim-row =
+      c .before .loop .inv .2
+      ∙ ap₂ (λ n s. filled (capped (p at) (table at) (run at) s (v at)) n (replicate mostJobs 0)) whole (c .before .before .before .before .before .mark-after .ensures)
+
+grant-all-requires : tie.Need-grant-all-requires Inv-loop μ-loop
+grant-all-requires c κs =
+    let rows = c .before .before .before .before in
+    let was = c .before .before .before .before .before .before .before .before .before .before .before in
+    let jobs = c .before .before .before .before .before .before .before .before .before .before .before .before .before .before .before .before .before .counted-of .ensures in (
+      omega arith,
+      rw jobs (room was),
+      λ k l. rw (claim-row rows) (capped-small (p (here was)) (table (here was)) (run (here was)) (v (here was)) k (omega (arith, jobs))),
+      λ k l. omega (arith, jobs, parts was .within k (omega (arith, jobs)), size-small (p (here was)) (parts was .bounds) k (omega (arith, jobs))),
+    )
+
+add-t52 : tie.Need-add-t52 Inv-loop μ-loop
+add-t52 c =
+    let was = c .before .before .before .before .before .before .before .before .before .before .before .before .before .before .before in
+    omega (arith, parts was .timely, last-small (p (here was)) (parts was .bounds))
+
+same-length : tie.Need-same-length Inv-loop μ-loop
 same-length c = search needs
 
-returns-5 : tie.Need-returns-5
-unfolding slotFault stepped
-returns-5 c =
-    rw (sound (c .before .before .before .before .before .before .before .before .before .before .before .before .before .before), long (c .before .before .before .before .before .before .before .before .before .before .before .before), running (c .before .before .before .before .before .before .before), le-ltb _ _ (c .before .before .before .before .if4 .left))
-    (λ t. record { answer = []; run = c .before .before .serve .ensures .0 t; grants = c .before .before .serve .ensures .1 t })
+returns-2 : tie.Need-returns-2 Inv-loop μ-loop
+unfolding stepped advanced
+returns-2 c =
+    let rows = c .before .before .before .before .before .before .before .before in
+    let was = c .before .before .before .before .before .before .before .before .before .before .before .before .before .before .before in
+    let at = here was in
+    let empty = none-empty (report (at .answer-to .result)) (none was) in
+    let jobs = c .before .before .before .before .before .before .before .before .before .before .before .before .before .before .before .before .before .before .before .before .before .counted-of .ensures in
+    let stored = c .before .before .before .grant-all .ensures in
+    let carried = stored-carried (p at) (table at) (run at) (v at) (grants at) (parts was .bounds) (room was) (turn-row rows) (claim-row rows) jobs (stored .0) in
+    let granted = stored-grants (p at) (table at) (run at) (v at) (grants at) (parts was .bounds) (room was) (turn-row rows) (claim-row rows) jobs (stored .1) in
+    rw (sym (told at) ∙ empty)
+    (λ t. record {
+      answer = empty t;
+      run = record {
+        clock = record { 0 = run at .clock .0 + 1 };
+        slow = (c .before .before .before .before .before .before .before .before .before .before .before .before .before .mark-after .ensures) t;
+        below = (c .before .before .before .before .before .before .before .before .before .before .before .mark-after2 .ensures) t;
+        carried = carried t;
+      };
+      grants = granted t;
+    })
 
 pub step-spec : {M : Type 1} → statement M
 step-spec =
     tie.close
     (tie.spec
-    slot-sound-requires
+    Inv-loop
+    μ-loop
+    counted-of-requires
+    standing-of-requires
+    answer-to-requires
+    is-done-requires
     refused-requires
     returns
-    counted-of-requires
-    refused-requires-2
-    returns-2
-    last-deadline-requires
-    refused-requires-3
-    returns-3
-    refused-requires-4
-    returns-4
-    serve-requires
+    mark-after-requires
+    mark-after-requires-2
+    begun-in-requires
+    loop-holds
+    mul-job
+    element-copy-out-job
+    turn-of-requires
+    mul-turns
+    array-write-turns
+    mul-sum-of
+    sum-of-requires
+    mul-units
+    array-read-units
+    units-requires
+    claim-of-requires
+    mul-claims
+    array-write-claims
+    add-i
+    loop-less
+    loop-again
+    grant-all-requires
+    add-t52
     same-length
-    returns-5)
+    returns-2)

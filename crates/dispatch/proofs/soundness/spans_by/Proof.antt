@@ -1,4 +1,4 @@
--- `dispatch::claims::spans_by` meets its contract: there are few intervals.
+-- `dispatch::soundness::spans_by` meets its contract: there are few intervals.
 use mathlib.Core.Path.{_≡_, _∙_, ap}
 use Prim.Native.Nat.{ℕ, suc, _+_, _*_, _≤_}
 use native.Mathlib.Numerals.{add-one}
@@ -10,8 +10,8 @@ use Rattle.plan.specs.Boundaries.{boundaries, present}
 use Rattle.plan.specs.declared.kinds.Plan.{Plan}
 use Rattle.plan.proofs.Rising.{boundaries-few}
 use Rattle.plan.proofs.Come.{come-few}
-use Rattle.dispatch.proofs.claims.spans_by.Statement.{statement}
-use Rattle.dispatch.proofs.claims.spans_by.Tie as tie
+use Rattle.dispatch.proofs.soundness.spans_by.Statement.{statement}
+use Rattle.dispatch.proofs.soundness.spans_by.Tie as tie
 
 few : (p : Plan) (t : ℕ) → present p t ≤ 2 * mostJobs
 few p t = omega (arith, come-few t (boundaries p), boundaries-few p (counted p))

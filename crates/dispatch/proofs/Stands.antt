@@ -1,0 +1,67 @@
+-- What a run's standing tells of a slot's call: its fault; and where there is none, that plan and run are sound, that there is room, and how
+-- many intervals have begun.
+use mathlib.Core.Path.{_≡_, refl}
+use mathlib.Core.Bool.{Bool, true, false, not, cond, _||_, true≢false, false≢true}
+use mathlib.Core.List.{List, [], _∷_}
+use Prim.Native.Nat.{ℕ, suc}
+use lib.Dec.{ltb, eqb}
+use lib.ListN.{length}
+use Rattle.plan.specs.Edition.{places}
+use Rattle.plan.specs.Refusal.{clockAtEnd, speedAboveNormal, unsound, bufferTooShort}
+use Rattle.plan.specs.Rules.{counted}
+use Rattle.plan.specs.Boundaries.{lastDeadline, present}
+use Rattle.plan.specs.declared.kinds.Plan.{Plan}
+use Rattle.judge.specs.Verdict.{Report, orElse, fault, isNone}
+use Rattle.dispatch.specs.declared.Run.{Run}
+use Rattle.dispatch.specs.declared.soundness.Standing.{Standing}
+use Rattle.dispatch.specs.declared.soundness.Standing.the-variants.{Unsound, Ended, Running}
+use Rattle.dispatch.specs.Step.{Slot, soundAt, slotSound, slotFault, slotBy}
+use Rattle.dispatch.specs.Standing.{standing, isSound, begun, faultBy}
+
+-- A standing, from whether it is sound and whether it has ended.
+abbrev from : Bool → Bool → ℕ → Standing
+from sound ended spans = cond (not sound) Unsound (cond ended Ended (Running spans))
+
+fault-from : (b e : Bool) (spans : ℕ) (short fast : Bool)
+    → faultBy (from b e spans) short fast
+    ≡ orElse (fault (not b) (unsound ∷ [])) (orElse (fault short (bufferTooShort ∷ [])) (orElse (fault e (clockAtEnd ∷ [])) (fault fast (speedAboveNormal ∷ []))))
+fault-from true true spans short fast = refl
+fault-from true false spans short fast = refl
+fault-from false e spans short fast = refl
+
+sound-from : (b e : Bool) (spans : ℕ) → isSound (from b e spans) ≡ b
+sound-from true true spans = refl
+sound-from true false spans = refl
+sound-from false e spans = refl
+
+-- A standing is sound where the plan is.
+pub stands-sound : (p : Plan) (t : ℕ) (carried : List ℕ) → isSound (standing p t carried) ≡ soundAt p t carried
+stands-sound p t carried = sound-from (soundAt p t carried) (eqb t (lastDeadline p)) (suc (present p t))
+
+none-from : (b e : Bool) (spans : ℕ) (short fast : Bool) → isNone (faultBy (from b e spans) short fast) ≡ true
+    → (b ≡ true) × (short ≡ false) × (begun (from b e spans) ≡ spans)
+none-from true true spans true fast h = absurd (false≢true h)
+none-from true true spans false fast h = absurd (false≢true h)
+none-from true false spans true fast h = absurd (false≢true h)
+none-from true false spans false fast h = (refl, refl, refl)
+none-from false e spans short fast h = absurd (false≢true h)
+
+-- Where nothing is refused, the plan is sound, there is room, and as many intervals have begun as end with the present one.
+pub stands-clear : (p : Plan) (t : ℕ) (carried : List ℕ) (short fast : Bool) → isNone (faultBy (standing p t carried) short fast) ≡ true
+    → (soundAt p t carried ≡ true) × (short ≡ false) × (begun (standing p t carried) ≡ suc (present p t))
+stands-clear p t carried short fast = none-from (soundAt p t carried) (eqb t (lastDeadline p)) (suc (present p t)) short fast
+
+-- The fault from a standing is the slot's.
+pub stands-fault : (p : Plan) (table : List ℕ) (run : Run) (v : ℕ) (grants : List ℕ)
+    → faultBy (standing p (run .clock .0) (run .carried)) (ltb (length table) places || ltb (length grants) (counted p)) (ltb (p .n .0) v)
+    ≡ slotFault p table run v grants
+unfolding slotFault slotSound
+stands-fault p table run v grants =
+    fault-from (soundAt p (run .clock .0) (run .carried)) (eqb (run .clock .0) (lastDeadline p))
+    (suc (present p (run .clock .0))) (ltb (length table) places || ltb (length grants) (counted p)) (ltb (p .n .0) v)
+
+-- What a refused call leaves.
+pub left-by : (f : Report) (p : Plan) (table : List ℕ) (run : Run) (v : ℕ) (grants : List ℕ) → isNone f ≡ false
+    → slotBy f p table run v grants ≡ record { answer = f; run = run; grants = grants }
+left-by [] p table run v grants h = absurd (true≢false h)
+left-by (number ∷ rest) p table run v grants h = refl

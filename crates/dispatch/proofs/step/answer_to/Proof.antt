@@ -1,0 +1,41 @@
+-- `dispatch::step::answer_to` meets its contract: the tests come in the order of the faults.
+use mathlib.Core.Path.{_≡_, refl, sym, _∙_}
+use mathlib.Core.Bool.{true, false}
+use borrow.Author.Needs.{needs}
+use borrow.Author.Tests.{not-true, not-false, lt-ltb, le-ltb}
+use Rattle.dispatch.specs.Standing.{isSound, isEnded}
+use Rattle.dispatch.proofs.step.answer_to.Statement.{statement}
+use Rattle.dispatch.proofs.step.answer_to.Tie as tie
+
+-- What is known past the first test and the third.
+sound : (c : tie.Else1) → isSound (c .before .before .args .standing) ≡ true
+sound c = sym (c .before .is-sound .ensures) ∙ not-false (c .before .is-sound .result) (c .if1 .left)
+
+running : (c : tie.Else3) → isEnded (c .before .before .before .before .before .args .standing) ≡ false
+running c = sym (c .before .is-ended .ensures) ∙ c .if3 .left
+
+is-sound-requires : tie.Need-is-sound-requires
+is-sound-requires c κs = search needs
+
+returns : tie.Need-returns
+returns c = rw (sym (c .before .is-sound .ensures) ∙ not-true (c .before .is-sound .result) (c .if1 .taken)) refl
+
+returns-2 : tie.Need-returns-2
+returns-2 c = rw (sound (c .before), c .if2 .taken) refl
+
+is-ended-requires : tie.Need-is-ended-requires
+is-ended-requires c κs = search needs
+
+returns-3 : tie.Need-returns-3
+returns-3 c = rw (sound (c .before .before .before), c .before .before .if2 .left, sym (c .before .is-ended .ensures) ∙ c .if3 .taken) refl
+
+returns-4 : tie.Need-returns-4
+returns-4 c =
+    rw (sound (c .before .before .before .before .before), c .before .before .before .before .if2 .left, running (c .before .before), lt-ltb _ _ (c .if4 .taken)) refl
+
+returns-5 : tie.Need-returns-5
+returns-5 c =
+    rw (sound (c .before .before .before .before .before), c .before .before .before .before .if2 .left, running (c .before .before), le-ltb _ _ (c .if4 .left)) refl
+
+pub answer-to-spec : {M : Type 1} → statement M
+answer-to-spec = tie.close (tie.spec is-sound-requires returns returns-2 is-ended-requires returns-3 returns-4 returns-5)
