@@ -33,6 +33,18 @@ mostSize = 100_000_000
 abbrev pub places : ℕ
 places = mostJobs * mostIntervals
 
+-- The first byte of a plan file.
+abbrev pub versionByte : ℕ
+versionByte = 1
+
+-- The bytes of a name.
+abbrev pub nameBytes : ℕ
+nameBytes = 8
+
+-- The bytes of a file before its jobs: version, length, both rates and the job count.
+abbrev pub headerBytes : ℕ
+headerBytes = 1 + 4 + 2 + 2 + 1
+
 -- What the length byte of a job says.
 abbrev pub jobLength : ℕ
 jobLength = 21

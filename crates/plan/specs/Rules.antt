@@ -4,7 +4,7 @@ use mathlib.Core.List.{List, map}
 use Prim.Native.Nat.{ℕ, _/_, _%_, _^_, min}
 use lib.Dec.{leb, ltb, eqb}
 use lib.ListN.{length, getD}
-use Rattle.plan.specs.Edition.{mostJobs, mostRate, mostDeadline, mostSize}
+use Rattle.plan.specs.Edition.{nameBytes, mostJobs, mostRate, mostDeadline, mostSize}
 use Rattle.plan.specs.Below.{every}
 use Rattle.plan.specs.declared.kinds.Job.{Job}
 use Rattle.plan.specs.declared.kinds.Plan.{Plan}
@@ -31,7 +31,7 @@ byteOf x k = x / 256 ^ k % 256
 
 -- Rule 6: each of a name's eight bytes lies from 0x21 to 0x7E.
 unfoldable pub nameAllowed : ℕ → Bool
-nameAllowed x = every (λ k. leb 0x21 (byteOf x k) && leb (byteOf x k) 0x7E) 8
+nameAllowed x = every (λ k. leb 0x21 (byteOf x k) && leb (byteOf x k) 0x7E) nameBytes
 
 -- Names are the same when the numbers are. (proofs/Names: exactly when all eight bytes are.)
 abbrev pub sameName : ℕ → ℕ → Bool

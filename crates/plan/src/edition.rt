@@ -22,12 +22,16 @@ impl Edition {
 
     pub const PLACES: usize = Self::MOST_JOBS * Self::MOST_INTERVALS;
 
+    pub const NAME_BYTES: usize = 8;
+
     // What the length byte of a job and of a row says: the bytes that follow it.
     pub const JOB_LENGTH: usize = 21;
 
     pub const ROW_LENGTH: usize = 14;
-    // Version, length, both rates and the job count; the row count after the jobs.
-    pub const HEADER_BYTES: usize = 10;
+    // Version and length; what the length says follows them.
+    pub const OPENING_BYTES: usize = 5;
+    // The opening, both rates and the job count; the row count after the jobs.
+    pub const HEADER_BYTES: usize = Self::OPENING_BYTES + 5;
 
     pub const ROW_COUNT_BYTES: usize = 2;
 

@@ -10,7 +10,7 @@ use crate::kinds::Units;
 ghost use mathlib.Core.Path.{_≡_};
 ghost use mathlib.Core.Bool.{_&&_};
 ghost use lib.ListN.{length, getD};
-ghost use Rattle.plan.specs.Rules.{ratesAllowed, countAllowed, nameAllowed, sameName, isAbsent, gradeAllowed, windowAllowed, sizeAllowed};
+ghost use Rattle.plan.specs.Rules.{ratesAllowed, countAllowed, nameAllowed, isAbsent, gradeAllowed, windowAllowed, sizeAllowed};
 ghost use Rattle.plan.specs.Rules.{counted, names, ratesHold, countHolds, namesHold, namesDiffer, gradesHold, boundsHold, rulesHold};
 
 // Rule 4.
@@ -33,8 +33,8 @@ pub fn name_allowed(name: Name) -> bool
 {
     let mut rest = name.0;
     let mut allowed = true;
-    let mut k: u32 = 0;
-    while k < 8 {
+    let mut k = 0;
+    while k < Edition::NAME_BYTES {
         let byte = rest % 256;
         let printable = (0x21 <= byte) & (byte <= 0x7E);
         allowed = allowed & printable;
@@ -42,13 +42,6 @@ pub fn name_allowed(name: Name) -> bool
         k += 1;
     }
     allowed
-}
-
-// Whether two names are the same, in all eight bytes.
-pub fn same_name(a: Name, b: Name) -> bool
-    ensures { λ r. ⌜ r ≡ sameName (a .0) (b .0) ⌝ }
-{
-    a.0 == b.0
 }
 
 // Whether none of some numbers is x. It looks at all of them, which is faster than to stop early.
