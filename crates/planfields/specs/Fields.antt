@@ -1,4 +1,4 @@
--- Reading a plan file's parts, front to back, field by field: the first fault decides.
+-- The parts of a plan file in the order in which they stand: a refusal ends the reading.
 use mathlib.Core.Bool.{Bool, true, false, cond, _&&_}
 use mathlib.Core.List.{List}
 use Prim.Native.Nat.{ℕ, _+_}
@@ -25,9 +25,11 @@ onward (got a next) rest file = rest a file next
 onward (no number) rest file = no number
 
 infixl 10 _>>=_ _>>_
+-- A reading, and then the one that its value leads to.
 abbrev pub _>>=_ : {A B : Type 0} → Reading A → (A → Reading B) → Reading B
 _>>=_ read rest file at = onward (read file at) rest file
 
+-- A reading, and then another, whatever the value.
 abbrev pub _>>_ : {A B : Type 0} → Reading A → Reading B → Reading B
 _>>_ read rest file at = onward (read file at) (λ _. rest) file
 
@@ -55,7 +57,7 @@ checked w ok number = do
 unfoldable pub version : Reading ℕ
 version file at = cond (ltb at (length file) && eqb (getD file at 0) 1) (got 1 (at + 1)) (no wrongVersion)
 
--- The length of all that follows it, compared as soon as it is read.
+-- How many bytes follow: refused at once where this is not so.
 unfoldable pub extent : Reading ℕ
 extent file at = onward (field 4 file at) (λ n rest next. cond (eqb (next + n) (length rest)) (got n next) (no wrongExtent)) file
 

@@ -3,10 +3,10 @@ use plan::refusal::WRONG_EXTENT;
 use plan::refusal::WRONG_RECORD_LENGTH;
 ghost use mathlib.Core.Path.{_≡_};
 ghost use Prim.Native.Nat.{_≤_, _<_, _^_};
-ghost use Rattle.planfields.specs.Fields.{field, named, ended};
-ghost use Rattle.planfields.specs.Answers.{fieldTold, fieldValue, fieldRefusal, passedTold, passedRefusal};
+ghost use Rattle.planfields.specs.Fields.{field};
+ghost use Rattle.planfields.specs.Answers.{fieldTold, fieldValue, fieldRefusal, passedRefusal, ReadsNamed, ReadsEnd};
 
-// The value and the next place, or the refusal.
+// A value with the place behind it, or the refusal.
 pub enum Field {
     Value(u64, usize),
     Refused(u8),
@@ -61,7 +61,7 @@ pub(crate) fn read_field(file: &[u8], at: usize, w: usize) -> Field
 
 // The name of a record whose length byte is to say a given length.
 pub fn read_named(file: &[u8], at: usize, length: u64) -> Field
-    ensures { λ r. ⌜ fieldTold r ≡ named length (now (file .entry)) at ⌝ }
+    ensures { λ r. ⌜ ReadsNamed (now (file .entry)) at length r ⌝ }
 {
     let long = read_field(file, at, 1);
     let Field::Value(says, next) = long else {
@@ -75,7 +75,7 @@ pub fn read_named(file: &[u8], at: usize, length: u64) -> Field
 
 // The end of the file, where no bytes may remain.
 pub fn read_end(file: &[u8], at: usize) -> Passed
-    ensures { λ r. ⌜ passedTold r ≡ ended (now (file .entry)) at ⌝ }
+    ensures { λ r. ⌜ ReadsEnd (now (file .entry)) at r ⌝ }
 {
     if at != file.len() {
         return Passed::Refused(WRONG_EXTENT);

@@ -12,9 +12,8 @@ use plan::refusal::WRONG_VERSION;
 use plan::rules::count_allowed;
 use plan::rules::rates_allowed;
 ghost use mathlib.Core.Path.{_≡_};
-ghost use Rattle.plan.specs.Edition.{mostJobs};
-ghost use Rattle.planfields.specs.Fields.{opening, head};
-ghost use Rattle.planfields.specs.Answers.{fieldTold, headTold, headRefusal};
+ghost use Rattle.planfields.specs.Fields.{opening};
+ghost use Rattle.planfields.specs.Answers.{fieldTold, headRefusal, ReadsHead};
 
 pub struct Head {
     pub n: Rate,
@@ -60,7 +59,7 @@ fn read_opening(file: &[u8]) -> Field
 }
 
 pub fn read_head(file: &[u8]) -> HeadRead
-    ensures { λ r. ⌜ headTold r ≡ head mostJobs (now (file .entry)) 0 ⌝ }
+    ensures { λ r. ⌜ ReadsHead (now (file .entry)) r ⌝ }
 {
     let opening = read_opening(file);
     let Field::Value(_, at) = opening else {

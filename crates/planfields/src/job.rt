@@ -22,8 +22,8 @@ ghost use mathlib.Core.Path.{_≡_};
 ghost use Prim.Native.Nat.{_<_, _^_};
 ghost use Rattle.plan.specs.Refusal.{wrongGrade};
 ghost use Rattle.plan.specs.Rules.{gradeAllowed};
-ghost use Rattle.planfields.specs.Fields.{jobName, checked, oneJob};
-ghost use Rattle.planfields.specs.Answers.{fieldTold, fieldValue, jobTold, jobRefusal};
+ghost use Rattle.planfields.specs.Fields.{jobName, checked};
+ghost use Rattle.planfields.specs.Answers.{fieldTold, fieldValue, jobRefusal, ReadsJob};
 
 pub enum JobRead {
     Job(Job, usize),
@@ -70,7 +70,7 @@ fn read_grade(file: &[u8], at: usize) -> Field
 }
 
 pub fn read_job(file: &[u8], at: usize, earlier: &[u64]) -> JobRead
-    ensures { λ r. ⌜ jobTold r ≡ oneJob (now (earlier .entry)) (now (file .entry)) at ⌝ }
+    ensures { λ r. ⌜ ReadsJob (now (file .entry)) at (now (earlier .entry)) r ⌝ }
 {
     let named = read_name(file, at, earlier);
     let Field::Value(name, after_name) = named else {
