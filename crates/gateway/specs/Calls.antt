@@ -15,33 +15,42 @@ use Rattle.planwriter.specs.Writing as writing
 use Rattle.dispatch.specs.Step.{Slot, Ending, met, discarded, missed, stillOpen, refused, started, stepped, outcome}
 use Rattle.gateway.specs.Memory.{planWords, runWords, placeWords, planOf, planOut, marksHold, runOf, runOut}
 
--- What is no refusal has a number beyond those of the refusals, which have one byte.
+-- Nothing is refused: no refusal has this number.
+abbrev pub doneNumber : ℕ
+doneNumber = 0
+
+-- None essential: like the endings, a number beyond those of the refusals, which have one byte.
 abbrev pub noneNumber : ℕ
 noneNumber = 256
 
+-- The transfer is met.
 abbrev pub metNumber : ℕ
 metNumber = 257
 
+-- The transfer is discarded.
 abbrev pub discardedNumber : ℕ
 discardedNumber = 258
 
+-- The transfer is missed.
 abbrev pub missedNumber : ℕ
 missedNumber = 259
 
+-- The transfer is open.
 abbrev pub openNumber : ℕ
 openNumber = 260
 
--- The number that a report answers: 0 where there is nothing to refuse.
+-- The number that a report answers: the refusal's, or that of nothing to refuse.
 abbrev pub numberOf : Report → ℕ
-numberOf [] = 0
+numberOf [] = doneNumber
 numberOf (number ∷ places) = number
 
--- The first and the second part of a report's place; 0 where it has none.
+-- The first part of a report's place: a job or an interval; 0 where it has none.
 abbrev pub firstOf : Report → ℕ
 firstOf [] = 0
 firstOf (number ∷ []) = 0
 firstOf (number ∷ a ∷ rest) = a
 
+-- The second part of that place: an interval or a deadline; 0 where it has none.
 abbrev pub secondOf : Report → ℕ
 secondOf [] = 0
 secondOf (number ∷ []) = 0
@@ -134,10 +143,10 @@ pub record Slacked : Type 0 where
   pub slack : ℤ
   pub place : List ℕ
 
--- The number of a figure: 0 where there is a least slack.
+-- The number of a figure: nothing is refused where there is a least slack.
 abbrev pub figureNumber : slack.Figure → ℕ
 figureNumber slack.noneEssential = noneNumber
-figureNumber (slack.least s l D) = 0
+figureNumber (slack.least s l D) = doneNumber
 figureNumber (slack.refused report) = numberOf report
 
 -- The slack of a figure; 0 where it has none.
@@ -146,12 +155,13 @@ figureSlack slack.noneEssential = pos 0
 figureSlack (slack.least s l D) = s
 figureSlack (slack.refused report) = pos 0
 
--- The place of a figure: interval and deadline of the least slack, or the place of a refusal.
+-- The first part of a figure's place: the interval of the least slack, or the first part of a refusal's place.
 abbrev pub figureFirst : slack.Figure → ℕ
 figureFirst slack.noneEssential = 0
 figureFirst (slack.least s l D) = l
 figureFirst (slack.refused report) = firstOf report
 
+-- The second part: the deadline of the least slack, or the second part of a refusal's place.
 abbrev pub figureSecond : slack.Figure → ℕ
 figureSecond slack.noneEssential = 0
 figureSecond (slack.least s l D) = D
@@ -194,11 +204,12 @@ pub record Wrote : Type 0 where
   pub length : ℕ
   pub out : List ℕ
 
--- The number of a writer's answer, and the file's length; a refusal has no length.
+-- The number of a writer's answer.
 abbrev pub writtenNumber : writing.Answer → ℕ
-writtenNumber (writing.wrote n) = 0
+writtenNumber (writing.wrote n) = doneNumber
 writtenNumber (writing.refused number) = number
 
+-- The length of the written file; 0 after a refusal.
 abbrev pub writtenLength : writing.Answer → ℕ
 writtenLength (writing.wrote n) = n
 writtenLength (writing.refused number) = 0

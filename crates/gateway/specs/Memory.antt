@@ -34,13 +34,15 @@ runWords = markWords + mostJobs
 abbrev pub placeWords : ℕ
 placeWords = 2
 
--- The largest numbers of 8, 16 and 32 bits. A word beyond its number's range means the largest, which no rule allows.
+-- The largest number of 8 bits: a grade's word beyond it means this number, which no rule allows.
 abbrev pub most8 : ℕ
 most8 = 255
 
+-- The largest number of 16 bits: the same for a rate.
 abbrev pub most16 : ℕ
 most16 = 65_535
 
+-- The largest number of 32 bits: the same for a release or a deadline.
 abbrev pub most32 : ℕ
 most32 = 4_294_967_295
 

@@ -10,13 +10,12 @@ use plan::refusal::BUFFER_TOO_SHORT;
 use planfile::lookup::name_of;
 use planfile::reader::read;
 use planwriter::writer::write;
-ghost use mathlib.Core.Path.{_≡_};
-ghost use Rattle.gateway.specs.Calls.{readCall, writeCall, nameCall};
+ghost use Rattle.gateway.specs.Answers.{HostReads, HostWrites, HostShows};
 
 // Reads a plan file into the lent plan and table.
 #[no_mangle]
 pub extern "C" fn gateway_read(file: &[u8], plan: &mut [u64], table: &mut [u32]) -> u32
-    ensures { λ r. ⌜ record { number = r; plan = now (plan .exit); table = now (table .exit) } ≡ readCall (now (file .entry)) (now (plan .entry)) (now (table .entry)) ⌝ }
+    ensures { λ r. ⌜ HostReads (now (file .entry)) (now (plan .entry)) (now (table .entry)) r (now (plan .exit)) (now (table .exit)) ⌝ }
 {
     if plan.len() < Sizes::PLAN {
         return BUFFER_TOO_SHORT as u32;
@@ -36,7 +35,7 @@ pub extern "C" fn gateway_write(
     out: &mut [u8],
     length: &mut usize,
 ) -> u32
-    ensures { λ r. ⌜ record { number = r; length = now (length .exit); out = now (out .exit) } ≡ writeCall (now (plan .entry)) (now (table .entry)) (now (out .entry)) ⌝ }
+    ensures { λ r. ⌜ HostWrites (now (plan .entry)) (now (table .entry)) (now (out .entry)) r (now (out .exit)) (now (length .exit)) ⌝ }
 {
     if plan.len() < Sizes::PLAN {
         *length = 0;
@@ -47,10 +46,10 @@ pub extern "C" fn gateway_write(
     written_number(written)
 }
 
-// Where the eight bytes of a job's name begin inside the file; 0 for a refused file or a position not below the job count.
+// Where in the file a job's name begins; 0 where no name is shown.
 #[no_mangle]
 pub extern "C" fn gateway_name(file: &[u8], position: usize) -> usize
-    ensures { λ r. ⌜ r ≡ nameCall (now (file .entry)) position ⌝ }
+    ensures { λ r. ⌜ HostShows (now (file .entry)) position r ⌝ }
 {
     let shown = name_of(file, position);
     if shown.len() == 0 {

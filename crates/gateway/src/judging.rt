@@ -11,13 +11,12 @@ use crate::sizes::Sizes;
 use judge::figure::slack;
 use judge::judge;
 use plan::refusal::BUFFER_TOO_SHORT;
-ghost use mathlib.Core.Path.{_≡_};
-ghost use Rattle.gateway.specs.Calls.{judgeCall, slackCall};
+ghost use Rattle.gateway.specs.Answers.{HostJudges, HostMeasures};
 
 // The verdict on a plan and its table.
 #[no_mangle]
 pub extern "C" fn gateway_judge(plan: &[u64], table: &[u32], place: &mut [u64]) -> u32
-    ensures { λ r. ⌜ record { number = r; place = now (place .exit) } ≡ judgeCall (now (plan .entry)) (now (table .entry)) (now (place .entry)) ⌝ }
+    ensures { λ r. ⌜ HostJudges (now (plan .entry)) (now (table .entry)) (now (place .entry)) r (now (place .exit)) ⌝ }
 {
     if (plan.len() < Sizes::PLAN) | (place.len() < Sizes::PLACE) {
         return BUFFER_TOO_SHORT as u32;
@@ -36,7 +35,7 @@ pub extern "C" fn gateway_slack(
     least: &mut i64,
     place: &mut [u64],
 ) -> u32
-    ensures { λ r. ⌜ record { number = r; slack = now (least .exit); place = now (place .exit) } ≡ slackCall (now (plan .entry)) (now (table .entry)) (now (least .entry)) (now (place .entry)) ⌝ }
+    ensures { λ r. ⌜ HostMeasures (now (plan .entry)) (now (table .entry)) (now (least .entry)) (now (place .entry)) r (now (least .exit)) (now (place .exit)) ⌝ }
 {
     if (plan.len() < Sizes::PLAN) | (place.len() < Sizes::PLACE) {
         return BUFFER_TOO_SHORT as u32;

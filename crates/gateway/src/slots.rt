@@ -23,7 +23,8 @@ ghost use lib.ListN.{length};
 ghost use Rattle.judge.specs.Verdict.{judged};
 ghost use Rattle.judge.specs.Answers.{report};
 ghost use Rattle.gateway.specs.Memory.{runWords};
-ghost use Rattle.gateway.specs.Calls.{startWords, startCall, stepCall, outcomeCall};
+ghost use Rattle.gateway.specs.Calls.{startWords};
+ghost use Rattle.gateway.specs.Answers.{HostStarts, HostSteps, HostEnds};
 
 // Judges a plan, and puts its run into the lent words if it is accepted.
 fn start_in(run: &mut [u32], p: Plan, table: &[u32]) -> Verdict
@@ -48,7 +49,7 @@ pub extern "C" fn gateway_start(
     run: &mut [u32],
     place: &mut [u64],
 ) -> u32
-    ensures { λ r. ⌜ record { number = r; run = now (run .exit); place = now (place .exit) } ≡ startCall (now (plan .entry)) (now (table .entry)) (now (run .entry)) (now (place .entry)) ⌝ }
+    ensures { λ r. ⌜ HostStarts (now (plan .entry)) (now (table .entry)) (now (run .entry)) (now (place .entry)) r (now (run .exit)) (now (place .exit)) ⌝ }
 {
     if (plan.len() < Sizes::PLAN) | (run.len() < Sizes::RUN) | (place.len() < Sizes::PLACE) {
         return BUFFER_TOO_SHORT as u32;
@@ -68,7 +69,7 @@ pub extern "C" fn gateway_step(
     v: u16,
     grants: &mut [u32],
 ) -> u32
-    ensures { λ r. ⌜ record { number = r; run = now (run .exit); grants = now (grants .exit) } ≡ stepCall (now (plan .entry)) (now (table .entry)) (now (run .entry)) v (now (grants .entry)) ⌝ }
+    ensures { λ r. ⌜ HostSteps (now (plan .entry)) (now (table .entry)) (now (run .entry)) v (now (grants .entry)) r (now (run .exit)) (now (grants .exit)) ⌝ }
 {
     if (plan.len() < Sizes::PLAN) | (run.len() < Sizes::RUN) {
         return BUFFER_TOO_SHORT as u32;
@@ -86,7 +87,7 @@ pub extern "C" fn gateway_step(
 // The outcome of the job at a position.
 #[no_mangle]
 pub extern "C" fn gateway_outcome(plan: &[u64], run: &[u32], position: usize) -> u32
-    ensures { λ r. ⌜ r ≡ outcomeCall (now (plan .entry)) (now (run .entry)) position ⌝ }
+    ensures { λ r. ⌜ HostEnds (now (plan .entry)) (now (run .entry)) position r ⌝ }
 {
     if (plan.len() < Sizes::PLAN) | (run.len() < Sizes::RUN) {
         return BUFFER_TOO_SHORT as u32;
