@@ -25,6 +25,7 @@ abbrev pub answer : Printed → Answer
 answer (Length n) = wrote n
 answer (Refused number) = withheld number
 
+-- An answer, with the buffer that the call leaves.
 pub record Output : Type 0 where
   pub answer : Answer
   pub out : List ℕ

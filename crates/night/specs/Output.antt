@@ -27,8 +27,8 @@ largestFile = 10 + mostJobs * (1 + jobLength) + 2 + mostRows * (1 + rowLength)
 abbrev pub lengthSaid : List ℕ → ℕ
 lengthSaid l = ((getD l 1 0 * 256 + getD l 2 0) * 256 + getD l 3 0) * 256 + getD l 4 0
 
--- The bytes of the plan file: the first five and as many more as the length says, no more than the largest file has; all that came
--- where these are fewer.
+-- How many bytes of the input are the plan file: those before the body and the body's, by the length field, and never more than the largest
+-- file has; all bytes where too few came to say.
 unfoldable pub fileBytes : List ℕ → ℕ
 fileBytes l = cond (ltb (length l) headBytes) (length l) (min (headBytes + lengthSaid l) largestFile)
 

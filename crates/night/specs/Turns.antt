@@ -24,9 +24,11 @@ pub record Turned : Type 0 where
   pub night : Night
   pub line : List ℕ
 
+-- A night by its parts: what comes next, the plan and the run.
 abbrev pub night : Phase → Plan → Run → Night
 night phase p run = record { phase = phase; plan = p; run = run }
 
+-- A turn by the parts of the night after it, and its line.
 abbrev pub turn : Phase → Plan → Run → List ℕ → Turned
 turn phase p run line = record { night = night phase p run; line = line }
 
@@ -80,6 +82,7 @@ byPhase Closing p table run bytes = closes p run
 byPhase (Job i) p table run bytes = jobTurn p run i
 byPhase Over p table run bytes = turn Over p run []
 
+-- The turn that a night takes with the bytes that came for it.
 abbrev pub turned : Night → List ℕ → List ℕ → Turned
 turned n table bytes = byPhase (n .phase) (n .plan) table (n .run) bytes
 
