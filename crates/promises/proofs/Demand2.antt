@@ -41,8 +41,7 @@ use Rattle.dispatch.specs.declared.Run.{Run}
 use Rattle.dispatch.proofs.Never.{done-leaves}
 use Rattle.promises.specs.Cases.{planOf, tableOf, planE, tableE, fileE, P3}
 
--- The judge is exact: a timetable is accepted exactly when its table has all its places, it is sound, and it satisfies the constraints of
--- figure 2, with exact totals and no allotment outside a window.
+-- The judge is exact: it refuses nothing if and only if the table has all its places, the plan is sound, and figure 2 holds of it.
 pub judge-is-exact : (p : Plan) (table : List ℕ) → (judged p table ≡ []) ↔ ((places ≤ length table) × (sound p table ≡ true) × Accepted p table)
 judge-is-exact p table = (
   λ e.
@@ -79,7 +78,7 @@ taken-is file table e = by (ltb (length table) places) refl (readFile file) refl
     by false b (got held end) r e = (held, end, r, ltb-false (length table) places b, rw (b, r) refl)
     by false b (no number) r e = absurd (let z : _≡_ {A = ℕ} 0 1 = cc in omega arith)
 
--- A file that the reader takes, written again, gives the same bytes: the writer answers its length, and bytes past the file stay.
+-- What was read, written again: the writer answers the file's length and leaves its very bytes, with the output as it was behind them.
 pub read-and-written : (file table out : List ℕ) → ((k : ℕ) → getD file k 0 < 256) → reader file table .answer ≡ [] → length file ≤ length out
     → writer (reader file table .plan) (reader file table .table) out ≡ record { answer = wrote (length file); out = file ++ drop (length file) out }
 unfolding writer sound
@@ -152,7 +151,7 @@ allBelow bound [] = true
 allBelow bound (x ∷ l) = ltb x bound && allBelow bound l
 
 -- Plan E's file is taken, and gives plan E and its table.
-read-E : readFile fileE ≡ got (record { plan = planE; table = tableE }) 116
+pub read-E : readFile fileE ≡ got (record { plan = planE; table = tableE }) 116
 unfolding tableOf Below.every nameAllowed isAbsent insert boundariesTo value field version extent opening head named jobName oneJob allJobs position oneRow allRows front planFile ended
 read-E = refl
 
@@ -184,8 +183,8 @@ written-and-read-E out other fits room =
     let long : length (written planE (take places tableE)) ≡ 116 = ap (λ t. length (written planE t)) own ∙ ap length written-E in
     written-and-read planE tableE out other (x .records) (x .named) (x .entries) (x .is) (omega (arith, x .exact)) (omega (arith, long)) room
 
--- Each slot's grants are those of the rule: the live HI jobs and then the live LO jobs, each group by earliest deadline, each job served with
--- as much of its due as the rest of v allows (Turns: `order`, `serve`); places beyond the jobs stay.
+-- The grant row of a done call is what serving turn by turn makes of it (Turns: `order`, `serve`), from zeros for the counted jobs and with the
+-- places behind them kept.
 pub grants-are-the-rule : (p : Plan) (table : List ℕ) (run : Run) (v : ℕ) (grants : List ℕ) → stepped p table run v grants .answer ≡ []
     → stepped p table run v grants .grants
     ≡ serve (due p table run (slowAfter p run v)) v (order p (run .clock .0) (slowAfter p run v)) (replicate (counted p) 0 ++ drop (counted p) grants)

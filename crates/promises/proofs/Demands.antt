@@ -16,9 +16,9 @@ use Rattle.judge.specs.Verdict.{first, outsideFault, totalFault, capacityFault,
 use Rattle.dispatch.specs.Dues.{due}
 use Rattle.dispatch.specs.Turns
 use Rattle.dispatch.specs.Step.{started, slotSound, slotFault, granted, added, advanced, stepped}
-use Rattle.promises.specs.Cases.{planOf, tableOf, planE, tableE, P9}
+use Rattle.promises.specs.Cases.{planOf, tableOf, planE, tableE, P1, P9}
 use Rattle.promises.specs.Night.{Call, runAfter, had, Allowed, Kept, nightAt, Between, CorrectStrategy}
-use Rattle.promises.specs.Wrong.{tableOrder, Short, table-order-loses}
+use Rattle.promises.specs.Wrong.{loFirst, tableOrder, Short, lo-first-loses, table-order-loses}
 use Rattle.promises.proofs.Sound.{rules-of}
 use Rattle.promises.proofs.Demand2.{judge-is-exact, accepted-E}
 use Rattle.promises.proofs.Demand3.{kept}
@@ -80,6 +80,11 @@ accepted-P9 = refl
 pub any-order-loses : (judged (planOf (P9 .jobs)) (tableOf (P9 .rows)) ≡ []) × Between 1 2 (2 ∷ 1 ∷ []) × (isHi (planOf (P9 .jobs)) 1 ≡ true)
     × Short tableOrder due P9 (2 ∷ 1 ∷ []) 1
 any-order-loses = (accepted-P9, omega arith, refl, table-order-loses)
+
+-- Serving LO before HI inside an interval loses one too: mirror-A of plan E, when the link drops to the floor after three slots.
+pub lo-before-hi-loses : (judged planE tableE ≡ []) × Between 1 2 (2 ∷ 2 ∷ 2 ∷ 1 ∷ 1 ∷ 1 ∷ 1 ∷ 1 ∷ 1 ∷ 1 ∷ []) × (isHi planE 1 ≡ true)
+    × Short loFirst due P1 (2 ∷ 2 ∷ 2 ∷ 1 ∷ 1 ∷ 1 ∷ 1 ∷ 1 ∷ 1 ∷ 1 ∷ []) 1
+lo-before-hi-loses = (accepted-E, omega arith, refl, lo-first-loses)
 
 kept-in-P9 : Kept (planOf (P9 .jobs)) (nightAt (planOf (P9 .jobs)) (tableOf (P9 .rows)) (1 ∷ 2 ∷ []))
 kept-in-P9 =

@@ -4,11 +4,12 @@ pub mod Sound
 pub mod Same
 pub mod SameVerdict
 pub mod SameFile
+pub mod SameLine
 pub mod Slots
 pub mod Demand3
 pub mod Strategy
 pub mod Numbers
+pub mod Demand2
 pub mod Refused
 pub mod Unique
-pub mod Demand2
 pub mod Demands

@@ -6,28 +6,32 @@ use Prim.Native.Nat.{ℕ, zero, suc, _+_, _*_}
 use native.Mathlib.Omega.{arith}
 use lib.Dec.{leb, ltb, eqb}
 use lib.ListN.{length, getD, take, drop, set, replicate}
+use Rattle.sums.specs.Sum.{sum}
 use Rattle.plan.specs.Edition.{mostJobs, mostRows, mostIntervals, places, jobLength, rowLength}
 use Rattle.plan.specs.Refusal.{wrongVersion, wrongExtent, wrongRecordLength, wrongRates, wrongJobCount, wrongNameByte, nameTaken, wrongGrade, wrongJobBounds, tooManyRows, rowWithoutJob, rowWithoutInterval, rowWithoutUnits, rowOutOfOrder, outsideWindow, wrongTotal, overCapacity, belowFloorRule, clockAtEnd, speedAboveNormal, unsound, bufferTooShort}
-use Rattle.plan.specs.Rules.{counted, size, deadline, isHi, ratesAllowed, nameAllowed, isAbsent, gradeAllowed, windowAllowed, sizeAllowed}
-use Rattle.plan.specs.Boundaries.{boundary, intervals, lastDeadline}
-use Rattle.plan.specs.Table.{place, sound}
+use Rattle.plan.specs.Below
+use Rattle.plan.specs.Rules.{counted, size, deadline, isHi, ratesAllowed, nameAllowed, isAbsent, gradeAllowed, windowAllowed, sizeAllowed, namesHold, namesDiffer, gradesHold, boundsHold, rulesHold}
+use Rattle.plan.specs.Boundaries.{insert, boundariesTo, boundary, intervals, lastDeadline}
+use Rattle.plan.specs.Table.{place, noStray, sound}
 use Rattle.plan.specs.declared.kinds.Job.{Job}
 use Rattle.plan.specs.declared.kinds.Plan.{Plan}
-use Rattle.planfields.specs.Bytes.{value}
+use Rattle.planfields.specs.Bytes.{bytes, value}
 use Rattle.planfields.specs.Fields.{Step, got, no, Reading, onward, test, field, checked, version, extent, opening, head, named, jobName, oneJob, ended}
 use Rattle.planfile.specs.Reading.{namesOf, allJobs, position, oneRow, allRows, Held, front, planFile, readFile, noPlan, leaves, reader}
 use Rattle.planwriter.specs.Writing as writing
 use Rattle.planwriter.specs.Writing.{wrote, withheld, written, writer}
 use Rattle.judge.specs.Constraints.{span, total, load}
-use Rattle.judge.specs.Verdict.{Report, orElse, fault, first, isStray, isPair, fallsShort, outsideFault, totalFault, capacityFault, floorFault, handFault, constraintFault, judged}
+use Rattle.judge.specs.Verdict.{Report, orElse, fault, first, isStray, isPair, isHiDeadline, fallsShort, outsideFault, totalFault, capacityFault, floorFault, handFault, constraintFault, judged}
 use Rattle.judge.specs.Slack.{refused, leastSlack, unless, slackFigure}
 use Rattle.judge.proofs.Least.{first-of-all}
 use Rattle.dispatch.specs.Dues.{carriedOf}
 use Rattle.dispatch.specs.Step as step
-use Rattle.dispatch.specs.Step.{slotSound, slotFault, slotBy, stepped, outcome}
+use Rattle.dispatch.specs.Step.{started, slotSound, slotFault, slotBy, stepped, outcome}
 use Rattle.dispatch.specs.declared.Run.{Run}
 use Rattle.lines.specs.Answers as line
 use Rattle.lines.specs.Answers.{refusal, printed}
+use Rattle.lines.specs.Lines.{strayLine}
+use Rattle.promises.specs.Cases.{planOf, tableOf, planE, tableE, P3, P4}
 
 -- A number is one of some numbers.
 abbrev pub isOneOf : List ℕ → ℕ → Bool
@@ -68,7 +72,7 @@ module _ (file : List ℕ) where
   unfolding field
   field-only w at = only-cond fileNumbers (leb (at + w) (length file)) wrongExtent (value 0 (take w (drop at file))) (at + w) refl
 
-  checked-only : (w : ℕ) (ok : ℕ → Bool) (number at : ℕ) → isOneOf fileNumbers number ≡ true → Only fileNumbers (checked w ok number file at)
+  pub checked-only : (w : ℕ) (ok : ℕ → Bool) (number at : ℕ) → isOneOf fileNumbers number ≡ true → Only fileNumbers (checked w ok number file at)
   checked-only w ok number at h =
       only-onward fileNumbers (field w file at) _ file (field-only w at)
       (λ x next. only-onward fileNumbers (test (ok x) number file next) _ file (only-test fileNumbers (ok x) number file next h) (λ _ _. tt))
@@ -81,7 +85,7 @@ module _ (file : List ℕ) where
       only-onward fileNumbers (field 4 file next) _ file (field-only 4 next)
       (λ n from. only-cond fileNumbers (eqb (from + n) (length file)) wrongExtent n from refl))
 
-  head-only : (most at : ℕ) → Only fileNumbers (head most file at)
+  pub head-only : (most at : ℕ) → Only fileNumbers (head most file at)
   unfolding head
   head-only most at =
       only-onward fileNumbers (opening file at) _ file (opening-only at)
@@ -91,7 +95,7 @@ module _ (file : List ℕ) where
       (λ _ a₄. only-onward fileNumbers (checked 1 (λ c. leb 1 c && leb c most) wrongJobCount file a₄) _ file (checked-only 1 (λ c. leb 1 c && leb c most) wrongJobCount a₄ refl)
       (λ _ _. tt)))))
 
-  named-only : (long at : ℕ) → Only fileNumbers (named long file at)
+  pub named-only : (long at : ℕ) → Only fileNumbers (named long file at)
   unfolding named
   named-only long at =
       only-onward fileNumbers (checked 1 (λ x. eqb x long) wrongRecordLength file at) _ file (checked-only 1 (λ x. eqb x long) wrongRecordLength at refl)
@@ -105,7 +109,7 @@ module _ (file : List ℕ) where
       (λ _ a₂. only-onward fileNumbers (test (isAbsent earlier name) nameTaken file a₂) _ file (only-test fileNumbers (isAbsent earlier name) nameTaken file a₂ refl)
       (λ _ _. tt)))
 
-  job-only : (earlier : List ℕ) (at : ℕ) → Only fileNumbers (oneJob earlier file at)
+  pub job-only : (earlier : List ℕ) (at : ℕ) → Only fileNumbers (oneJob earlier file at)
   unfolding oneJob
   job-only earlier at =
       only-onward fileNumbers (jobName earlier file at) _ file (name-only earlier at)
@@ -143,8 +147,12 @@ module _ (file : List ℕ) where
       only-onward fileNumbers (oneRow width names spans low file at) _ file (row-only width names spans low at)
       (λ row next. rows-only n width names spans (suc (row .at)) (set table (row .at) (row .units)) next)
 
+  pub end-only : (at : ℕ) → Only fileNumbers (ended file at)
+  unfolding ended
+  end-only at = only-cond fileNumbers (eqb at (length file)) wrongExtent tt at refl
+
   pub file-only : Only fileNumbers (readFile file)
-  unfolding planFile front ended
+  unfolding planFile front
   file-only =
       only-onward fileNumbers (front file 0) _ file
       (only-onward fileNumbers (head mostJobs file 0) _ file (head-only mostJobs 0)
@@ -153,7 +161,7 @@ module _ (file : List ℕ) where
       (λ _ _. tt))))
       (λ f b₁. only-onward fileNumbers (allRows (f .rows) mostIntervals (f .names) (intervals (f .plan)) 0 (replicate places 0) file b₁) _ file
       (rows-only (f .rows) mostIntervals (f .names) (intervals (f .plan)) 0 (replicate places 0) b₁)
-      (λ _ b₂. only-onward fileNumbers (ended file b₂) _ file (only-cond fileNumbers (eqb b₂ (length file)) wrongExtent tt b₂ refl) (λ _ _. tt)))
+      (λ _ b₂. only-onward fileNumbers (ended file b₂) _ file (end-only b₂) (λ _ _. tt)))
 
 -- The reader is refused by 1 to 14 and 22.
 pub reader-numbers : (file table : List ℕ) (number : ℕ) (rest : List ℕ) → reader file table .answer ≡ number ∷ rest
@@ -265,7 +273,7 @@ judge-numbers p table number place e =
     numbers : List ℕ
     numbers = outsideWindow ∷ wrongTotal ∷ overCapacity ∷ belowFloorRule ∷ unsound ∷ bufferTooShort ∷ []
 
--- The slack figure is refused as by the judge, except that 18 isn't given; and never without a number.
+-- The slack figure is refused by 15 to 17, 21 and 22, and never without a number.
 pub slack-numbers : (p : Plan) (table : List ℕ) (report : Report) → slackFigure p table ≡ refused report
     → (number : ℕ) × (place : Report) × (report ≡ number ∷ place)
     × (isOneOf (outsideWindow ∷ wrongTotal ∷ overCapacity ∷ unsound ∷ bufferTooShort ∷ []) number ≡ true)
@@ -344,3 +352,39 @@ line-numbers text out number e = by (ltb (length out) (length text)) e
         → number ≡ bufferTooShort
     by true e = cc
     by false e = absurd (let z : _≡_ {A = ℕ} 0 1 = cc in omega arith)
+
+-- For each theorem above, a case that meets its premise.
+-- An empty file is refused by 1.
+pub empty-file : reader [] (replicate places 7) .answer ≡ wrongVersion ∷ []
+unfolding version opening head front planFile reader
+empty-file = refl
+
+-- Plan E is refused by 22 where the output has no room.
+pub E-without-room : writer planE tableE [] .answer ≡ writing.refused bufferTooShort
+unfolding tableOf Below.every nameAllowed namesHold namesDiffer gradesHold boundsHold rulesHold insert boundariesTo noStray sound bytes writing.jobsBytes writing.rowsBytes writing.rowCount writing.body written writer
+E-without-room = refl
+
+-- P3 is refused by 18, at interval 2 and deadline 10.
+pub P3-refused : judged (planOf (P3 .jobs)) (tableOf (P3 .rows)) ≡ belowFloorRule ∷ 2 ∷ 10 ∷ []
+unfolding tableOf sum Below.every nameAllowed namesHold namesDiffer gradesHold boundsHold rulesHold insert boundariesTo noStray sound first outsideFault totalFault capacityFault isHiDeadline floorFault judged
+P3-refused = refl
+
+-- The slack of P4 is refused by 16, at job 1.
+P4-unmeasured : slackFigure (planOf (P4 .jobs)) (tableOf (P4 .rows)) ≡ refused (wrongTotal ∷ 1 ∷ [])
+unfolding tableOf sum Below.every nameAllowed namesHold namesDiffer gradesHold boundsHold rulesHold insert boundariesTo noStray sound first outsideFault totalFault capacityFault isHiDeadline slackFigure
+P4-unmeasured = refl
+
+-- Plan E's first slot at speed 3 is refused by 20.
+pub E-too-fast : stepped planE tableE (started planE) 3 (7 ∷ 7 ∷ []) .answer ≡ speedAboveNormal ∷ []
+unfolding tableOf Below.every Below.least Below.greatest gradesHold boundsHold started slotSound slotFault stepped
+E-too-fast = refl
+
+-- Plan E has no third job to ask for.
+E-no-third : outcome planE (started planE) 2 ≡ step.refused unsound
+unfolding Below.every Below.least Below.greatest gradesHold boundsHold started slotSound outcome
+E-no-third = refl
+
+-- No line goes into an empty buffer.
+pub line-without-room : printed strayLine [] .answer ≡ line.withheld bufferTooShort
+unfolding printed
+line-without-room = refl

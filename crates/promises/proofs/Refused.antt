@@ -6,14 +6,18 @@ use mathlib.Core.List.{List, [], _∷_, _++_}
 use mathlib.Core.Logic.{_≢_}
 use Prim.Native.Nat.{ℕ, _≤_}
 use native.Mathlib.Omega.{arith}
-use lib.Dec.{ltb}
+use lib.Dec.{ltb, lit≤}
 use lib.ListN.{length, take, drop, replicate}
 use Rattle.plan.specs.Edition.{places}
-use Rattle.plan.specs.Refusal.{unsound, bufferTooShort}
-use Rattle.plan.specs.Table.{sound}
+use Rattle.plan.specs.Refusal.{wrongVersion, belowFloorRule, speedAboveNormal, unsound, bufferTooShort}
+use Rattle.plan.specs.Below
+use Rattle.plan.specs.Rules.{nameAllowed, namesHold, namesDiffer, gradesHold, boundsHold, rulesHold}
+use Rattle.plan.specs.Boundaries.{insert, boundariesTo}
+use Rattle.plan.specs.Table.{noStray, sound}
 use Rattle.plan.specs.declared.kinds.Plan.{Plan}
-use Rattle.planfields.specs.Fields.{Step, got, no}
-use Rattle.planfile.specs.Reading.{Held, readFile, noPlan, leaves, reader, nameShown}
+use Rattle.planfields.specs.Bytes.{bytes}
+use Rattle.planfields.specs.Fields.{Step, got, no, version, opening, head}
+use Rattle.planfile.specs.Reading.{Held, front, planFile, readFile, noPlan, leaves, reader, nameShown}
 use Rattle.planfile.proofs.Whole.{shown-none}
 use Rattle.planwriter.specs.Writing as writing
 use Rattle.planwriter.specs.Writing.{wrote, withheld, written, writer}
@@ -24,9 +28,11 @@ use Rattle.dispatch.specs.declared.Run.{Run}
 use Rattle.dispatch.proofs.Never as never
 use Rattle.lines.specs.Answers as line
 use Rattle.lines.specs.Answers.{refusal, printed, outcomePrinted}
-use Rattle.lines.specs.Lines.{outcomeLine}
+use Rattle.lines.specs.Lines.{strayLine, outcomeLine}
 use Rattle.lines.specs.Text.{text}
-use Rattle.promises.proofs.Numbers.{Only, fileNumbers, file-only, isOneOf}
+use Rattle.promises.specs.Cases.{planOf, tableOf, planE, tableE, fileE, P3, capitalMirror}
+use Rattle.promises.proofs.Numbers.{Only, fileNumbers, file-only, isOneOf, P3-refused, E-too-fast, line-without-room}
+use Rattle.promises.proofs.Demand2.{read-E}
 
 -- Reader: 22 leaves the table untouched, and a plan of zeros.
 pub reader-22-leaves : (file table : List ℕ) → reader file table .answer ≡ bufferTooShort ∷ []
@@ -56,7 +62,7 @@ reader-other-leaves file table number rest e other = by (ltb (length table) plac
     by false (got held end) e = absurd (let z : _≡_ {A = ℕ} 0 1 = cc in omega arith)
     by false (no k) e = (refl, refl)
 
--- Name lookup: a file that the reader refuses, and a position not below the job count, show an empty part.
+-- Name lookup: a refused file shows nothing, and neither does a position without a job.
 pub refused-file-shows-nothing : (file : List ℕ) (number position : ℕ) → readFile file ≡ no number → nameShown file position ≡ []
 unfolding nameShown
 refused-file-shows-nothing file number position e = rw e refl
@@ -88,7 +94,7 @@ writer-refused-leaves p table out number e =
     by false false true e = refl
     by false false false e = absurd (let z : _≡_ {A = ℕ} 0 1 = cc in omega arith)
 
--- Start: after a refusal no run exists, which is a record of zeros; and a lent record stays as it was.
+-- Start: a refusal hands back a record of zeros, and leaves a lent one.
 pub start-refused-leaves : (p : Plan) (table : List ℕ) (number : ℕ) (place : Report) → judged p table ≡ number ∷ place
     → startFrom (judged p table) (started p) noRun ≡ noRun
 start-refused-leaves p table number place e = ap (λ r. startFrom r (started p) noRun) e
@@ -97,7 +103,7 @@ pub start-in-refused-leaves : (p : Plan) (table : List ℕ) (was : Run) (number 
     → startIn p table was ≡ was
 start-in-refused-leaves = never.refused-start-changes-nothing
 
--- Step: run and grants stay as they were.
+-- Step: a refusal leaves run and grants.
 pub step-refused-leaves : (p : Plan) (table : List ℕ) (run : Run) (v : ℕ) (grants : List ℕ) (number : ℕ) (rest : Report)
     → stepped p table run v grants .answer ≡ number ∷ rest
     → (stepped p table run v grants .run ≡ run) × (stepped p table run v grants .grants ≡ grants)
@@ -123,3 +129,46 @@ outcome-line-refused-leaves name step.discarded carried out number e = line-refu
 outcome-line-refused-leaves name step.missed carried out number e = line-refused-leaves (outcomeLine name (text "missed") carried) out number e
 outcome-line-refused-leaves name step.stillOpen carried out number e = line-refused-leaves (outcomeLine name (text "open") carried) out number e
 outcome-line-refused-leaves name (step.refused k) carried out number e = refl
+
+-- For each theorem above, a case that meets its premises. A table that is too short stays as it was.
+short-table-stays : (reader fileE (7 ∷ []) .table ≡ 7 ∷ []) × (reader fileE (7 ∷ []) .plan ≡ noPlan)
+unfolding reader
+short-table-stays = reader-22-leaves fileE (7 ∷ []) refl
+
+-- An empty file leaves zeros in the table's own places, and the place behind them.
+empty-file-leaves : (reader [] (replicate places 7 ++ (9 ∷ [])) .table ≡ replicate places 0 ++ (9 ∷ []))
+    × (reader [] (replicate places 7 ++ (9 ∷ [])) .plan ≡ noPlan)
+unfolding version opening head front planFile reader
+empty-file-leaves = reader-other-leaves [] (replicate places 7 ++ (9 ∷ [])) wrongVersion [] refl (λ e. absurd (let z : wrongVersion ≡ bufferTooShort = e in omega arith))
+
+-- An empty file shows no name, and plan E's file shows no third one.
+empty-file-shows-nothing : nameShown [] 0 ≡ []
+unfolding version opening head front planFile
+empty-file-shows-nothing = refused-file-shows-nothing [] wrongVersion 0 refl
+
+E-shows-no-third : nameShown fileE 2 ≡ []
+E-shows-no-third = no-job-shows-nothing fileE (record { plan = planE; table = tableE }) 116 2 read-E (lit≤ tt)
+
+-- Plan E is not written where the output has room for one byte, and that byte stays.
+E-not-written : writer planE tableE (7 ∷ []) .out ≡ 7 ∷ []
+unfolding tableOf Below.every nameAllowed namesHold namesDiffer gradesHold boundsHold rulesHold insert boundariesTo noStray sound bytes writing.jobsBytes writing.rowsBytes writing.rowCount writing.body written writer
+E-not-written = writer-refused-leaves planE tableE (7 ∷ []) bufferTooShort refl
+
+-- P3 starts no run, and a lent record, here the one that plan E begins with, stays.
+P3-starts-nothing : startFrom (judged (planOf (P3 .jobs)) (tableOf (P3 .rows))) (started (planOf (P3 .jobs))) noRun ≡ noRun
+P3-starts-nothing = start-refused-leaves (planOf (P3 .jobs)) (tableOf (P3 .rows)) belowFloorRule (2 ∷ 10 ∷ []) P3-refused
+
+P3-leaves-the-record : startIn (planOf (P3 .jobs)) (tableOf (P3 .rows)) (started planE) ≡ started planE
+P3-leaves-the-record = start-in-refused-leaves (planOf (P3 .jobs)) (tableOf (P3 .rows)) (started planE) belowFloorRule (2 ∷ 10 ∷ []) P3-refused
+
+-- Plan E at speed 3 has run and grants as before.
+E-too-fast-leaves : (stepped planE tableE (started planE) 3 (7 ∷ 7 ∷ []) .run ≡ started planE)
+    × (stepped planE tableE (started planE) 3 (7 ∷ 7 ∷ []) .grants ≡ 7 ∷ 7 ∷ [])
+E-too-fast-leaves = step-refused-leaves planE tableE (started planE) 3 (7 ∷ 7 ∷ []) speedAboveNormal [] E-too-fast
+
+-- An empty buffer stays empty, and so does one that is lent for a refused outcome.
+no-room-leaves : printed strayLine [] .out ≡ []
+no-room-leaves = line-refused-leaves strayLine [] bufferTooShort line-without-room
+
+refused-outcome-leaves : outcomePrinted capitalMirror (step.refused unsound) 0 (7 ∷ []) .out ≡ 7 ∷ []
+refused-outcome-leaves = outcome-line-refused-leaves capitalMirror (step.refused unsound) 0 (7 ∷ []) unsound refl

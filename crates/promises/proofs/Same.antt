@@ -1,12 +1,12 @@
--- Plans that are the same get the same from a slot's call.
+-- Plans that are the same get the same from a slot's call, and the same outcomes.
 use mathlib.Core.Path.{_≡_, refl, sym, _∙_, ap, ap₂}
 use mathlib.Core.Bool.{Bool, true, false, not, _&&_, _||_}
 use mathlib.Core.List.{List, [], _∷_, _++_}
-use Prim.Native.Nat.{ℕ, suc, _+_, _*_, _-_, _≤_, _<_, min}
+use Prim.Native.Nat.{ℕ, zero, suc, _+_, _*_, _-_, _≤_, _<_, min}
 use native.Mathlib.Omega.{arith}
 use borrow.Author.Tests.{ltb-true, ltb-false, eqb-false, not-false, lt-ltb, le-ltb}
 use lib.Dec.{leb, ltb, eqb}
-use lib.ListN.{length, getD, length-take}
+use lib.ListN.{length, getD, take, length-take}
 use lib.Seq.{getD-take}
 use Rattle.sums.specs.Sum.{sum}
 use Rattle.sums.proofs.Laws.{sum-ext}
@@ -27,8 +27,9 @@ use Rattle.judge.specs.Verdict.{Report, orElse, fault}
 use Rattle.dispatch.specs.declared.Run.{Run}
 use Rattle.dispatch.specs.Dues.{carriedOf, live, slowAfter, belowAfter, goal, due}
 use Rattle.dispatch.specs.Turns.{line, order}
-use Rattle.dispatch.specs.Step.{slotSound, slotFault, granted, added, advanced, slotBy, stepped, outcome}
+use Rattle.dispatch.specs.Step.{started, slotSound, slotFault, granted, added, advanced, slotBy, stepped, outcome}
 use Rattle.dispatch.proofs.Line.{stands, if-true, if-less, neither, line-ext, serve-ext, stands-both, stands-below}
+use Rattle.promises.specs.Cases.{padded, job, tableOf, capitalMirror, jobsOfE, planE, tableE}
 use Rattle.promises.proofs.Sound.{SlotSound, slot-sound}
 
 -- Where nothing is refused, neither the first fault nor any later one is there.
@@ -70,6 +71,12 @@ done p table run v grants e =
     last : (b : Bool) → fault b (speedAboveNormal ∷ []) ≡ [] → b ≡ false
     last true e′ = let z : _≡_ {A = ℕ} 0 1 = cc in absurd (omega arith)
     last false e′ = refl
+
+-- An outcome that is not refused is a counted job's.
+pub asked-counted : (p : Plan) (run : Run) (i : ℕ) → (slotSound p run && ltb i (p .count)) ≡ true → i < counted p
+asked-counted p run i e =
+    let s = slot-sound p run (and-left (slotSound p run) (ltb i (p .count)) e) in
+    omega (arith, s .rules .count, ltb-true i (p .count) (and-right (slotSound p run) (ltb i (p .count)) e))
 
 module _ (p : Plan) (table : List ℕ) (q : Plan) (other : List ℕ) (same : Same p table q other) where
   pub counted-same : counted p ≡ counted q
@@ -225,11 +232,29 @@ module _ (p : Plan) (table : List ℕ) (q : Plan) (other : List ℕ) (same : Sam
   same-outcome run i =
       if-true (slotSound p run && ltb i (p .count))
       (λ e.
-      let here : i < counted p = counts e in
+      let here : i < counted p = asked-counted p run i e in
       rw (sound-same run, same .count, size-same i here, hi-same i here, deadline-same i here) refl)
       (λ e. let e′ : (slotSound q run && ltb i (q .count)) ≡ false = rw (← (sound-same run), ← (same .count)) e in rw (e, e′) refl)
-    where
-      counts : (slotSound p run && ltb i (p .count)) ≡ true → i < counted p
-      counts e =
-          let s = slot-sound p run (and-left (slotSound p run) (ltb i (p .count)) e) in
-          omega (arith, s .rules .count, ltb-true i (p .count) (and-right (slotSound p run) (ltb i (p .count)) e))
+
+-- Plan E as another host may hold it: with other records from the count on, and one more place behind its table.
+abbrev pub elseE : Plan
+elseE = record { n = planE .n; d = planE .d; count = planE .count; jobs = padded mostJobs (job capitalMirror hi 3 7 9) jobsOfE }
+
+abbrev pub elseTable : List ℕ
+elseTable = tableE ++ (9 ∷ [])
+
+-- It is the same plan, and so gets the same from a slot's call and as outcome.
+pub same-E : Same planE tableE elseE elseTable
+unfolding tableOf
+same-E = record { n = refl; d = refl; count = refl; jobs = counted-same-E; cells = refl }
+  where
+    counted-same-E : (i : ℕ) → i < counted planE → jobOf planE i ≡ jobOf elseE i
+    counted-same-E zero h = refl
+    counted-same-E (suc zero) h = refl
+    counted-same-E (suc (suc i)) h = absurd (omega arith)
+
+same-slot-E : stepped planE tableE (started planE) 2 (7 ∷ 7 ∷ 7 ∷ []) ≡ stepped elseE elseTable (started planE) 2 (7 ∷ 7 ∷ 7 ∷ [])
+same-slot-E = same-slot planE tableE elseE elseTable same-E (started planE) 2 (7 ∷ 7 ∷ 7 ∷ [])
+
+same-outcome-E : outcome planE (started planE) 1 ≡ outcome elseE (started planE) 1
+same-outcome-E = same-outcome planE tableE elseE elseTable same-E (started planE) 1

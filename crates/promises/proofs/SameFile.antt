@@ -5,7 +5,7 @@ use mathlib.Core.List.{List, _++_}
 use Prim.Native.Nat.{ℕ, zero, suc, _<_}
 use native.Mathlib.Omega.{arith}
 use lib.Dec.{ltb}
-use lib.ListN.{length, take, drop}
+use lib.ListN.{length, take, drop, replicate}
 use Rattle.plan.specs.Edition.{mostIntervals, places}
 use Rattle.plan.specs.Refusal.{unsound, bufferTooShort}
 use Rattle.plan.specs.Rules.{counted, jobOf, names}
@@ -18,7 +18,8 @@ use Rattle.planfields.specs.Bytes.{bytes}
 use Rattle.planwriter.specs.Writing.{jobBytes, jobsBytes, rowsBytes, body, written, wrote, withheld, writer}
 use Rattle.planwriter.proofs.Files.{sound-parts}
 use Rattle.roundtrip.specs.ReadAfterWrite.{rows-counted}
-use Rattle.promises.proofs.Same.{counted-same, long-same}
+use Rattle.promises.specs.Cases.{planE, tableE}
+use Rattle.promises.proofs.Same.{counted-same, long-same, elseE, elseTable, same-E}
 use Rattle.promises.proofs.SameVerdict.{sound-same}
 
 -- Jobs with the same records have the same bytes.
@@ -71,3 +72,7 @@ module _ (p : Plan) (table : List ℕ) (q : Plan) (other : List ℕ) (same : Sam
           })))
       by true e = rw (written-same e) refl
       by false e = rw e refl
+
+-- Plan E, held in two ways, is written alike.
+same-written-E : writer planE tableE (replicate 116 7) ≡ writer elseE elseTable (replicate 116 7)
+same-written-E = same-written planE tableE elseE elseTable same-E (replicate 116 7)

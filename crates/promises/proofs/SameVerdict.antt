@@ -25,9 +25,10 @@ use Rattle.judge.specs.Constraints.{units, inWindow, span, demand, floorCarries
 use Rattle.judge.specs.Verdict.{fault, first, outsideFault, totalFault, capacityFault, isHiDeadline, isPair, fallsShort, floorFault, judged}
 use Rattle.judge.specs.Slack.{Figure, noneEssential, slackOf, taken, through, leastSlack, slackFigure}
 use Rattle.judge.proofs.First.{first-ext}
-use Rattle.dispatch.specs.Step.{started, startFrom, startIn}
+use Rattle.dispatch.specs.Step.{noRun, started, startFrom, startIn}
 use Rattle.dispatch.specs.declared.Run.{Run}
-use Rattle.promises.proofs.Same.{counted-same, release-same, deadline-same, size-same, hi-same, boundaries-same, first-same, every-same, long-same}
+use Rattle.promises.specs.Cases.{planE, tableE}
+use Rattle.promises.proofs.Same.{counted-same, release-same, deadline-same, size-same, hi-same, boundaries-same, first-same, every-same, long-same, elseE, elseTable, same-E}
 
 -- Steps that agree give the same, however often.
 through-ext : {A : Type 0} (f g : ℕ → A → A) (n : ℕ) → ((k : ℕ) (a : A) → f k a ≡ g k a) → (a : A) → through f n a ≡ through g n a
@@ -45,7 +46,7 @@ module _ (p : Plan) (table : List ℕ) (q : Plan) (other : List ℕ) (same : Sam
   boundary-same : (j : ℕ) → boundary p j ≡ boundary q j
   boundary-same j = ap (λ l. getD l j 0) (boundaries-same p table q other same)
 
-  name-same : (i : ℕ) → i < counted p → name p i ≡ name q i
+  pub name-same : (i : ℕ) → i < counted p → name p i ≡ name q i
   name-same i h = ap (λ j. j .name .0) (same .jobs i h)
 
   names-differ-same : namesDiffer p ≡ namesDiffer q
@@ -193,3 +194,19 @@ module _ (p : Plan) (table : List ℕ) (q : Plan) (other : List ℕ) (same : Sam
   pub same-start-in : (was : Run) → startIn p table was ≡ startIn q other was
   unfolding startIn
   same-start-in was = same-start was
+
+-- Plan E, held in two ways, gets one verdict, one figure, one slack of each pair and one start.
+same-verdict-E : judged planE tableE ≡ judged elseE elseTable
+same-verdict-E = same-verdict planE tableE elseE elseTable same-E
+
+same-slack-E : slackFigure planE tableE ≡ slackFigure elseE elseTable
+same-slack-E = same-slack planE tableE elseE elseTable same-E
+
+same-slack-of-E : slackOf planE tableE 1 10 ≡ slackOf elseE elseTable 1 10
+same-slack-of-E = same-slack-of planE tableE elseE elseTable same-E 1 10
+
+same-start-E : startFrom (judged planE tableE) (started planE) noRun ≡ startFrom (judged elseE elseTable) (started elseE) noRun
+same-start-E = same-start planE tableE elseE elseTable same-E noRun
+
+same-start-in-E : startIn planE tableE noRun ≡ startIn elseE elseTable noRun
+same-start-in-E = same-start-in planE tableE elseE elseTable same-E noRun

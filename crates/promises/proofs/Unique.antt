@@ -3,20 +3,22 @@
 use mathlib.Core.Path.{_≡_, refl, sym, _∙_, ap}
 use mathlib.Core.Bool.{Bool, true, false, not, cond, _||_}
 use mathlib.Core.List.{List, [], _∷_, _++_}
-use Prim.Native.Nat.{ℕ}
-use lib.Dec.{ltb, eqb}
+use Prim.Native.Nat.{ℕ, _<_, _^_}
+use native.Mathlib.Nat.{one-le-pow}
+use lib.Dec.{leb, ltb, eqb, lit<}
 use lib.IntN.{ℤ}
 use lib.ListN.{length, drop, replicate}
-use Rattle.plan.specs.Edition.{places}
-use Rattle.plan.specs.Refusal.{clockAtEnd, speedAboveNormal, unsound, bufferTooShort}
+use Rattle.plan.specs.Edition.{mostJobs, mostRows, places}
+use Rattle.plan.specs.Refusal.{tooManyRows, rowWithoutInterval, rowWithoutUnits, clockAtEnd, speedAboveNormal, unsound, bufferTooShort}
 use Rattle.plan.specs.Rules.{counted}
 use Rattle.plan.specs.Boundaries.{lastDeadline}
 use Rattle.plan.specs.declared.kinds.Job.{Job}
 use Rattle.plan.specs.declared.kinds.Name.{Name}
 use Rattle.plan.specs.declared.kinds.Plan.{Plan}
 use Rattle.plan.specs.declared.kinds.Slots.{Slots}
-use Rattle.planfields.specs.Fields.{Step, got, no, Head}
-use Rattle.planfields.specs.Answers.{fieldTold, passedTold, headTold, jobTold}
+use Rattle.planfields.specs.Fields as rule
+use Rattle.planfields.specs.Fields.{Step, got, no, Head, checked, named, oneJob, ended}
+use Rattle.planfields.specs.Answers.{fieldTold, fieldValue, passedTold, headTold, jobTold, ReadsNamed, ReadsEnd, ReadsHead, ReadsJob, ReadsRowCount, ReadsInterval, ReadsUnits}
 use Rattle.planfields.specs.declared.field.Field.{Field}
 use Rattle.planfields.specs.declared.field.Field.the-variants as field
 use Rattle.planfields.specs.declared.field.Passed.{Passed}
@@ -25,6 +27,8 @@ use Rattle.planfields.specs.declared.head.HeadRead.{HeadRead}
 use Rattle.planfields.specs.declared.head.HeadRead.the-variants as head
 use Rattle.planfields.specs.declared.job.JobRead.{JobRead}
 use Rattle.planfields.specs.declared.job.JobRead.the-variants as job
+use Rattle.planfields.proofs.Digits.{Octets}
+use Rattle.planfields.proofs.Steps.{checked-is}
 use Rattle.planfile.specs.Reading.{Held, noPlan, leaves, readFile, reader, nameShown}
 use Rattle.planfile.specs.Answers.{readTold, Reads, Shows}
 use Rattle.planfile.specs.declared.reader.Answer.the-variants as read-answer
@@ -36,6 +40,7 @@ use Rattle.planwriter.specs.Answers.{Writes}
 use Rattle.planwriter.specs.declared.writer.Written.{Written}
 use Rattle.planwriter.specs.declared.writer.Written.the-variants as write-answer
 use Rattle.planwriter.proofs.Told.{outputs-apart}
+use Rattle.roundtrip.specs.Stands.{field-again}
 use Rattle.judge.specs.Verdict.{Report, orElse, fault, handFault, constraintFault, floorFault, judged}
 use Rattle.judge.specs.Slack.{Figure, noneEssential, least, refused, slackOf, leastSlack, unless, slackFigure}
 use Rattle.judge.specs.Answers.{report, figure, Judges, Measures, MeasuresPair}
@@ -289,9 +294,10 @@ some-opening file table out =
     let t = some-turn (opened (reader file table)) out in
     (t .0, reader file table .table, t .1, (t .2 .0, refl, t .2 .1))
 
--- The field readers of `planfields`, which reader and lookup share: a report of what was read is one answer's.
-pub one-field : (s : Step ℕ) (r t : Field) → fieldTold r ≡ s → fieldTold t ≡ s → r ≡ t
-one-field s r t d e = sym (back r) ∙ ap of (d ∙ sym e) ∙ back t
+-- The field readers of `planfields`, which reader and lookup share. A report of what was read is one answer's, and for every report there is
+-- such an answer.
+fields-one : (r s : Field) → fieldTold r ≡ fieldTold s → r ≡ s
+fields-one r s e = sym (back r) ∙ ap of e ∙ back s
   where
     of : Step ℕ → Field
     of (got v next) = field.Value v next
@@ -301,8 +307,20 @@ one-field s r t d e = sym (back r) ∙ ap of (d ∙ sym e) ∙ back t
     back (field.Value v next) = refl
     back (field.Refused number) = refl
 
-pub one-passed : (s : Step (Unit {0})) (r t : Passed) → passedTold r ≡ s → passedTold t ≡ s → r ≡ t
-one-passed s r t d e = sym (back r) ∙ ap of (d ∙ sym e) ∙ back t
+field-some : (s : Step ℕ) → (r : Field) × (fieldTold r ≡ s)
+field-some (got v next) = (field.Value v next, refl)
+field-some (no number) = (field.Refused number, refl)
+
+-- `planfields::field::read_named`.
+pub one-named : (file : List ℕ) (at length : ℕ) (r s : Field) → ReadsNamed file at length r → ReadsNamed file at length s → r ≡ s
+one-named file at length r s d e = fields-one r s (d ∙ sym e)
+
+pub some-named : (file : List ℕ) (at length : ℕ) → (r : Field) × ReadsNamed file at length r
+some-named file at length = field-some (named length file at)
+
+-- `planfields::field::read_end`.
+pub one-end : (file : List ℕ) (at : ℕ) (r s : Passed) → ReadsEnd file at r → ReadsEnd file at s → r ≡ s
+one-end file at r s d e = sym (back r) ∙ ap of (d ∙ sym e) ∙ back s
   where
     of : Step (Unit {0}) → Passed
     of (got u next) = passed.Next next
@@ -312,8 +330,16 @@ one-passed s r t d e = sym (back r) ∙ ap of (d ∙ sym e) ∙ back t
     back (passed.Next next) = refl
     back (passed.Refused number) = refl
 
-pub one-head : (s : Step Head) (r t : HeadRead) → headTold r ≡ s → headTold t ≡ s → r ≡ t
-one-head s r t d e = sym (back r) ∙ ap of (d ∙ sym e) ∙ back t
+pub some-end : (file : List ℕ) (at : ℕ) → (r : Passed) × ReadsEnd file at r
+some-end file at = by (ended file at)
+  where
+    by : (s : Step (Unit {0})) → (r : Passed) × (passedTold r ≡ s)
+    by (got u next) = (passed.Next next, refl)
+    by (no number) = (passed.Refused number, refl)
+
+-- `planfields::head::read_head`.
+pub one-head : (file : List ℕ) (r s : HeadRead) → ReadsHead file r → ReadsHead file s → r ≡ s
+one-head file r s d e = sym (back r) ∙ ap of (d ∙ sym e) ∙ back s
   where
     of : Step Head → HeadRead
     of (got h next) = head.Head (record { n = record { 0 = h .n }; d = record { 0 = h .d }; count = h .count }) next
@@ -323,8 +349,16 @@ one-head s r t d e = sym (back r) ∙ ap of (d ∙ sym e) ∙ back t
     back (head.Head h next) = refl
     back (head.Refused number) = refl
 
-pub one-job : (s : Step Job) (r t : JobRead) → jobTold r ≡ s → jobTold t ≡ s → r ≡ t
-one-job s r t d e = sym (back r) ∙ ap of (d ∙ sym e) ∙ back t
+pub some-head : (file : List ℕ) → (r : HeadRead) × ReadsHead file r
+some-head file = by (rule.head mostJobs file 0)
+  where
+    by : (s : Step Head) → (r : HeadRead) × (headTold r ≡ s)
+    by (got h next) = (head.Head (record { n = record { 0 = h .n }; d = record { 0 = h .d }; count = h .count }) next, refl)
+    by (no number) = (head.Refused number, refl)
+
+-- `planfields::job::read_job`.
+pub one-job : (file : List ℕ) (at : ℕ) (earlier : List ℕ) (r s : JobRead) → ReadsJob file at earlier r → ReadsJob file at earlier s → r ≡ s
+one-job file at earlier r s d e = sym (back r) ∙ ap of (d ∙ sym e) ∙ back s
   where
     of : Step Job → JobRead
     of (got j next) = job.Job j next
@@ -333,3 +367,47 @@ one-job s r t d e = sym (back r) ∙ ap of (d ∙ sym e) ∙ back t
     back : (r : JobRead) → of (jobTold r) ≡ r
     back (job.Job j next) = refl
     back (job.Refused number) = refl
+
+pub some-job : (file : List ℕ) (at : ℕ) (earlier : List ℕ) → (r : JobRead) × ReadsJob file at earlier r
+some-job file at earlier = by (oneJob earlier file at)
+  where
+    by : (s : Step Job) → (r : JobRead) × (jobTold r ≡ s)
+    by (got j next) = (job.Job j next, refl)
+    by (no number) = (job.Refused number, refl)
+
+-- `planfields::numbers::read_row_count`.
+pub one-row-count : (file : List ℕ) (at : ℕ) (r s : Field) → ReadsRowCount file at r → ReadsRowCount file at s → r ≡ s
+one-row-count file at r s d e = fields-one r s (d ∙ sym e)
+
+pub some-row-count : (file : List ℕ) (at : ℕ) → (r : Field) × ReadsRowCount file at r
+some-row-count file at = field-some (checked 2 (λ n. leb n mostRows) tooManyRows file at)
+
+-- A checked field as an answer, with its value in its width. (That a byte is below 256, the code's type says.)
+checked-some : (file : List ℕ) → Octets file → (w : ℕ) (ok : ℕ → Bool) (number at : ℕ)
+    → (r : Field) × ((fieldTold r ≡ checked w ok number file at) × (fieldValue r < 256 ^ w))
+checked-some file octets w ok number at = by (checked w ok number file at) refl
+  where
+    by : (s : Step ℕ) → checked w ok number file at ≡ s → (r : Field) × ((fieldTold r ≡ s) × (fieldValue r < 256 ^ w))
+    by (got x end) e = (field.Value x end, (refl, field-again w file at octets (checked-is w ok number file at e .0) .1))
+    by (no k) e = (field.Refused k, (refl, one-le-pow w 256 (lit< tt)))
+
+-- `planfields::numbers::read_interval`.
+pub one-interval : (file : List ℕ) (at spans : ℕ) (r s : Field) → ReadsInterval file at spans r → ReadsInterval file at spans s → r ≡ s
+one-interval file at spans r s d e = fields-one r s (d .0 ∙ sym (e .0))
+
+pub some-interval : (file : List ℕ) → Octets file → (at spans : ℕ) → (r : Field) × ReadsInterval file at spans r
+some-interval file octets at spans = checked-some file octets 2 (λ j. ltb j spans) rowWithoutInterval at
+
+-- `planfields::numbers::read_units`.
+pub one-units : (file : List ℕ) (at : ℕ) (r s : Field) → ReadsUnits file at r → ReadsUnits file at s → r ≡ s
+one-units file at r s d e = fields-one r s (d .0 ∙ sym (e .0))
+
+pub some-units : (file : List ℕ) → Octets file → (at : ℕ) → (r : Field) × ReadsUnits file at r
+some-units file octets at = checked-some file octets 4 (λ u. not (eqb u 0)) rowWithoutUnits at
+
+-- Every other public call answers a plain value and is lent nothing to change: its promise is that the value is a definition's.
+pub one-value : {A : Type 0} (value r s : A) → r ≡ value → s ≡ value → r ≡ s
+one-value value r s d e = d ∙ sym e
+
+pub some-value : {A : Type 0} (value : A) → (r : A) × (r ≡ value)
+some-value value = (value, refl)

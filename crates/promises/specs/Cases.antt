@@ -59,47 +59,57 @@ pub record Seen : Type 0 where
   pub slack : Figure
   pub slots : List (List ℕ)
 
+-- A case: jobs, rows and speeds, and what must come out of them.
 pub record Case : Type 0 where
   pub jobs : List Job
   pub rows : List (List ℕ)
   pub speeds : List ℕ
   pub must : Seen
 
+-- What does come out of a case, by the definitions of judge, slack, start and step.
 unfoldable pub seen : Case → Seen
 seen c =
     let p = planOf (c .jobs) in
     let table = tableOf (c .rows) in
     record { verdict = judged p table; slack = slackFigure p table; slots = night p table (started p) (c .speeds) }
 
--- Names: those of plan E, which differ in one letter's case only, and others for the cases that name no jobs.
+-- Mirror-A, the first name of plan E.
 abbrev pub capitalMirror : ℕ
 capitalMirror = 0x4D69_7272_6F72_2D41
 
+-- mirror-A, the second: it differs in the case of one letter.
 abbrev pub smallMirror : ℕ
 smallMirror = 0x6D69_7272_6F72_2D41
 
+-- A name for the cases that give none: job----A.
 abbrev jobA : ℕ
 jobA = 0x6A6F_622D_2D2D_2D41
 
+-- Another: job----B.
 abbrev jobB : ℕ
 jobB = 0x6A6F_622D_2D2D_2D42
 
+-- Another: job----C.
 abbrev jobC : ℕ
 jobC = 0x6A6F_622D_2D2D_2D43
 
+-- Another: job----D.
 abbrev jobD : ℕ
 jobD = 0x6A6F_622D_2D2D_2D44
 
--- Plan E: example 1 of Baruah and Guo.
+-- The jobs of plan E: example 1 of Baruah and Guo.
 abbrev pub jobsOfE : List Job
 jobsOfE = job capitalMirror lo 0 6 5 ∷ job smallMirror hi 1 8 10 ∷ []
 
+-- What plan E allots to each of them, interval by interval.
 abbrev pub rowsOfE : List (List ℕ)
 rowsOfE = (2 ∷ 4 ∷ 0 ∷ []) ∷ (0 ∷ 4 ∷ 4 ∷ []) ∷ []
 
+-- Plan E in hand, with all its records.
 abbrev pub planE : Plan
 planE = planOf jobsOfE
 
+-- The table of plan E, with all its places.
 abbrev pub tableE : List ℕ
 tableE = tableOf rowsOfE
 
@@ -119,7 +129,7 @@ fileE =
 abbrev withSecondRow : List ℕ → List (List ℕ)
 withSecondRow row = (2 ∷ 4 ∷ 0 ∷ []) ∷ row ∷ []
 
--- Their example 4, doubled.
+-- The jobs of Baruah and Guo's example 4, doubled.
 abbrev jobsOfP6 : List Job
 jobsOfP6 = job jobA lo 0 4 2 ∷ job jobB hi 0 2 4 ∷ job jobC hi 2 2 4 ∷ []
 
@@ -138,19 +148,23 @@ slotsOfE speeds slots =
       must = record { verdict = []; slack = least (pos 1) 1 10; slots = slots };
     }
 
+-- Plan E is accepted, with a slack of 1.
 abbrev pub P1 : Case
 P1 = judging jobsOfE rowsOfE [] (least (pos 1) 1 10)
 
+-- A unit moved from interval 1 to interval 2 leaves no slack.
 abbrev pub P2 : Case
 P2 = judging jobsOfE (withSecondRow (0 ∷ 3 ∷ 5 ∷ [])) [] (least (pos 0) 2 10)
 
+-- A second one breaks the floor rule, by one unit.
 abbrev pub P3 : Case
 P3 = judging jobsOfE (withSecondRow (0 ∷ 2 ∷ 6 ∷ [])) (belowFloorRule ∷ 2 ∷ 10 ∷ []) (least (negsuc 0) 2 10)
 
+-- A unit too few for job 1.
 abbrev pub P4 : Case
 P4 = judging jobsOfE (withSecondRow (0 ∷ 4 ∷ 3 ∷ [])) (wrongTotal ∷ 1 ∷ []) (refused (wrongTotal ∷ 1 ∷ []))
 
--- Their example 2, doubled.
+-- Baruah and Guo's example 2, doubled: accepted without slack.
 abbrev pub P5 : Case
 P5 =
     judging (job jobA hi 0 8 10 ∷ job jobB hi 0 4 16 ∷ job jobC lo 0 6 4 ∷ job jobD lo 0 10 12 ∷ [])
@@ -158,13 +172,16 @@ P5 =
     []
     (least (pos 0) 1 10)
 
+-- Their example 4, doubled: the HI jobs of the second interval are too much for the floor.
 abbrev pub P6 : Case
 P6 =
     judging jobsOfP6 ((4 ∷ 0 ∷ []) ∷ (0 ∷ 2 ∷ []) ∷ (0 ∷ 2 ∷ []) ∷ []) (belowFloorRule ∷ 1 ∷ 4 ∷ []) (least (negsuc 1) 1 4)
 
+-- The same with one of them moved to the first interval, which then holds more than the normal rate carries.
 abbrev pub P7 : Case
 P7 = judging jobsOfP6 ((4 ∷ 0 ∷ []) ∷ (2 ∷ 0 ∷ []) ∷ (0 ∷ 2 ∷ []) ∷ []) (overCapacity ∷ 0 ∷ []) (refused (overCapacity ∷ 0 ∷ []))
 
+-- A unit of plan E's first job behind its deadline.
 abbrev pub P8 : Case
 P8 =
     judging jobsOfE ((2 ∷ 3 ∷ 1 ∷ []) ∷ (0 ∷ 4 ∷ 4 ∷ []) ∷ []) (outsideWindow ∷ 0 ∷ 2 ∷ []) (refused (outsideWindow ∷ 0 ∷ 2 ∷ []))
@@ -179,15 +196,19 @@ P9 =
       must = record { verdict = []; slack = least (pos 0) 0 2; slots = (0 ∷ 0 ∷ 2 ∷ []) ∷ (1 ∷ 1 ∷ 0 ∷ []) ∷ [] };
     }
 
+-- Plan E at the normal rate: the second slot is mirror-A's.
 abbrev pub P10 : Case
 P10 = slotsOfE (2 ∷ 2 ∷ []) ((0 ∷ 2 ∷ 0 ∷ []) ∷ (0 ∷ 0 ∷ 2 ∷ []) ∷ [])
 
+-- Plan E at the floor in its first slot: the slow mark is set, and no HI job is live yet.
 abbrev pub P11 : Case
 P11 = slotsOfE (1 ∷ []) ((1 ∷ 0 ∷ 0 ∷ []) ∷ [])
 
+-- A speed above the normal rate is refused.
 abbrev pub P12 : Case
 P12 = slotsOfE (3 ∷ []) ((speedAboveNormal ∷ 0 ∷ 0 ∷ 0 ∷ []) ∷ [])
 
+-- All of them.
 abbrev pub cases : List Case
 cases = P1 ∷ P2 ∷ P3 ∷ P4 ∷ P5 ∷ P6 ∷ P7 ∷ P8 ∷ P9 ∷ P10 ∷ P11 ∷ P12 ∷ []
 

@@ -15,14 +15,15 @@ use Rattle.dispatch.specs.declared.Run.{Run}
 use Rattle.dispatch.specs.Dues.{live}
 use Rattle.dispatch.specs.Step.{Slot, started, stepped}
 
--- A call of the step: any plan, table, speed and grant row. The run is as the last call left it.
+-- One slot's call: whatever plan, table, speed and grant row come with it.
 pub record Call : Type 0 where
   pub plan : Plan
   pub table : List ℕ
   pub speed : ℕ
   pub row : List ℕ
 
--- A night is a list of calls, the latest first. The run after it, begun from plan p.
+-- The run that plan p's start and a night's calls lead to, each taking up what the one before it left. A night is a list of calls, the latest
+-- first.
 unfoldable pub runAfter : Plan → List Call → Run
 runAfter p [] = started p
 runAfter p (c ∷ earlier) = stepped (c .plan) (c .table) (runAfter p earlier) (c .speed) (c .row) .run
@@ -63,7 +64,7 @@ unfoldable pub slowed : Plan → List Call → Bool
 slowed p [] = false
 slowed p (c ∷ earlier) = slowed p earlier || isSlow p c earlier
 
--- Some slow slot began before time D. (If none did, no slot was slow, or D is no later than the start of the first slow one.)
+-- Whether a slow slot began before time D.
 unfoldable pub slowedBefore : Plan → ℕ → List Call → Bool
 slowedBefore p D [] = false
 slowedBefore p D (c ∷ earlier) = slowedBefore p D earlier || isSlow p c earlier && ltb (clockAt p earlier) D
@@ -73,7 +74,8 @@ unfoldable pub hadSinceSlow : Plan → List Call → ℕ → ℕ
 hadSinceSlow p [] i = 0
 hadSinceSlow p (c ∷ earlier) i = hadSinceSlow p earlier i + on (slowed p (c ∷ earlier)) (given p c earlier i)
 
--- The premise on a night: each call was refused, or its plan and table are the accepted ones, unchanged, and its speed lies from floor to normal.
+-- What a night has to meet: a call that is not refused brings the plan and table that were accepted, or the same ones, and a speed v with
+-- d ≤ v ≤ n.
 unfoldable pub Allowed : Plan → List ℕ → List Call → Type 0
 Allowed p table [] = Unit {0}
 Allowed p table (c ∷ earlier) =
@@ -81,23 +83,24 @@ Allowed p table (c ∷ earlier) =
     × ((isDone (latest p c earlier .answer) ≡ false)
     ⊎ (Same p table (c .plan) (c .table) × (p .d .0 ≤ c .speed) × (c .speed ≤ p .n .0)))
 
--- No slot of a night gave more than its speed.
+-- In every slot of a night, what the jobs were given sums to at most its speed.
 unfoldable pub WithinSpeeds : Plan → List Call → Type 0
 WithinSpeeds p [] = Unit {0}
 WithinSpeeds p (c ∷ earlier) = WithinSpeeds p earlier × (sum (given p c earlier) (counted p) ≤ c .speed)
 
--- What is promised to depositors, at every point of a night.
+-- What depositors can count on, wherever a night stands.
 pub record Kept (p : Plan) (night : List Call) : Type 0 where
-  -- An essential transfer whose deadline the clock has reached has had exactly its size, all of it inside its window.
+  -- By its deadline a HI job has had its size and no more, and nothing outside its window.
   pub essential : (i : ℕ) → i < counted p → isHi p i ≡ true → deadline p i ≤ runAfter p night .clock .0
       → (had p night i ≡ size p i) × (hadInWindow p night i ≡ size p i)
-  -- So has every other whose deadline the clock has reached, if no slow slot began before that deadline.
+  -- The same of any job, if no slow slot began before its deadline.
   pub others : (i : ℕ) → i < counted p → deadline p i ≤ runAfter p night .clock .0 → slowedBefore p (deadline p i) night ≡ false
       → (had p night i ≡ size p i) × (hadInWindow p night i ≡ size p i)
-  -- From the first slow slot on no other transfer gets anything.
+  -- A LO job has had nothing since the link first slowed.
   pub discarded : (i : ℕ) → i < counted p → isHi p i ≡ false → hadSinceSlow p night i ≡ 0
-  -- No transfer ever has more than its size, and no slot gives more than its speed.
+  -- At no time has a job had more than its size.
   pub no-more : (i : ℕ) → i < counted p → had p night i ≤ size p i
+  -- No slot's grants sum to more than its speed.
   pub speeds : WithinSpeeds p night
 
 -- A night of one plan and table at some speeds, the latest first, with a grant row of zeros lent to each call.

@@ -8,7 +8,7 @@ use lib.IntN.{pos, negsuc}
 use lib.ListN.{replicate}
 use Rattle.sums.specs.Sum.{sum, on}
 use Rattle.plan.specs.Below
-use Rattle.plan.specs.Refusal.{unsound}
+use Rattle.plan.specs.Refusal.{belowFloorRule, unsound}
 use Rattle.plan.specs.Rules.{counted, size, deadline, isHi, nameAllowed, namesHold, namesDiffer, gradesHold, boundsHold, rulesHold}
 use Rattle.plan.specs.Boundaries.{insert, boundariesTo, come, boundary, intervals, firstRelease}
 use Rattle.plan.specs.Table.{noStray, sound}
@@ -24,14 +24,16 @@ use Rattle.dispatch.specs.Step.{started, added}
 use Rattle.planfile.specs.Reading.{position}
 use Rattle.promises.specs.Cases.{Case, planOf, tableOf, P1, P3, P8, P9, capitalMirror, smallMirror}
 
--- A dispatcher by its order of service and its dues: all that the wrong ones below differ in.
+-- An order of service: the positions served at a time, with the slow mark clear or set. With its dues, it is all that the wrong dispatchers
+-- below differ in.
 abbrev pub Order : Type 0
 Order = Plan → ℕ → Bool → List ℕ
 
+-- What each job claims in a slot.
 abbrev pub Dues : Type 0
 Dues = Plan → List ℕ → Run → Bool → ℕ → ℕ
 
--- A slot and a night as such a dispatcher has them.
+-- A slot as such a dispatcher has it.
 abbrev pub slotBy : Order → Dues → Plan → List ℕ → Run → ℕ → Run
 slotBy order dues p table run v =
     record {
@@ -43,6 +45,7 @@ slotBy order dues p table run v =
           (serve (dues p table run (slowAfter p run v)) v (order p (run .clock .0) (slowAfter p run v)) (replicate (counted p) 0));
     }
 
+-- A night of such slots.
 unfoldable pub nightBy : Order → Dues → Plan → List ℕ → Run → List ℕ → Run
 nightBy order dues p table run [] = run
 nightBy order dues p table run (v ∷ rest) = nightBy order dues p table (slotBy order dues p table run v) rest
@@ -56,7 +59,7 @@ hasBy order dues c speeds i =
 abbrev pub Short : Order → Dues → Case → List ℕ → ℕ → Type 0
 Short order dues c speeds i = hasBy order dues c speeds i < size (planOf (c .jobs)) i
 
--- LO before HI inside an interval.
+-- The live LO jobs first, and then the live HI jobs.
 abbrev pub loFirst : Order
 loFirst p t slow =
     Turns.line (λ i. live p t i && not (isHi p i) && not slow) (deadline p) (counted p)
@@ -88,50 +91,55 @@ judgedAtStart p table =
     (λ m.
     fault
     (ltb 0 m && isHiDeadline p (boundary p m) && ltb (floorCarries p 0 (boundary p m)) (demand p table 0 (boundary p m)))
-    (0 ∷ []))
+    (belowFloorRule ∷ 0 ∷ boundary p m ∷ []))
     (suc (intervals p)))))
 
--- It passes P3, and the right dispatcher then loses mirror-A when the link drops at the start of interval 2.
+-- It passes P3.
 pub at-start-passes : judgedAtStart (planOf (P3 .jobs)) (tableOf (P3 .rows)) ≡ []
 unfolding tableOf sum Below.every insert boundariesTo first outsideFault totalFault capacityFault isHiDeadline
 at-start-passes = refl
 
+-- The right dispatcher then loses mirror-A, when the link drops at the start of interval 2.
 pub at-start-loses : Short order due P3 (2 ∷ 2 ∷ 2 ∷ 2 ∷ 2 ∷ 1 ∷ 1 ∷ 1 ∷ 1 ∷ 1 ∷ []) 1
 unfolding nightBy tableOf started added serve order enqueue Turns.line sum Below.least insert boundariesTo come
 at-start-loses = lit< tt
 
--- A judge that accepts everything passes P3 too, and mirror-A is lost as above.
+-- A judge that accepts everything.
 abbrev pub acceptsAll : Plan → List ℕ → Report
 acceptsAll p table = []
 
+-- It passes P3 too, and mirror-A is lost as above.
 pub accepts-all-loses : (acceptsAll (planOf (P3 .jobs)) (tableOf (P3 .rows)) ≡ []) × Short order due P3 (2 ∷ 2 ∷ 2 ∷ 2 ∷ 2 ∷ 1 ∷ 1 ∷ 1 ∷ 1 ∷ 1 ∷ []) 1
 accepts-all-loses = (refl, at-start-loses)
 
--- A judge that refuses everything refuses plan E, which the rules accept.
+-- A judge that refuses everything, as unsound.
 abbrev pub refusesAll : Plan → List ℕ → Report
 refusesAll p table = unsound ∷ []
 
+-- It refuses plan E, which the rules accept.
 pub refuses-all-refuses-E : (judged (planOf (P1 .jobs)) (tableOf (P1 .rows)) ≡ []) × (refusesAll (planOf (P1 .jobs)) (tableOf (P1 .rows)) ≡ unsound ∷ [])
 unfolding tableOf sum Below.every Below.least Below.greatest nameAllowed namesHold namesDiffer gradesHold boundsHold rulesHold insert boundariesTo come noStray sound first outsideFault totalFault capacityFault isHiDeadline floorFault judged
 refuses-all-refuses-E = (refl, refl)
 
--- A slack figure that is invented, 0 for every plan, hides that P3 falls short by 1.
+-- An invented figure: no slack, for every plan.
 abbrev pub inventedSlack : Plan → List ℕ → Figure
 inventedSlack p table = least (pos 0) 0 0
 
+-- It hides that P3 falls short by 1.
 pub invented-slack-hides : (slackFigure (planOf (P3 .jobs)) (tableOf (P3 .rows)) ≡ least (negsuc 0) 2 10) × (inventedSlack (planOf (P3 .jobs)) (tableOf (P3 .rows)) ≡ least (pos 0) 0 0)
 unfolding tableOf sum Below.every Below.least Below.greatest nameAllowed namesHold namesDiffer gradesHold boundsHold rulesHold insert boundariesTo come noStray sound first outsideFault totalFault capacityFault isHiDeadline through leastSlack slackFigure
 invented-slack-hides = (refl, refl)
 
--- An allotment counted by job and not by window.
+-- A judge that adds up each job's allotments wherever they lie: the first rule is left out.
 abbrev pub judgedByJob : Plan → List ℕ → Report
 judgedByJob p table = orElse (totalFault p table) (orElse (capacityFault p table) (floorFault p table))
 
--- It passes P8, whose first job is then short at its deadline though the link never slowed.
+-- It passes P8.
 pub by-job-passes : judgedByJob (planOf (P8 .jobs)) (tableOf (P8 .rows)) ≡ []
 unfolding tableOf sum Below.every insert boundariesTo first totalFault capacityFault isHiDeadline floorFault
 by-job-passes = refl
 
+-- The first job of P8 is then short at its deadline, though the link never slowed.
 pub by-job-loses : Short order due P8 (2 ∷ 2 ∷ 2 ∷ 2 ∷ 2 ∷ []) 0
 unfolding nightBy tableOf started added serve order enqueue Turns.line sum Below.least insert boundariesTo come
 by-job-loses = lit< tt
@@ -145,6 +153,7 @@ nothing-granted-loses = lit< tt
 abbrev pub firstSlotOnly : Dues
 firstSlotOnly p table run slow i = on (eqb (run .clock .0) (firstRelease p)) (due p table run slow i)
 
+-- Plan E loses mirror-A by it at the normal rate.
 pub first-slot-only-loses : Short order firstSlotOnly P1 (2 ∷ 2 ∷ 2 ∷ 2 ∷ 2 ∷ 2 ∷ 2 ∷ 2 ∷ 2 ∷ 2 ∷ []) 1
 unfolding nightBy tableOf started added serve order enqueue Turns.line sum Below.least insert boundariesTo come
 first-slot-only-loses = lit< tt
@@ -157,15 +166,21 @@ folded (suc w) x = folded w (x / 256) * 256 + small (x % 256)
     small : ℕ → ℕ
     small b = cond (leb 0x41 b && leb b 0x5A) (b + 0x20) b
 
--- Folding case takes plan E's two names for one, and finds a job for a row named MIRROR-A, which the reader refuses by 11.
+-- MIRROR-A, which no job of plan E is named.
+abbrev allCapitals : ℕ
+allCapitals = 0x4D49_5252_4F52_2D41
+
+-- Folding case takes plan E's two names for one.
 pub folding-joins : folded 8 capitalMirror ≡ folded 8 smallMirror
 unfolding folded
 folding-joins = refl
 
-pub folding-finds : position (folded 8 capitalMirror ∷ folded 8 smallMirror ∷ []) (folded 8 0x4D49_5252_4F52_2D41) ≡ 0
+-- It finds a job for a row named MIRROR-A.
+pub folding-finds : position (folded 8 capitalMirror ∷ folded 8 smallMirror ∷ []) (folded 8 allCapitals) ≡ 0
 unfolding folded position
 folding-finds = refl
 
-pub reader-finds-none : position (capitalMirror ∷ smallMirror ∷ []) 0x4D49_5252_4F52_2D41 ≡ 2
+-- The reader finds none: it looks past both, and refuses such a row by 11.
+pub reader-finds-none : position (capitalMirror ∷ smallMirror ∷ []) allCapitals ≡ 2
 unfolding position
 reader-finds-none = refl
