@@ -1,138 +1,16 @@
--- Words and what they mean: a run and a plan come back from their words, and the words of a run that is sound come back from the run.
-use mathlib.Core.Path.{_≡_, refl, sym, _∙_, ap}
-use mathlib.Core.Bool.{Bool, true, false, not, cond, _&&_, _||_}
-use mathlib.Core.List.{List, [], _∷_, _++_, append-assoc}
-use Prim.Native.Nat.{ℕ, zero, suc, _+_, _*_, _≤_, _<_, min}
-use native.Mathlib.Nat.{add-zero}
-use native.Mathlib.Numerals.{add-one}
-use native.Mathlib.Omega.{arith}
-use borrow.Author.Tests.{leb-true, ltb-true, ltb-false, not-false}
-use lib.Dec.{leb, ltb, eqb}
-use lib.ListN.{length, getD, take, drop, length-append, take-append-drop, List·getD-append}
-use lib.Seq.{sets, take-at, take-suc, take-all, length-take-le, getD-append-add}
-use Rattle.plan.specs.Edition.{mostJobs}
-use Rattle.plan.specs.Rules.{jobOf, noJob}
-use Rattle.plan.specs.declared.kinds.Job.{Job}
-use Rattle.plan.specs.declared.kinds.Plan.{Plan}
-use Rattle.plan.proofs.Below.{both}
-use Rattle.judge.specs.Verdict.{Report}
-use Rattle.planwriter.proofs.Sets.{sets-whole}
+-- A refused step leaves what the host lent.
+use mathlib.Core.Path.{_≡_, refl, _∙_, ap}
+use mathlib.Core.Bool.{Bool, true, false, not, cond, _||_}
+use mathlib.Core.List.{List, [], _∷_}
+use Prim.Native.Nat.{ℕ}
+use borrow.Author.Tests.{not-false}
 use Rattle.plan.specs.Refusal.{unsound, bufferTooShort}
-use Rattle.dispatch.specs.declared.Run.{Run}
+use Rattle.judge.specs.Verdict.{Report}
 use Rattle.dispatch.specs.Step.{Slot, stepped}
 use Rattle.dispatch.proofs.Never.{refused-changes-nothing}
-use Rattle.gateway.specs.Memory.{headWords, jobWords, planWords, runWords, markWords, most8, most16, most32, jobPlace, jobAt, jobsTo, planOf, jobOut, jobsOut, planOut, marksHold, runOf, markOut, runOut}
-use Rattle.gateway.specs.Calls.{Stepped, numberOf, shortPlan, shortRun, slotWords, stepCall}
-use Rattle.gateway.proofs.Laws.{jobs-long, both-long}
-
--- A mark comes back from its word, and a word that is 0 or 1 from its mark.
-mark-back : (b : Bool) → eqb (markOut b) 1 ≡ b
-mark-back true = refl
-mark-back false = refl
-
-mark-again : (x : ℕ) → x ≤ 1 → markOut (eqb x 1) ≡ x
-mark-again zero h = refl
-mark-again (suc zero) h = refl
-mark-again (suc (suc x)) h = absurd (omega arith)
-
--- The run that a run's words mean is that run.
-pub run-back : (w : List ℕ) (r : Run) → length (r .carried) ≡ mostJobs → runWords ≤ length w → runOf (sets w 0 (runOut r)) ≡ r
-unfolding runOf runOut
-run-back w r e h =
-    rw (
-      sets-whole (r .clock .0 ∷ markOut (r .slow) ∷ markOut (r .below) ∷ r .carried) w (omega arith),
-      mark-back (r .slow),
-      mark-back (r .below),
-      take-at (r .carried) (drop (length (r .clock .0 ∷ markOut (r .slow) ∷ markOut (r .below) ∷ r .carried)) w) mostJobs e,
-    ) refl
-
--- The words of the run that words mean are those words, where both marks are 0 or 1.
-pub run-again : (w : List ℕ) → marksHold w ≡ true → runWords ≤ length w → sets w 0 (runOut (runOf w)) ≡ w
-unfolding runOf runOut
-run-again [] m h = absurd (omega arith)
-run-again (a ∷ []) m h = absurd (omega arith)
-run-again (a ∷ b ∷ []) m h = absurd (omega arith)
-run-again (a ∷ b ∷ c ∷ l) m h =
-    let so = both (leb b 1) (leb c 1) m in
-    let n : length (take mostJobs l) ≡ mostJobs = length-take-le mostJobs l (omega arith) in
-    rw (mark-again b (leb-true b 1 (so .0)), mark-again c (leb-true c 1 (so .1)), sets-whole (a ∷ b ∷ c ∷ take mostJobs l) (a ∷ b ∷ c ∷ l) (omega arith), n, take-append-drop mostJobs l) refl
-
--- A plan fits words where its numbers have the widths that the language gives them; every plan in hand does.
-pub record Fits (p : Plan) : Type 0 where
-  pub n : p .n .0 ≤ most16
-  pub d : p .d .0 ≤ most16
-  pub all : length (p .jobs) ≡ mostJobs
-  pub grade : (i : ℕ) → jobOf p i .grade ≤ most8
-  pub release : (i : ℕ) → jobOf p i .release .0 ≤ most32
-  pub deadline : (i : ℕ) → jobOf p i .deadline .0 ≤ most32
-
--- The words of the jobs, with those of the last by themselves.
-jobs-split : (p : Plan) (n : ℕ) (rest : List ℕ) → jobsOut p (suc n) ++ rest ≡ jobsOut p n ++ (jobOut (jobOf p n) ++ rest)
-unfolding jobsOut
-jobs-split p n rest = append-assoc (jobsOut p n) (jobOut (jobOf p n)) rest
-
--- What stands in the words of job i, one job further.
-word-next : (p : Plan) (n i k : ℕ) (rest : List ℕ)
-    → (i < n → getD (jobsOut p n ++ (jobOut (jobOf p n) ++ rest)) (jobWords * i + k) 0 ≡ getD (jobOut (jobOf p i)) k 0) → i < suc n → k < jobWords
-    → getD (jobsOut p (suc n) ++ rest) (jobWords * i + k) 0 ≡ getD (jobOut (jobOf p i)) k 0
-word-next p n i k rest before h f = go (ltb i n) refl
-  where
-    go : (t : Bool) → ltb i n ≡ t → getD (jobsOut p (suc n) ++ rest) (jobWords * i + k) 0 ≡ getD (jobOut (jobOf p i)) k 0
-    go true e = rw (jobs-split p n rest) (before (ltb-true i n e))
-    go false e =
-        let same : i ≡ n = omega (arith, ltb-false i n e) in
-        ap (λ j. getD (jobsOut p (suc n) ++ rest) (jobWords * j + k) 0) same ∙ ap (λ l. getD l (jobWords * n + k) 0) (jobs-split p n rest)
-        ∙ (rw (jobs-long p n) at (getD-append-add (jobsOut p n) (jobOut (jobOf p n) ++ rest) k 0))
-        ∙ List·getD-append (jobOut (jobOf p n)) rest 0 k f
-        ∙ ap (λ j. getD (jobOut (jobOf p j)) k 0) (sym same)
-
--- What stands in the words of job i.
-word-of : (p : Plan) (n i k : ℕ) (rest : List ℕ) → i < n → k < jobWords
-    → getD (jobsOut p n ++ rest) (jobWords * i + k) 0 ≡ getD (jobOut (jobOf p i)) k 0
-word-of p zero i k rest h f = absurd (omega arith)
-word-of p (suc n) i k rest h f = word-next p n i k rest (λ l. word-of p n i k (jobOut (jobOf p n) ++ rest) l f) h f
-
--- A word behind the head.
-behind-head : (a b c : ℕ) (l : List ℕ) (x k : ℕ) → getD (a ∷ b ∷ c ∷ l) (headWords + x + k) 0 ≡ getD l (x + k) 0
-behind-head a b c l x k =
-    let e : headWords + x + k ≡ suc (suc (suc (x + k))) = omega arith in
-    rw e refl
-
-module _ (p : Plan) (fit : Fits p) (a b c : ℕ) (rest : List ℕ) where
-  abbrev words : List ℕ
-  words = a ∷ b ∷ c ∷ (jobsOut p mostJobs ++ rest)
-
-  word-back : (i k : ℕ) → i < mostJobs → k < jobWords → getD words (jobPlace i + k) 0 ≡ getD (jobOut (jobOf p i)) k 0
-  word-back i k h f = behind-head a b c (jobsOut p mostJobs ++ rest) (jobWords * i) k ∙ word-of p mostJobs i k rest h f
-
-  job-back : (i : ℕ) → i < mostJobs → jobAt words (jobPlace i) ≡ jobOf p i
-  job-back i h =
-      let e₀ : getD words (jobPlace i) 0 ≡ jobOf p i .name .0 = ap (λ at. getD words at 0) (sym (add-zero (jobPlace i))) ∙ word-back i 0 h (omega arith) in
-      let m₁ : min (jobOf p i .grade) most8 ≡ jobOf p i .grade = omega (arith, fit .grade i) in
-      let m₂ : min (jobOf p i .release .0) most32 ≡ jobOf p i .release .0 = omega (arith, fit .release i) in
-      let m₄ : min (jobOf p i .deadline .0) most32 ≡ jobOf p i .deadline .0 = omega (arith, fit .deadline i) in
-      let e₁ = ap (λ x. min x most8) (word-back i 1 h (omega arith)) ∙ m₁ in
-      let e₂ = ap (λ x. min x most32) (word-back i 2 h (omega arith)) ∙ m₂ in
-      let e₃ = word-back i 3 h (omega arith) in
-      let e₄ = ap (λ x. min x most32) (word-back i 4 h (omega arith)) ∙ m₄ in
-      λ t. record { name = record { 0 = e₀ t }; grade = e₁ t; release = record { 0 = e₂ t }; size = record { 0 = e₃ t }; deadline = record { 0 = e₄ t } }
-
-  jobs-back : (n : ℕ) → n ≤ mostJobs → jobsTo words n ≡ take n (p .jobs)
-  unfolding jobsTo
-  jobs-back zero h = refl
-  jobs-back (suc n) h =
-      rw (jobs-back n (omega arith), job-back n h, take-suc (p .jobs) n noJob (omega (arith, fit .all))) refl
-
--- The plan that a plan's words mean is that plan.
-pub plan-back : (w : List ℕ) (p : Plan) → Fits p → planWords ≤ length w → planOf (sets w 0 (planOut p)) ≡ p
-unfolding planOf planOut
-plan-back w p fit h =
-    let n : min (p .n .0) most16 ≡ p .n .0 = omega (arith, fit .n) in
-    let d : min (p .d .0) most16 ≡ p .d .0 = omega (arith, fit .d) in
-    let out = p .n .0 ∷ p .d .0 ∷ p .count ∷ jobsOut p mostJobs in
-    let rest = drop (length out) w in
-    let jobs = jobs-back p fit (p .n .0) (p .d .0) (p .count) rest mostJobs (omega arith) ∙ take-all mostJobs (p .jobs) (omega (arith, fit .all)) in
-    rw (sets-whole out w (omega (arith, jobs-long p mostJobs)), n, d, jobs) refl
+use Rattle.hostwords.specs.Memory.{shortPlan, shortRun, planOf, marksHold, runOf, runPut}
+use Rattle.hostwords.proofs.Back.{run-again}
+use Rattle.gateway.specs.Calls.{Stepped, numberOf, slotWords, stepCall}
 
 -- A step's call after its two tests.
 abbrev stepBy : Bool → Bool → Slot → List ℕ → List ℕ → Stepped
@@ -142,13 +20,13 @@ stepBy short bad slot run grants =
 
 -- A step's call that is refused leaves run and grants, by its tests in turn.
 refused-by : (short bad : Bool) (slot : Slot) (run grants : List ℕ)
-    → (short ≡ false → bad ≡ false → (n : ℕ) (rest : Report) → slot .answer ≡ n ∷ rest → (sets run 0 (runOut (slot .run)) ≡ run) × (slot .grants ≡ grants))
+    → (short ≡ false → bad ≡ false → (n : ℕ) (rest : Report) → slot .answer ≡ n ∷ rest → (runPut run (slot .run) ≡ run) × (slot .grants ≡ grants))
     → (stepBy short bad slot run grants .number ≡ 0 → ⊥) → (stepBy short bad slot run grants .run ≡ run) × (stepBy short bad slot run grants .grants ≡ grants)
 refused-by true bad slot run grants kept busy = (refl, refl)
 refused-by false true slot run grants kept busy = (refl, refl)
 refused-by false false slot run grants kept busy = by-answer (slot .answer) refl
   where
-    by-answer : (a : Report) → slot .answer ≡ a → (sets run 0 (runOut (slot .run)) ≡ run) × (slot .grants ≡ grants)
+    by-answer : (a : Report) → slot .answer ≡ a → (runPut run (slot .run) ≡ run) × (slot .grants ≡ grants)
     by-answer [] e = absurd (busy (ap numberOf e))
     by-answer (n ∷ rest) e = kept refl refl n rest e
 
@@ -160,4 +38,4 @@ refused-step-stays plan table run v grants =
     refused-by (shortPlan plan || shortRun run) (not (marksHold run)) (stepped (planOf plan) table (runOf run) v grants) run grants
     (λ long marks n rest e.
     let so = refused-changes-nothing (planOf plan) table (runOf run) v grants n rest e in
-    (ap (λ r. sets run 0 (runOut r)) (so .0) ∙ run-again run (not-false (marksHold run) marks) (both-long plan run planWords runWords long .1), so .1))
+    (ap (runPut run) (so .0) ∙ run-again run (not-false (marksHold run) marks), so .1))

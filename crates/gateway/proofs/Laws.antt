@@ -1,28 +1,20 @@
--- The laws that the calls lean on: runs of stores, and what is known past a test of two lengths.
+-- The laws that the calls lean on: what is known past a test of two lengths, what a start leaves, and which names are shown.
 use mathlib.Core.Path.{_≡_, refl, sym, ap}
 use mathlib.Core.Bool.{Bool, true, false, true≢false, _||_}
-use mathlib.Core.List.{List, [], _∷_, _++_}
-use Prim.Native.Nat.{ℕ, zero, suc, _+_, _*_, _≤_, _<_}
-use native.Mathlib.Omega.{arith}
+use mathlib.Core.List.{List, [], _∷_}
+use Prim.Native.Nat.{ℕ, _≤_, _<_}
 use borrow.Author.Tests.{ltb-true, ltb-false}
 use lib.Dec.{ltb}
-use lib.ListN.{length, set, length-append}
-use lib.Seq.{sets}
-use Rattle.plan.specs.Rules.{jobOf}
+use lib.ListN.{length}
 use Rattle.plan.specs.declared.kinds.Plan.{Plan}
 use Rattle.judge.specs.Verdict.{Report, isNone}
 use Rattle.planfile.specs.Reading.{readFile, nameShown}
 use Rattle.planfile.specs.Answers.{countOf}
 use Rattle.planfile.proofs.Whole.{shown-none}
-use Rattle.planwriter.proofs.Sets.{sets-append}
 use Rattle.dispatch.specs.Step.{started}
 use Rattle.dispatch.proofs.Line.{neither}
-use Rattle.gateway.specs.Memory.{headWords, jobWords, jobPlace, jobOut, jobsOut, runOut}
+use Rattle.hostwords.specs.Memory.{runPut}
 use Rattle.gateway.specs.Calls.{startWords}
-
--- A store behind a run is one more of the run.
-pub sets-snoc : (a l : List ℕ) (i x : ℕ) → set (sets l i a) (i + length a) x ≡ sets l i (a ++ (x ∷ []))
-sets-snoc a l i x = sets-append a (x ∷ []) l i
 
 -- Neither of two buffers is too short.
 pub both-long : (a b : List ℕ) (m n : ℕ) → (ltb (length a) m || ltb (length b) n) ≡ false → (m ≤ length a) × (n ≤ length b)
@@ -38,20 +30,8 @@ all-long a b c m n o e =
     let two = both-long a b m n (so .0) in
     (two .0, two .1, ltb-false (length c) o (so .1))
 
--- Each job has as many words as the next.
-pub jobs-long : (p : Plan) (n : ℕ) → length (jobsOut p n) ≡ jobWords * n
-unfolding jobsOut
-jobs-long p zero = refl
-jobs-long p (suc n) = rw (length-append (jobsOut p n) (jobOut (jobOf p n)), jobs-long p n) (omega arith)
-
--- The words of one more job stand behind those before.
-pub jobs-next : (p : Plan) (w : List ℕ) (n : ℕ)
-    → sets (sets w headWords (jobsOut p n)) (jobPlace n) (jobOut (jobOf p n)) ≡ sets w headWords (jobsOut p (suc n))
-unfolding jobsOut
-jobs-next p w n = rw (jobs-long p n) at (sets-append (jobsOut p n) (jobOut (jobOf p n)) w headWords)
-
 -- What a start leaves in the lent words, by whether something is refused.
-pub starts : (r : Report) (p : Plan) (run : List ℕ) → isNone r ≡ true → startWords r p run ≡ sets run 0 (runOut (started p))
+pub starts : (r : Report) (p : Plan) (run : List ℕ) → isNone r ≡ true → startWords r p run ≡ runPut run (started p)
 starts [] p run e = refl
 starts (number ∷ places) p run e = absurd (true≢false (sym e))
 

@@ -5,7 +5,6 @@ use Prim.Native.Nat.{ℕ}
 use lib.Dec.{ltb, eqb}
 use lib.IntN.{ℤ, pos}
 use lib.ListN.{length, set}
-use lib.Seq.{sets}
 use Rattle.plan.specs.Refusal.{unsound, bufferTooShort}
 use Rattle.plan.specs.declared.kinds.Plan.{Plan}
 use Rattle.judge.specs.Verdict.{Report, judged}
@@ -13,7 +12,7 @@ use Rattle.judge.specs.Slack as slack
 use Rattle.planfile.specs.Reading.{Left, reader, nameAt, nameShown}
 use Rattle.planwriter.specs.Writing as writing
 use Rattle.dispatch.specs.Step.{Slot, Ending, met, discarded, missed, stillOpen, refused, started, stepped, outcome}
-use Rattle.gateway.specs.Memory.{planWords, runWords, placeWords, planOf, planOut, marksHold, runOf, runOut}
+use Rattle.hostwords.specs.Memory.{placeWords, shortPlan, shortRun, planOf, planPut, marksHold, runOf, runPut}
 
 -- Nothing is refused: no refusal has this number.
 abbrev pub doneNumber : ℕ
@@ -61,14 +60,6 @@ secondOf (number ∷ a ∷ b ∷ rest) = b
 abbrev pub placed : Report → List ℕ → List ℕ
 placed report place = set (set place 0 (firstOf report)) 1 (secondOf report)
 
--- A plan's words are too few.
-abbrev pub shortPlan : List ℕ → Bool
-shortPlan plan = ltb (length plan) planWords
-
--- A run's words are too few.
-abbrev pub shortRun : List ℕ → Bool
-shortRun run = ltb (length run) runWords
-
 -- A place's words are too few.
 abbrev pub shortPlace : List ℕ → Bool
 shortPlace place = ltb (length place) placeWords
@@ -92,7 +83,7 @@ pub record Started : Type 0 where
 
 -- A lent run after a start's report: the new run where nothing is refused, and else what was there.
 abbrev pub startWords : Report → Plan → List ℕ → List ℕ
-startWords [] p run = sets run 0 (runOut (started p))
+startWords [] p run = runPut run (started p)
 startWords (number ∷ places) p run = run
 
 -- The start's call: 22 for plan, run or place, and then nothing is touched; else the verdict, and the run that it allows.
@@ -113,7 +104,7 @@ pub record Stepped : Type 0 where
 
 -- A slot's call over a lent run.
 abbrev pub slotWords : Slot → List ℕ → Stepped
-slotWords slot run = record { number = numberOf (slot .answer); run = sets run 0 (runOut (slot .run)); grants = slot .grants }
+slotWords slot run = record { number = numberOf (slot .answer); run = runPut run (slot .run); grants = slot .grants }
 
 -- The step's call: 22 for plan or run, 21 for a mark that is neither 0 nor 1, and then nothing is touched; else the slot's call.
 unfoldable pub stepCall : List ℕ → List ℕ → List ℕ → ℕ → List ℕ → Stepped
@@ -190,7 +181,7 @@ pub record Read : Type 0 where
 
 -- What the reader leaves, over a lent plan.
 abbrev pub readWords : Left → List ℕ → Read
-readWords left plan = record { number = numberOf (left .answer); plan = sets plan 0 (planOut (left .plan)); table = left .table }
+readWords left plan = record { number = numberOf (left .answer); plan = planPut plan (left .plan); table = left .table }
 
 -- The read's call: 22 for the plan, and then nothing is touched; else what the reader leaves, a plan of zeros with every refusal.
 unfoldable pub readCall : List ℕ → List ℕ → List ℕ → Read

@@ -2,9 +2,9 @@
 use crate::answers::read_number;
 use crate::answers::written_length;
 use crate::answers::written_number;
-use crate::plans::plan_of;
-use crate::plans::put_plan;
-use crate::sizes::Sizes;
+use hostwords::plans::plan_of;
+use hostwords::plans::put_plan;
+use hostwords::sizes::Sizes;
 use plan::edition::Edition;
 use plan::refusal::BUFFER_TOO_SHORT;
 use planfile::lookup::name_of;

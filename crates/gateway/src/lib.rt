@@ -2,7 +2,4 @@
 mod answers;
 mod files;
 mod judging;
-mod plans;
-mod runs;
-mod sizes;
 mod slots;

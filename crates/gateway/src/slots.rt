@@ -4,31 +4,27 @@ use crate::answers::first_of;
 use crate::answers::number_of;
 use crate::answers::outcome_number;
 use crate::answers::second_of;
-use crate::plans::plan_of;
-use crate::runs::marks_hold;
-use crate::runs::put_run;
-use crate::runs::run_of;
-use crate::sizes::Sizes;
 use dispatch::outcome::outcome;
 use dispatch::start::start;
 use dispatch::step::step;
+use hostwords::plans::plan_of;
+use hostwords::runs::marks_hold;
+use hostwords::runs::put_run;
+use hostwords::runs::run_of;
+use hostwords::sizes::Sizes;
 use judge::answers::Verdict;
 use judge::answers::is_accepted;
 use plan::kinds::Plan;
 use plan::refusal::BUFFER_TOO_SHORT;
 use plan::refusal::UNSOUND;
 ghost use mathlib.Core.Path.{_≡_};
-ghost use Prim.Native.Nat.{_≤_};
-ghost use lib.ListN.{length};
 ghost use Rattle.judge.specs.Verdict.{judged};
 ghost use Rattle.judge.specs.Answers.{report};
-ghost use Rattle.gateway.specs.Memory.{runWords};
 ghost use Rattle.gateway.specs.Calls.{startWords};
 ghost use Rattle.gateway.specs.Answers.{HostStarts, HostSteps, HostEnds};
 
 // Judges a plan, and puts its run into the lent words if it is accepted.
 fn start_in(run: &mut [u32], p: Plan, table: &[u32]) -> Verdict
-    requires { ⌜ runWords ≤ length (now run) ⌝ }
     ensures { λ r. ⌜ (report r ≡ judged p (now (table .entry))) × (now (run .exit) ≡ startWords (judged p (now (table .entry))) p (now (run .entry))) ⌝ }
 {
     let s = start(p, table);

@@ -3,7 +3,7 @@ use mathlib.Core.Path.{_≡_, refl, sym, _∙_, ap}
 use native.Mathlib.Omega.{arith}
 use Prim.Native.Nat.{_≤_}
 use lib.ListN.{length, length-set}
-use Rattle.gateway.specs.Memory.{planWords, placeWords}
+use Rattle.hostwords.specs.Memory.{planWords, placeWords}
 use Rattle.gateway.specs.Calls.{judgeCall}
 use Rattle.gateway.proofs.Laws.{both-long}
 use borrow.Author.Needs.{needs}
@@ -22,7 +22,7 @@ unfolding judgeCall
 returns c = rw (c .if1 .taken) refl
 
 plan-of-requires : tie.Need-plan-of-requires
-plan-of-requires c κs = long c .0
+plan-of-requires c κs = search needs
 
 judge-requires : tie.Need-judge-requires
 judge-requires c κs = search needs

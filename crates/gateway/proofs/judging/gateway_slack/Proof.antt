@@ -5,7 +5,7 @@ use native.Mathlib.Omega.{arith}
 use lib.ListN.{length, length-set}
 use mir.Syntax.{w64}
 use mir.Facts.{toZ-ofZ}
-use Rattle.gateway.specs.Memory.{planWords, placeWords}
+use Rattle.hostwords.specs.Memory.{planWords, placeWords}
 use Rattle.gateway.specs.Calls.{slackCall}
 use Rattle.gateway.proofs.Laws.{both-long}
 use borrow.Author.Needs.{needs, sfits-of}
@@ -24,7 +24,7 @@ unfolding slackCall
 returns c = rw (c .if1 .taken) refl
 
 plan-of-requires : tie.Need-plan-of-requires
-plan-of-requires c κs = long c .0
+plan-of-requires c κs = search needs
 
 slack-requires : tie.Need-slack-requires
 slack-requires c κs = search needs

@@ -1,18 +1,10 @@
 -- `gateway::slots::gateway_outcome` meets its contract: 22 and 21 in turn, and else the outcome.
 use mathlib.Core.Path.{_≡_, refl, sym, _∙_, ap}
 use borrow.Author.Tests.{not-true, not-false}
-use Prim.Native.Nat.{_≤_}
-use lib.ListN.{length}
-use Rattle.gateway.specs.Memory.{planWords, runWords}
 use Rattle.gateway.specs.Calls.{outcomeCall, endingNumber}
-use Rattle.gateway.proofs.Laws.{both-long}
 use borrow.Author.Needs.{needs}
 use Rattle.gateway.proofs.slots.gateway_outcome.Statement.{statement}
 use Rattle.gateway.proofs.slots.gateway_outcome.Tie as tie
-
--- Past the first test both buffers are long enough.
-long : (c : tie.Else1) → (planWords ≤ length (c .before .before .before .args .plan .now)) × (runWords ≤ length (c .before .before .before .args .run .now))
-long c = both-long (c .before .before .before .args .plan .now) (c .before .before .before .args .run .now) planWords runWords (c .if1 .left)
 
 cast-result : tie.Need-cast-result
 cast-result c = search needs
@@ -22,7 +14,7 @@ unfolding outcomeCall
 returns c = rw (c .if1 .taken) refl
 
 marks-hold-requires : tie.Need-marks-hold-requires
-marks-hold-requires c κs = long c .1
+marks-hold-requires c κs = search needs
 
 cast-result-2 : tie.Need-cast-result-2
 cast-result-2 c = search needs
@@ -33,10 +25,10 @@ returns-2 c =
     rw (c .before .before .if1 .left, sym (c .before .marks-hold .ensures) ∙ not-true _ (c .if2 .taken)) refl
 
 plan-of-requires : tie.Need-plan-of-requires
-plan-of-requires c κs = long (c .before .before) .0
+plan-of-requires c κs = search needs
 
 run-of-requires : tie.Need-run-of-requires
-run-of-requires c κs = long (c .before .before .before) .1
+run-of-requires c κs = search needs
 
 outcome-requires : tie.Need-outcome-requires
 outcome-requires c κs = search needs

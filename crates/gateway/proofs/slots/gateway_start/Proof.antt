@@ -3,7 +3,7 @@ use mathlib.Core.Path.{_≡_, refl, sym, _∙_, ap}
 use Prim.Native.Nat.{_≤_}
 use native.Mathlib.Omega.{arith}
 use lib.ListN.{length, length-set}
-use Rattle.gateway.specs.Memory.{planWords, runWords, placeWords}
+use Rattle.hostwords.specs.Memory.{planWords, runWords, placeWords}
 use Rattle.gateway.specs.Calls.{startCall}
 use Rattle.gateway.proofs.Laws.{all-long}
 use borrow.Author.Needs.{needs}
@@ -24,10 +24,10 @@ unfolding startCall
 returns c = rw (c .if1 .taken) refl
 
 plan-of-requires : tie.Need-plan-of-requires
-plan-of-requires c κs = long (c .before) .0
+plan-of-requires c κs = search needs
 
 start-in-requires : tie.Need-start-in-requires
-start-in-requires c κs = long (c .before .before) .1
+start-in-requires c κs = search needs
 
 first-of-requires : tie.Need-first-of-requires
 first-of-requires c κs = search needs

@@ -1,21 +1,11 @@
 -- `gateway::slots::gateway_step` meets its contract: 22 and 21 in turn, and else the slot's call.
 use mathlib.Core.Path.{_≡_, refl, sym, _∙_, ap}
-use Prim.Native.Nat.{_≤_}
 use borrow.Author.Tests.{not-true, not-false}
-use lib.ListN.{length}
 use Rattle.dispatch.specs.Step.{Slot}
-use Rattle.gateway.specs.Memory.{planWords, runWords}
 use Rattle.gateway.specs.Calls.{stepCall, slotWords}
-use Rattle.gateway.proofs.Laws.{both-long}
 use borrow.Author.Needs.{needs}
 use Rattle.gateway.proofs.slots.gateway_step.Statement.{statement}
 use Rattle.gateway.proofs.slots.gateway_step.Tie as tie
-
--- Past the first test both buffers are long enough.
-long : (c : tie.Else1)
-    → (planWords ≤ length (c .before .before .before .before .before .args .plan .now)) × (runWords ≤ length (c .before .before .before .before .before .args .run .now))
-long c =
-    both-long (c .before .before .before .before .before .args .plan .now) (c .before .before .before .before .before .args .run .now) planWords runWords (c .if1 .left)
 
 cast-result : tie.Need-cast-result
 cast-result c = search needs
@@ -25,7 +15,7 @@ unfolding stepCall
 returns c = rw (c .if1 .taken) refl
 
 marks-hold-requires : tie.Need-marks-hold-requires
-marks-hold-requires c κs = long (c .before) .1
+marks-hold-requires c κs = search needs
 
 cast-result-2 : tie.Need-cast-result-2
 cast-result-2 c = search needs
@@ -39,16 +29,16 @@ returns-2 c =
     rw (c .before .before .before .if1 .left, sym (c .before .marks-hold .ensures) ∙ not-true _ (c .if2 .taken)) refl
 
 plan-of-requires : tie.Need-plan-of-requires
-plan-of-requires c κs = long (c .before .before .before) .0
+plan-of-requires c κs = search needs
 
 run-of-requires : tie.Need-run-of-requires
-run-of-requires c κs = long (c .before .before .before .before .before) .1
+run-of-requires c κs = search needs
 
 step-requires : tie.Need-step-requires
 step-requires c κs = search needs
 
 put-run-requires : tie.Need-put-run-requires
-put-run-requires c κs = long (c .before .before .before .before .before .before .before .before .before .before .before .before) .1
+put-run-requires c κs = search needs
 
 answer-number-requires : tie.Need-answer-number-requires
 answer-number-requires c κs = search needs

@@ -1,10 +1,9 @@
 -- `gateway::slots::start_in` meets its contract: the verdict tells whether the run is put into the words.
 use mathlib.Core.Path.{sym, _∙_, ap}
-use lib.Seq.{sets}
 use Rattle.judge.specs.Verdict.{isNone, judged}
 use Rattle.dispatch.specs.Step.{started, noRun}
 use Rattle.dispatch.proofs.Fresh as fresh
-use Rattle.gateway.specs.Memory.{runOut}
+use Rattle.hostwords.specs.Memory.{runPut}
 use Rattle.gateway.proofs.Laws.{starts, stays}
 use borrow.Author.Needs.{needs}
 use Rattle.gateway.proofs.slots.start_in.Statement.{statement}
@@ -29,7 +28,7 @@ returns c =
     let none = ap isNone (sym (told .0)) ∙ sym (c .before .before .before .before .before .is-accepted .ensures) ∙ c .before .before .before .before .if1 .taken in
     let verdict = judged (a .p) (a .table .now) in (
       told .0,
-      c .before .before .put-run .ensures ∙ ap (λ r. sets (a .run .now) 0 (runOut r)) (told .1 ∙ fresh.starts verdict (started (a .p)) noRun none)
+      c .before .before .put-run .ensures ∙ ap (runPut (a .run .now)) (told .1 ∙ fresh.starts verdict (started (a .p)) noRun none)
           ∙ sym (starts verdict (a .p) (a .run .now) none),
     )
 
