@@ -1,24 +1,22 @@
 -- Words and what they mean: a run and a plan come back from their words, and the words of a run that is sound come back from the run.
 use mathlib.Core.Path.{_≡_, refl, sym, _∙_, ap}
-use mathlib.Core.Bool.{Bool, true, false, cond, _&&_}
+use mathlib.Core.Bool.{Bool, true, false, cond}
 use mathlib.Core.List.{List, [], _∷_, _++_, append-assoc}
 use Prim.Native.Nat.{ℕ, zero, suc, _+_, _*_, _≤_, _<_, min}
 use native.Mathlib.Nat.{add-zero}
-use native.Mathlib.Numerals.{add-one}
 use native.Mathlib.Omega.{arith}
 use borrow.Author.Tests.{leb-true, ltb-true, ltb-false, le-ltb}
 use lib.Dec.{leb, ltb, eqb}
-use lib.ListN.{length, getD, take, drop, length-append, take-append-drop, List·getD-append}
+use lib.ListN.{length, getD, take, drop, take-append-drop, List·getD-append}
 use lib.Seq.{sets, length-sets, take-at, take-suc, take-all, length-take-le, getD-append-add}
 use Rattle.plan.specs.Edition.{mostJobs}
 use Rattle.plan.specs.Rules.{jobOf, noJob}
-use Rattle.plan.specs.declared.kinds.Job.{Job}
 use Rattle.plan.specs.declared.kinds.Plan.{Plan}
 use Rattle.plan.proofs.Below.{both}
 use Rattle.planwriter.proofs.Sets.{sets-whole}
 use Rattle.dispatch.specs.declared.Run.{Run}
 use Rattle.dispatch.specs.Step.{noRun}
-use Rattle.hostwords.specs.Memory.{headWords, jobWords, planWords, runWords, markWords, most8, most16, most32, jobPlace, jobAt, jobsTo, shortPlan, shortRun, planIn, planOf, jobOut, jobsOut, planOut, planPut, marksIn, marksHold, runIn, runOf, markOut, runOut, runPut}
+use Rattle.hostwords.specs.Memory.{headWords, jobWords, planWords, runWords, most8, most16, most32, jobPlace, jobAt, jobsTo, shortRun, planIn, planOf, jobOut, jobsOut, planOut, planPut, marksIn, marksHold, runIn, runOf, markOut, runOut, runPut}
 use Rattle.hostwords.proofs.Laws.{jobs-long}
 
 -- A mark comes back from its word, and a word that is 0 or 1 from its mark.

@@ -5,7 +5,7 @@ use plan::edition::Edition;
 use plan::kinds::Slots;
 ghost use mathlib.Core.Path.{_≡_};
 ghost use Prim.Native.Nat.{_≤_};
-ghost use lib.ListN.{length, take};
+ghost use lib.ListN.{length};
 ghost use lib.Seq.{sets};
 ghost use Rattle.plan.specs.Edition.{mostJobs};
 ghost use Rattle.dispatch.specs.Step.{noRun};

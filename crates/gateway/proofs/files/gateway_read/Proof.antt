@@ -1,5 +1,5 @@
 -- `gateway::files::gateway_read` meets its contract: 22, and else what the reader leaves.
-use mathlib.Core.Path.{_≡_, refl, sym, _∙_, ap}
+use mathlib.Core.Path.{refl}
 use borrow.Author.Tests.{lt-ltb, le-ltb}
 use borrow.Author.Needs.{needs}
 use Rattle.gateway.specs.Calls.{readCall}

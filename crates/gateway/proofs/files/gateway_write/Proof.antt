@@ -1,5 +1,5 @@
 -- `gateway::files::gateway_write` meets its contract: 22, and else what the writer leaves.
-use mathlib.Core.Path.{_≡_, refl, sym, _∙_, ap}
+use mathlib.Core.Path.{refl}
 use borrow.Author.Tests.{lt-ltb, le-ltb}
 use Rattle.gateway.specs.Calls.{writeCall}
 use borrow.Author.Needs.{needs}

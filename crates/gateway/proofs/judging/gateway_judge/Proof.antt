@@ -1,5 +1,5 @@
 -- `gateway::judging::gateway_judge` meets its contract: 22, and else the verdict with its place.
-use mathlib.Core.Path.{_≡_, refl, sym, _∙_, ap}
+use mathlib.Core.Path.{refl}
 use native.Mathlib.Omega.{arith}
 use Prim.Native.Nat.{_≤_}
 use lib.ListN.{length, length-set}

@@ -1,5 +1,5 @@
 -- `gateway::judging::gateway_slack` meets its contract: 22, and else the figure with its place.
-use mathlib.Core.Path.{_≡_, refl, sym, _∙_, ap}
+use mathlib.Core.Path.{refl}
 use Prim.Native.Nat.{_≤_}
 use native.Mathlib.Omega.{arith}
 use lib.ListN.{length, length-set}

@@ -1,7 +1,7 @@
 -- `gateway::slots::gateway_outcome` meets its contract: 22 and 21 in turn, and else the outcome.
-use mathlib.Core.Path.{_≡_, refl, sym, _∙_, ap}
+use mathlib.Core.Path.{refl, sym, _∙_}
 use borrow.Author.Tests.{not-true, not-false}
-use Rattle.gateway.specs.Calls.{outcomeCall, endingNumber}
+use Rattle.gateway.specs.Calls.{outcomeCall}
 use borrow.Author.Needs.{needs}
 use Rattle.gateway.proofs.slots.gateway_outcome.Statement.{statement}
 use Rattle.gateway.proofs.slots.gateway_outcome.Tie as tie

@@ -1,5 +1,5 @@
 -- `gateway::slots::gateway_start` meets its contract: 22, and else the verdict with its place and the run that it allows.
-use mathlib.Core.Path.{_≡_, refl, sym, _∙_, ap}
+use mathlib.Core.Path.{refl}
 use Prim.Native.Nat.{_≤_}
 use native.Mathlib.Omega.{arith}
 use lib.ListN.{length, length-set}

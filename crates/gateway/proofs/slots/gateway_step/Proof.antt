@@ -1,8 +1,7 @@
 -- `gateway::slots::gateway_step` meets its contract: 22 and 21 in turn, and else the slot's call.
-use mathlib.Core.Path.{_≡_, refl, sym, _∙_, ap}
+use mathlib.Core.Path.{refl, sym, _∙_}
 use borrow.Author.Tests.{not-true, not-false}
-use Rattle.dispatch.specs.Step.{Slot}
-use Rattle.gateway.specs.Calls.{stepCall, slotWords}
+use Rattle.gateway.specs.Calls.{stepCall}
 use borrow.Author.Needs.{needs}
 use Rattle.gateway.proofs.slots.gateway_step.Statement.{statement}
 use Rattle.gateway.proofs.slots.gateway_step.Tie as tie

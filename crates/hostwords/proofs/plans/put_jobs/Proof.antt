@@ -1,5 +1,5 @@
 -- `hostwords::plans::put_jobs` meets its contract: after i jobs, their words stand one behind the other.
-use mathlib.Core.Path.{_≡_, refl, sym, _∙_, ap}
+use mathlib.Core.Path.{_≡_, refl, _∙_, ap}
 use Prim.Native.Nat.{_-_, _≤_}
 use native.Mathlib.Numerals.{add-one}
 use native.Mathlib.Omega.{arith}
@@ -7,7 +7,7 @@ use lib.ListN.{length}
 use lib.Seq.{sets, length-sets}
 use borrow.Author.Needs.{needs}
 use Rattle.plan.specs.Edition.{mostJobs}
-use Rattle.hostwords.specs.Memory.{headWords, jobPlace, jobOut, jobsOut}
+use Rattle.hostwords.specs.Memory.{headWords, jobsOut}
 use Rattle.hostwords.proofs.Laws.{jobs-next}
 use Rattle.hostwords.proofs.plans.put_jobs.Statement.{statement}
 use Rattle.hostwords.proofs.plans.put_jobs.Tie as tie

@@ -1,5 +1,5 @@
 -- `hostwords::plans::put_whole_plan` meets its contract: the head, and the jobs behind it.
-use mathlib.Core.Path.{_≡_, refl, _∙_, ap}
+use mathlib.Core.Path.{_∙_, ap}
 use native.Mathlib.Omega.{arith}
 use lib.ListN.{length, length-set}
 use lib.Seq.{length-sets}

@@ -1,9 +1,9 @@
 -- `hostwords::runs::put_carried` meets its contract: after i words, the first i stand behind the marks.
-use mathlib.Core.Path.{_≡_, refl, sym, _∙_, ap}
-use Prim.Native.Nat.{_+_, _-_, _≤_}
+use mathlib.Core.Path.{_≡_, refl, _∙_, ap}
+use Prim.Native.Nat.{_-_, _≤_}
 use native.Mathlib.Numerals.{add-one}
 use native.Mathlib.Omega.{arith}
-use lib.ListN.{length, take, getD, set}
+use lib.ListN.{length, take, getD}
 use lib.Seq.{sets, length-sets, length-take-le, take-suc, take-all}
 use borrow.Author.Needs.{needs}
 use Rattle.plan.specs.Edition.{mostJobs}

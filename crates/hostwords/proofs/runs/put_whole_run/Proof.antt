@@ -1,5 +1,5 @@
 -- `hostwords::runs::put_whole_run` meets its contract: the clock, the marks and the carried units, one behind the other.
-use mathlib.Core.Path.{_≡_, refl, _∙_, ap}
+use mathlib.Core.Path.{refl, _∙_, ap}
 use native.Mathlib.Omega.{arith}
 use lib.ListN.{length, length-set}
 use lib.Seq.{length-sets}
