@@ -1,26 +1,24 @@
 -- Demand 3: what is promised to depositors holds at every point of every night, whatever its speeds from floor to normal and its refused calls.
-use mathlib.Core.Path.{_≡_, refl, sym, _∙_, ap, ap₂}
-use mathlib.Core.Logic.{_⊎_, inl, inr, ⊎-elim}
-use mathlib.Core.Bool.{Bool, true, false, true≢false, not, _&&_, _||_, or-false, and-false}
+use mathlib.Core.Path.{_≡_, refl, sym, _∙_, ap}
+use mathlib.Core.Logic.{⊎-elim}
+use mathlib.Core.Bool.{true, false, true≢false, _&&_, _||_, or-false, and-false}
 use mathlib.Core.List.{List, [], _∷_}
-use Prim.Native.Nat.{ℕ, zero, suc, _+_, _-_, _≤_, _<_}
-use native.Mathlib.Nat.{add-zero}
+use Prim.Native.Nat.{ℕ, _+_, _≤_, _<_}
 use native.Mathlib.Omega.{arith}
-use borrow.Author.Tests.{ltb-false, le-ltb}
-use lib.Dec.{leb, ltb}
+use borrow.Author.Tests.{ltb-false}
+use lib.Dec.{ltb}
 use lib.ListN.{length, getD, length-replicate, getD-replicate}
-use Rattle.sums.specs.Sum.{sum, on}
+use Rattle.sums.specs.Sum.{on}
 use Rattle.sums.proofs.Laws.{sum-ext, sum-none}
 use Rattle.plan.specs.Edition.{mostJobs}
 use Rattle.plan.specs.Rules.{counted, size, deadline, isHi}
 use Rattle.plan.specs.Boundaries.{intervals, present}
-use Rattle.plan.specs.Same.{Same}
 use Rattle.plan.specs.declared.kinds.Plan.{Plan}
 use Rattle.plan.proofs.Timeline.{first-boundary, an-interval}
 use Rattle.judge.specs.Constraints.{Accepted}
 use Rattle.judge.specs.Verdict.{Report}
 use Rattle.dispatch.specs.declared.Run.{Run}
-use Rattle.dispatch.specs.Dues.{carriedOf, live, slowAfter}
+use Rattle.dispatch.specs.Dues.{carriedOf, live}
 use Rattle.dispatch.specs.Step.{Slot, started, slotFault, granted, advanced, slotBy, stepped}
 use Rattle.dispatch.proofs.Line.{if-true, neither}
 use Rattle.dispatch.proofs.Shares.{on-nothing}
@@ -29,7 +27,7 @@ use Rattle.promises.proofs.Tail.{Good}
 use Rattle.promises.proofs.Keep
 use Rattle.promises.proofs.Keep.{NoMore, FloorHolds, OnPace, keeps-no-more, keeps-floor, keeps-pace, on-pace-here, on-pace-ended, floor-ended, begins-with-floor, begins-on-pace}
 use Rattle.promises.proofs.Sound.{Ruled}
-use Rattle.promises.proofs.Same.{Done, done, same-slot}
+use Rattle.promises.proofs.Same.{done, same-slot}
 use Rattle.promises.proofs.Slots.{factsOf, stateOf, good-plan, added-length, slot-of}
 
 module _ (p : Plan) (table : List ℕ) (rules : Ruled p) (accepted : Accepted p table) where

@@ -1,15 +1,15 @@
 -- What every slot keeps, over a plan told by functions: nothing over size; the floor's promise; the plan's pace while no slot was slow.
-use mathlib.Core.Path.{_≡_, refl, sym, _∙_, ap, ap₂}
+use mathlib.Core.Path.{_≡_, refl, sym, _∙_, ap}
 use mathlib.Core.Bool.{Bool, true, false, not, _&&_, _||_, or-true}
-use Prim.Native.Nat.{ℕ, zero, suc, _+_, _*_, _-_, _≤_, _<_, min}
+use Prim.Native.Nat.{ℕ, suc, _+_, _*_, _-_, _≤_, _<_, min}
 use native.Mathlib.Nat.{mul-zero, mul-le-mul-left, le-trans}
 use native.Mathlib.Omega.{arith}
-use borrow.Author.Tests.{lt-ltb, le-ltb, le-leb, lt-leb, leb-true, ltb-false}
+use borrow.Author.Tests.{lt-ltb, le-ltb, le-leb, lt-leb, ltb-false}
 use lib.Dec.{leb, ltb}
 use Rattle.sums.specs.Sum.{sum, on}
 use Rattle.sums.proofs.Laws.{sum-ext, sum-mono, sum-none, sum-add, term-le}
 use Rattle.dispatch.proofs.Line.{if-less, neither}
-use Rattle.promises.proofs.Tail.{Facts, Good, class, before, tail, both, on-ext, on-none, rises, rises-strictly, before-le, tail-ended, in-class, floor-tail}
+use Rattle.promises.proofs.Tail.{Facts, Good, class, before, tail, both, rises, rises-strictly, before-le, tail-ended, floor-tail}
 
 -- The state of a run: the clock, the slow mark, and what is carried for each job.
 pub record State : Type 0 where

@@ -9,6 +9,7 @@ pub mod Slots
 pub mod Demand3
 pub mod Strategy
 pub mod Numbers
+pub mod Hosts
 pub mod Demand2
 pub mod Refused
 pub mod Unique

@@ -35,13 +35,13 @@ use Rattle.promises.proofs.Numbers.{Only, fileNumbers, file-only, isOne
 use Rattle.promises.proofs.Demand2.{read-E}
 
 -- Reader: 22 leaves the table untouched, and a plan of zeros.
-pub reader-22-leaves : (file table : List ℕ) → reader file table .answer ≡ bufferTooShort ∷ []
+pub reader-22-leaves : (file table rest : List ℕ) → reader file table .answer ≡ bufferTooShort ∷ rest
     → (reader file table .table ≡ table) × (reader file table .plan ≡ noPlan)
 unfolding reader
-reader-22-leaves file table e = by (ltb (length table) places) (readFile file) (file-only file) e
+reader-22-leaves file table rest e = by (ltb (length table) places) (readFile file) (file-only file) e
   where
     by : (b : Bool) (s : Step Held) → Only fileNumbers s
-        → cond b (record { answer = bufferTooShort ∷ []; plan = noPlan; table = table }) (leaves s table) .answer ≡ bufferTooShort ∷ []
+        → cond b (record { answer = bufferTooShort ∷ []; plan = noPlan; table = table }) (leaves s table) .answer ≡ bufferTooShort ∷ rest
         → (cond b (record { answer = bufferTooShort ∷ []; plan = noPlan; table = table }) (leaves s table) .table ≡ table)
         × (cond b (record { answer = bufferTooShort ∷ []; plan = noPlan; table = table }) (leaves s table) .plan ≡ noPlan)
     by true s h e = (refl, refl)
@@ -133,7 +133,7 @@ outcome-line-refused-leaves name (step.refused k) carried out number e = refl
 -- For each theorem above, a case that meets its premises. A table that is too short stays as it was.
 short-table-stays : (reader fileE (7 ∷ []) .table ≡ 7 ∷ []) × (reader fileE (7 ∷ []) .plan ≡ noPlan)
 unfolding reader
-short-table-stays = reader-22-leaves fileE (7 ∷ []) refl
+short-table-stays = reader-22-leaves fileE (7 ∷ []) [] refl
 
 -- An empty file leaves zeros in the table's own places, and the place behind them.
 empty-file-leaves : (reader [] (replicate places 7 ++ (9 ∷ [])) .table ≡ replicate places 0 ++ (9 ∷ []))

@@ -182,7 +182,7 @@ module _ (p : Plan) (table : List ℕ) (q : Plan) (other : List ℕ) (same : Sam
   same-slack = rw (long-same p table q other same, sound-same, outside-same, totals-same, capacity-same, least-same) refl
 
   -- A start begins the same run, by value and in a lent record.
-  started-same : started p ≡ started q
+  pub started-same : started p ≡ started q
   unfolding started
   started-same =
       let first = first-same p table q other same in

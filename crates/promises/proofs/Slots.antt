@@ -1,32 +1,31 @@
 -- A plan and a run as the laws of slots see them: the facts of an accepted plan, and a done call as a slot.
-use mathlib.Core.Path.{_≡_, refl, sym, _∙_, ap, ap₂}
-use mathlib.Core.Bool.{Bool, true, false, _&&_, _||_, and-false}
+use mathlib.Core.Path.{_≡_, refl, _∙_, ap}
+use mathlib.Core.Bool.{Bool, true, false, and-false}
 use mathlib.Core.List.{List, [], _∷_, _++_}
-use Prim.Native.Nat.{ℕ, zero, suc, _+_, _-_, _≤_, _<_, min}
+use Prim.Native.Nat.{ℕ, zero, suc, _+_, _-_, _<_, min}
 use native.Mathlib.Numerals.{add-one}
 use native.Mathlib.Omega.{arith}
 use borrow.Author.Tests.{lt-leb}
 use lib.Dec.{leb}
 use lib.ListN.{length, getD, drop, replicate, length-append, length-replicate}
-use Rattle.sums.specs.Sum.{sum, on}
+use Rattle.sums.specs.Sum.{on}
 use Rattle.sums.proofs.Laws.{sum-ext}
 use Rattle.plan.specs.Edition.{mostJobs}
 use Rattle.plan.specs.Rules.{counted, release, deadline, size, isHi}
 use Rattle.plan.specs.Boundaries.{boundary, intervals, present}
 use Rattle.plan.specs.declared.kinds.Plan.{Plan}
 use Rattle.plan.proofs.Timeline.{boundary-rises, release-is-boundary, deadline-is-boundary, present-inside}
-use Rattle.judge.specs.Constraints.{units, inWindow, Accepted}
+use Rattle.judge.specs.Constraints.{units, Accepted}
 use Rattle.dispatch.specs.declared.Run.{Run}
 use Rattle.dispatch.specs.Dues
 use Rattle.dispatch.specs.Dues.{carriedOf, slowAfter}
 use Rattle.dispatch.specs.Shares
-use Rattle.dispatch.specs.Turns.{order, serve}
+use Rattle.dispatch.specs.Turns.{order}
 use Rattle.dispatch.specs.Step.{granted, added, advanced}
 use Rattle.dispatch.proofs.Line.{serve-length}
 use Rattle.dispatch.proofs.Shares.{within-claim, first-served, all-served}
 use Rattle.promises.proofs.Tail.{Facts, Good, class}
 use Rattle.promises.proofs.Keep.{State, Slot, claim, goal}
-use Rattle.promises.proofs.Sound.{Ruled, SlotSound}
 use Rattle.promises.proofs.Same.{Done}
 
 -- The facts of a plan and its table.

@@ -1,17 +1,16 @@
 -- Corollaries of demand 3: a correct scheduling strategy for every accepted plan; in a night at the floor every essential transfer is met.
-use mathlib.Core.Path.{_≡_, refl, sym, _∙_, ap}
-use mathlib.Core.Logic.{inl, inr}
-use mathlib.Core.Bool.{Bool, true, false, _&&_, _||_, and-false}
+use mathlib.Core.Path.{_≡_, refl}
+use mathlib.Core.Logic.{inr}
+use mathlib.Core.Bool.{false, and-false}
 use mathlib.Core.List.{List, [], _∷_}
-use Prim.Native.Nat.{ℕ, _≤_, _<_}
+use Prim.Native.Nat.{ℕ, _≤_}
 use native.Mathlib.Omega.{arith}
 use borrow.Author.Tests.{le-ltb}
-use lib.Dec.{ltb}
-use Rattle.plan.specs.Rules.{counted, size, deadline, isHi}
+use Rattle.plan.specs.Rules.{deadline}
 use Rattle.plan.specs.Same.{Same}
 use Rattle.plan.specs.declared.kinds.Plan.{Plan}
 use Rattle.judge.specs.Constraints.{Accepted}
-use Rattle.promises.specs.Night.{Call, runAfter, latest, isDone, had, slowedBefore, Allowed, Kept, nightAt, Between, CorrectStrategy}
+use Rattle.promises.specs.Night.{latest, isDone, slowedBefore, Allowed, nightAt, Between, CorrectStrategy}
 use Rattle.promises.proofs.Sound.{Ruled}
 use Rattle.promises.proofs.Demand3.{kept}
 

@@ -1,15 +1,15 @@
 -- The floor tail: what rule 18 says of every interval and every time, over a plan told by functions.
-use mathlib.Core.Path.{_≡_, refl, sym, _∙_, ap, ap₂}
+use mathlib.Core.Path.{_≡_, refl, sym, _∙_, ap}
 use mathlib.Core.Logic.{_≢_, _⊎_, inl, inr, ⊎-elim}
-use mathlib.Core.Bool.{Bool, true, false, true≢false, not, _&&_, and-false, and-true}
+use mathlib.Core.Bool.{Bool, true, false, true≢false, _&&_}
 use Prim.Native.Nat.{ℕ, zero, suc, _+_, _*_, _-_, _≤_, _<_}
 use native.Mathlib.Nat.{mul-le-mul-left, le-trans}
 use native.Mathlib.Omega.{arith}
-use borrow.Author.Tests.{lt-ltb, le-ltb, le-leb, lt-leb, leb-true, leb-false}
-use lib.Dec.{leb, ltb}
+use borrow.Author.Tests.{le-leb, lt-leb, leb-true}
+use lib.Dec.{leb}
 use Rattle.sums.specs.Sum.{sum, on}
-use Rattle.sums.proofs.Laws.{sum-ext, sum-mono, sum-none, sum-split, sum-add, below-or-last}
-use Rattle.dispatch.proofs.Line.{if-true, if-less, if-same}
+use Rattle.sums.proofs.Laws.{sum-ext, sum-none, sum-split, below-or-last}
+use Rattle.dispatch.proofs.Line.{if-less, if-same}
 
 -- A plan by its jobs' numbers below N, its boundaries up to K, its allotments and its rates.
 pub record Facts : Type 0 where

@@ -1,8 +1,8 @@
 -- Wrong variants: each shortcut as a definition, and what it loses or passes on one of the paper's plans.
 use mathlib.Core.Path.{_≡_, refl}
-use mathlib.Core.Bool.{Bool, true, false, not, cond, _&&_}
+use mathlib.Core.Bool.{Bool, not, cond, _&&_}
 use mathlib.Core.List.{List, [], _∷_, _++_}
-use Prim.Native.Nat.{ℕ, zero, suc, _+_, _*_, _-_, _/_, _%_, _<_}
+use Prim.Native.Nat.{ℕ, zero, suc, _+_, _*_, _/_, _%_, _<_}
 use lib.Dec.{leb, ltb, eqb, lit<}
 use lib.IntN.{pos, negsuc}
 use lib.ListN.{replicate}

@@ -1,0 +1,330 @@
+-- Demand 1 for the calls for hosts: they answer no numbers but those that the rules give them, a refusal leaves what it must, and words that
+-- mean the same plan get the same.
+use mathlib.Core.Path.{_≡_, refl, sym, _∙_, ap}
+use mathlib.Core.Bool.{Bool, true, false, not, cond, _||_}
+use mathlib.Core.List.{List, [], _∷_, _++_}
+use mathlib.Core.Logic.{_≢_}
+use Prim.Native.Nat.{ℕ, _≤_}
+use native.Mathlib.Omega.{arith}
+use borrow.Author.Tests.{le-ltb}
+use lib.Dec.{eqb, lit≤}
+use lib.IntN.{ℤ}
+use lib.ListN.{length, drop, replicate}
+use Rattle.plan.specs.Edition.{places}
+use Rattle.plan.specs.Below
+use Rattle.plan.specs.Rules.{gradesHold, boundsHold}
+use Rattle.plan.specs.Refusal.{wrongVersion, wrongExtent, wrongRecordLength, wrongRates, wrongJobCount, wrongNameByte, nameTaken, wrongGrade, wrongJobBounds, tooManyRows, rowWithoutJob, rowWithoutInterval, rowWithoutUnits, rowOutOfOrder, outsideWindow, wrongTotal, overCapacity, belowFloorRule, clockAtEnd, speedAboveNormal, unsound, bufferTooShort}
+use Rattle.plan.specs.Same.{Same}
+use Rattle.planfields.specs.Fields.{version, opening, head}
+use Rattle.planfile.specs.Reading.{front, planFile, noPlan, reader}
+use Rattle.planwriter.specs.Writing as writing
+use Rattle.planwriter.specs.Writing.{writer}
+use Rattle.judge.specs.Verdict.{Report, judged}
+use Rattle.judge.specs.Slack as slack
+use Rattle.judge.specs.Slack.{slackFigure}
+use Rattle.dispatch.specs.Step as step
+use Rattle.dispatch.specs.Step.{Slot, Ending, started, slotSound, slotFault, stepped, outcome}
+use Rattle.hostwords.specs.Memory.{planWords, shortPlan, shortRun, jobsTo, planIn, planOf, jobsOut, planOut, planPut, marksHold, runIn, runOf, runOut, runPut}
+use Rattle.gateway.specs.Calls.{Judged, Started, Read, Wrote, doneNumber, noneNumber, metNumber, discardedNumber, missedNumber, openNumber, numberOf, shortPlace, startWords, placed, slotWords, endingNumber, figureNumber, slackWords, readWords, writtenNumber, wroteWords, judgeCall, startCall, stepCall, outcomeCall, slackCall, readCall, writeCall}
+use Rattle.gateway.proofs.Back.{refused-step-stays}
+use Rattle.promises.specs.Cases.{tableOf, planE, tableE}
+use Rattle.promises.proofs.Numbers.{isOneOf, reader-numbers, writer-numbers, judge-numbers, slack-numbers, step-numbers, outcome-numbers}
+use Rattle.promises.proofs.Refused.{reader-22-leaves, reader-other-leaves, writer-refused-leaves}
+use Rattle.promises.proofs.Same.{same-slot, same-outcome, elseE, elseTable, same-E}
+use Rattle.promises.proofs.SameVerdict.{same-verdict, same-slack, started-same}
+use Rattle.promises.proofs.SameFile.{same-written}
+
+-- What is one of some numbers is one of more.
+or-one : (x y : ℕ) (l : List ℕ) → isOneOf l x ≡ true → isOneOf (y ∷ l) x ≡ true
+or-one x y l h = by (eqb x y)
+  where
+    by : (b : Bool) → (b || isOneOf l x) ≡ true
+    by true = refl
+    by false = h
+
+-- The number of a report is that of nothing to refuse, or one that refuses it.
+report-one : (numbers : List ℕ) (r : Report) → ((number : ℕ) (rest : Report) → r ≡ number ∷ rest → isOneOf numbers number ≡ true)
+    → isOneOf (doneNumber ∷ numbers) (numberOf r) ≡ true
+report-one numbers [] h = refl
+report-one numbers (number ∷ rest) h = or-one number doneNumber numbers (h number rest refl)
+
+-- `gateway_read`: 0, 1 to 14, 22.
+pub host-read-numbers : (file plan table : List ℕ)
+    → isOneOf
+    (doneNumber ∷ wrongVersion ∷ wrongExtent ∷ wrongRecordLength ∷ wrongRates ∷ wrongJobCount ∷ wrongNameByte ∷ nameTaken ∷ wrongGrade ∷ wrongJobBounds
+    ∷ tooManyRows ∷ rowWithoutJob ∷ rowWithoutInterval ∷ rowWithoutUnits ∷ rowOutOfOrder ∷ bufferTooShort ∷ [])
+    (readCall file plan table .number)
+    ≡ true
+unfolding readCall
+host-read-numbers file plan table = by (shortPlan plan)
+  where
+    numbers : List ℕ
+    numbers =
+        wrongVersion ∷ wrongExtent ∷ wrongRecordLength ∷ wrongRates ∷ wrongJobCount ∷ wrongNameByte ∷ nameTaken ∷ wrongGrade ∷ wrongJobBounds
+        ∷ tooManyRows ∷ rowWithoutJob ∷ rowWithoutInterval ∷ rowWithoutUnits ∷ rowOutOfOrder ∷ bufferTooShort ∷ []
+
+    by : (b : Bool)
+        → isOneOf (doneNumber ∷ numbers) (cond b (record { number = bufferTooShort; plan = plan; table = table }) (readWords (reader file table) plan) .number) ≡ true
+    by true = refl
+    by false = report-one numbers (reader file table .answer) (reader-numbers file table)
+
+-- `gateway_write`: 0, 21, 22.
+pub host-write-numbers : (plan table out : List ℕ) → isOneOf (doneNumber ∷ unsound ∷ bufferTooShort ∷ []) (writeCall plan table out .number) ≡ true
+unfolding writeCall
+host-write-numbers plan table out = by (shortPlan plan)
+  where
+    numbers : List ℕ
+    numbers = unsound ∷ bufferTooShort ∷ []
+
+    told : (a : writing.Answer) → writer (planOf plan) table out .answer ≡ a → isOneOf (doneNumber ∷ numbers) (writtenNumber a) ≡ true
+    told (writing.wrote n) e = refl
+    told (writing.refused number) e = or-one number doneNumber numbers (writer-numbers (planOf plan) table out number e)
+
+    by : (b : Bool)
+        → isOneOf (doneNumber ∷ numbers)
+        (cond b (record { number = bufferTooShort; length = 0; out = out }) (wroteWords (writer (planOf plan) table out)) .number)
+        ≡ true
+    by true = refl
+    by false = told (writer (planOf plan) table out .answer) refl
+
+-- `gateway_judge`: 0, 15 to 18, 21, 22.
+abbrev judgeNumbers : List ℕ
+judgeNumbers = outsideWindow ∷ wrongTotal ∷ overCapacity ∷ belowFloorRule ∷ unsound ∷ bufferTooShort ∷ []
+
+pub host-judge-numbers : (plan table place : List ℕ) → isOneOf (doneNumber ∷ judgeNumbers) (judgeCall plan table place .number) ≡ true
+unfolding judgeCall
+host-judge-numbers plan table place = by (shortPlan plan || shortPlace place)
+  where
+    by : (b : Bool)
+        → isOneOf (doneNumber ∷ judgeNumbers)
+        (cond {A = Judged} b (record { number = bufferTooShort; place = place })
+        (record { number = numberOf (judged (planOf plan) table); place = placed (judged (planOf plan) table) place }) .number)
+        ≡ true
+    by true = refl
+    by false = report-one judgeNumbers (judged (planOf plan) table) (judge-numbers (planOf plan) table)
+
+-- `gateway_start`: the same.
+pub host-start-numbers : (plan table run place : List ℕ) → isOneOf (doneNumber ∷ judgeNumbers) (startCall plan table run place .number) ≡ true
+unfolding startCall
+host-start-numbers plan table run place = by (shortPlan plan || shortRun run || shortPlace place)
+  where
+    by : (b : Bool)
+        → isOneOf (doneNumber ∷ judgeNumbers)
+        (cond {A = Started} b (record { number = bufferTooShort; run = run; place = place })
+        (record {
+          number = numberOf (judged (planOf plan) table);
+          run = startWords (judged (planOf plan) table) (planOf plan) run;
+          place = placed (judged (planOf plan) table) place;
+        }) .number)
+        ≡ true
+    by true = refl
+    by false = report-one judgeNumbers (judged (planOf plan) table) (judge-numbers (planOf plan) table)
+
+-- `gateway_slack`: 0 or none essential, 15 to 17, 21, 22.
+pub host-slack-numbers : (plan table : List ℕ) (was : ℤ) (place : List ℕ)
+    → isOneOf (doneNumber ∷ noneNumber ∷ outsideWindow ∷ wrongTotal ∷ overCapacity ∷ unsound ∷ bufferTooShort ∷ []) (slackCall plan table was place .number) ≡ true
+unfolding slackCall
+host-slack-numbers plan table was place = by (shortPlan plan || shortPlace place)
+  where
+    numbers : List ℕ
+    numbers = outsideWindow ∷ wrongTotal ∷ overCapacity ∷ unsound ∷ bufferTooShort ∷ []
+
+    told : (f : slack.Figure) → slackFigure (planOf plan) table ≡ f → isOneOf (doneNumber ∷ noneNumber ∷ numbers) (figureNumber f) ≡ true
+    told slack.noneEssential e = refl
+    told (slack.least s l D) e = refl
+    told (slack.refused report) e =
+        let r = slack-numbers (planOf plan) table report e in
+        ap (λ x. isOneOf (doneNumber ∷ noneNumber ∷ numbers) (numberOf x)) (r .2)
+        ∙ or-one (r .0) doneNumber (noneNumber ∷ numbers) (or-one (r .0) noneNumber numbers (r .3))
+
+    by : (b : Bool)
+        → isOneOf (doneNumber ∷ noneNumber ∷ numbers)
+        (cond b (record { number = bufferTooShort; slack = was; place = place }) (slackWords (slackFigure (planOf plan) table) place) .number)
+        ≡ true
+    by true = refl
+    by false = told (slackFigure (planOf plan) table) refl
+
+-- `gateway_step`: 0, 19 to 22.
+pub host-step-numbers : (plan table run : List ℕ) (v : ℕ) (grants : List ℕ)
+    → isOneOf (doneNumber ∷ clockAtEnd ∷ speedAboveNormal ∷ unsound ∷ bufferTooShort ∷ []) (stepCall plan table run v grants .number) ≡ true
+unfolding stepCall
+host-step-numbers plan table run v grants = by (shortPlan plan || shortRun run) (not (marksHold run))
+  where
+    numbers : List ℕ
+    numbers = clockAtEnd ∷ speedAboveNormal ∷ unsound ∷ bufferTooShort ∷ []
+
+    slot : Slot
+    slot = stepped (planOf plan) table (runOf run) v grants
+
+    by : (b c : Bool)
+        → isOneOf (doneNumber ∷ numbers)
+        (cond b (record { number = bufferTooShort; run = run; grants = grants })
+        (cond c (record { number = unsound; run = run; grants = grants }) (slotWords slot run)) .number)
+        ≡ true
+    by true c = refl
+    by false true = refl
+    by false false = report-one numbers (slot .answer) (step-numbers (planOf plan) table (runOf run) v grants)
+
+-- `gateway_outcome`: the four endings, 21, 22.
+pub host-outcome-numbers : (plan run : List ℕ) (position : ℕ)
+    → isOneOf (metNumber ∷ discardedNumber ∷ missedNumber ∷ openNumber ∷ unsound ∷ bufferTooShort ∷ []) (outcomeCall plan run position) ≡ true
+unfolding outcomeCall
+host-outcome-numbers plan run position = by (shortPlan plan || shortRun run) (not (marksHold run))
+  where
+    numbers : List ℕ
+    numbers = metNumber ∷ discardedNumber ∷ missedNumber ∷ openNumber ∷ unsound ∷ bufferTooShort ∷ []
+
+    told : (e : Ending) → outcome (planOf plan) (runOf run) position ≡ e → isOneOf numbers (endingNumber e) ≡ true
+    told step.met e = refl
+    told step.discarded e = refl
+    told step.missed e = refl
+    told step.stillOpen e = refl
+    told (step.refused number) e = ap (isOneOf numbers) (outcome-numbers (planOf plan) (runOf run) position number e)
+
+    by : (b c : Bool) → isOneOf numbers (cond b bufferTooShort (cond c unsound (endingNumber (outcome (planOf plan) (runOf run) position)))) ≡ true
+    by true c = refl
+    by false true = refl
+    by false false = told (outcome (planOf plan) (runOf run) position) refl
+
+-- `gateway_read`: 22 leaves the table; any other refusal leaves zeros in its own places, and the words of a plan of zeros.
+pub host-read-22-leaves : (file plan table : List ℕ) → readCall file plan table .number ≡ bufferTooShort → readCall file plan table .table ≡ table
+unfolding readCall
+host-read-22-leaves file plan table = by (shortPlan plan)
+  where
+    left : Bool → Read
+    left b = cond b (record { number = bufferTooShort; plan = plan; table = table }) (readWords (reader file table) plan)
+
+    told : (r : Report) → reader file table .answer ≡ r → numberOf r ≡ bufferTooShort → reader file table .table ≡ table
+    told [] e n = absurd (omega (arith, n))
+    told (number ∷ rest) e n = reader-22-leaves file table rest (e ∙ ap (λ x. x ∷ rest) n) .0
+
+    by : (b : Bool) → left b .number ≡ bufferTooShort → left b .table ≡ table
+    by true n = refl
+    by false n = told (reader file table .answer) refl n
+
+pub host-read-other-leaves : (file plan table : List ℕ) → readCall file plan table .number ≢ doneNumber → readCall file plan table .number ≢ bufferTooShort
+    → (readCall file plan table .table ≡ replicate places 0 ++ drop places table) × (readCall file plan table .plan ≡ planPut plan noPlan)
+unfolding readCall
+host-read-other-leaves file plan table = by (shortPlan plan)
+  where
+    left : Bool → Read
+    left b = cond b (record { number = bufferTooShort; plan = plan; table = table }) (readWords (reader file table) plan)
+
+    told : (r : Report) → reader file table .answer ≡ r → numberOf r ≢ doneNumber → numberOf r ≢ bufferTooShort
+        → (reader file table .table ≡ replicate places 0 ++ drop places table) × (planPut plan (reader file table .plan) ≡ planPut plan noPlan)
+    told [] e busy other = absurd (busy refl)
+    told (number ∷ rest) e busy other =
+        let l = reader-other-leaves file table number rest e other in
+        (l .0, ap (planPut plan) (l .1))
+
+    by : (b : Bool) → left b .number ≢ doneNumber → left b .number ≢ bufferTooShort
+        → (left b .table ≡ replicate places 0 ++ drop places table) × (left b .plan ≡ planPut plan noPlan)
+    by true busy other = absurd (other refl)
+    by false busy other = told (reader file table .answer) refl busy other
+
+-- `gateway_write`: a refusal leaves the output.
+pub host-write-leaves : (plan table out : List ℕ) → writeCall plan table out .number ≢ doneNumber → writeCall plan table out .out ≡ out
+unfolding writeCall
+host-write-leaves plan table out = by (shortPlan plan)
+  where
+    left : Bool → Wrote
+    left b = cond b (record { number = bufferTooShort; length = 0; out = out }) (wroteWords (writer (planOf plan) table out))
+
+    told : (a : writing.Answer) → writer (planOf plan) table out .answer ≡ a → writtenNumber a ≢ doneNumber → writer (planOf plan) table out .out ≡ out
+    told (writing.wrote n) e busy = absurd (busy refl)
+    told (writing.refused number) e busy = writer-refused-leaves (planOf plan) table out number e
+
+    by : (b : Bool) → left b .number ≢ doneNumber → left b .out ≡ out
+    by true busy = refl
+    by false busy = told (writer (planOf plan) table out .answer) refl busy
+
+-- `gateway_start`: a refusal leaves the run's words. (`refused-step-stays` of gateway says the same of `gateway_step`, and of the grants.)
+pub host-start-leaves : (plan table run place : List ℕ) → startCall plan table run place .number ≢ doneNumber → startCall plan table run place .run ≡ run
+unfolding startCall
+host-start-leaves plan table run place = by (shortPlan plan || shortRun run || shortPlace place) (judged (planOf plan) table)
+  where
+    left : Bool → Report → Started
+    left b r =
+        cond b (record { number = bufferTooShort; run = run; place = place })
+        (record { number = numberOf r; run = startWords r (planOf plan) run; place = placed r place })
+
+    by : (b : Bool) (r : Report) → left b r .number ≢ doneNumber → left b r .run ≡ run
+    by true r busy = refl
+    by false [] busy = absurd (busy refl)
+    by false (number ∷ rest) busy = refl
+
+-- Words that mean the same plan, where neither are too few, get the same from every call that takes a plan.
+module _ (plan table other-plan other : List ℕ) (same : Same (planOf plan) table (planOf other-plan) other) (long : planWords ≤ length plan)
+    (other-long : planWords ≤ length other-plan) where
+  both : shortPlan plan ≡ shortPlan other-plan
+  both = le-ltb (length plan) planWords long ∙ sym (le-ltb (length other-plan) planWords other-long)
+
+  verdict : judged (planOf plan) table ≡ judged (planOf other-plan) other
+  verdict = same-verdict (planOf plan) table (planOf other-plan) other same
+
+  pub same-host-judge : (place : List ℕ) → judgeCall plan table place ≡ judgeCall other-plan other place
+  unfolding judgeCall
+  same-host-judge place = rw (both, verdict) refl
+
+  pub same-host-slack : (was : ℤ) (place : List ℕ) → slackCall plan table was place ≡ slackCall other-plan other was place
+  unfolding slackCall
+  same-host-slack was place = rw (both, same-slack (planOf plan) table (planOf other-plan) other same) refl
+
+  pub same-host-start : (run place : List ℕ) → startCall plan table run place ≡ startCall other-plan other run place
+  unfolding startCall
+  same-host-start run place = rw (both, verdict, starts (judged (planOf other-plan) other)) refl
+    where
+      starts : (r : Report) → startWords r (planOf plan) run ≡ startWords r (planOf other-plan) run
+      starts [] = ap (runPut run) (started-same (planOf plan) table (planOf other-plan) other same)
+      starts (number ∷ places) = refl
+
+  pub same-host-step : (run : List ℕ) (v : ℕ) (grants : List ℕ) → stepCall plan table run v grants ≡ stepCall other-plan other run v grants
+  unfolding stepCall
+  same-host-step run v grants = rw (both, same-slot (planOf plan) table (planOf other-plan) other same (runOf run) v grants) refl
+
+  pub same-host-outcome : (run : List ℕ) (position : ℕ) → outcomeCall plan run position ≡ outcomeCall other-plan run position
+  unfolding outcomeCall
+  same-host-outcome run position = rw (both, same-outcome (planOf plan) table (planOf other-plan) other same (runOf run) position) refl
+
+  pub same-host-write : (out : List ℕ) → writeCall plan table out ≡ writeCall other-plan other out
+  unfolding writeCall
+  same-host-write out = rw (both, same-written (planOf plan) table (planOf other-plan) other same out) refl
+
+-- The words of plan E, held in two ways, mean the same plan.
+abbrev wordsE : List ℕ
+wordsE = planOut planE
+
+abbrev elseWords : List ℕ
+elseWords = planOut elseE ++ (9 ∷ [])
+
+words-same : Same (planOf wordsE) tableE (planOf elseWords) elseTable
+unfolding jobsTo planIn planOf jobsOut planOut
+words-same = same-E
+
+same-host-step-E : (run : List ℕ) → stepCall wordsE tableE run 2 (7 ∷ 7 ∷ []) ≡ stepCall elseWords elseTable run 2 (7 ∷ 7 ∷ [])
+unfolding planOut jobsOut
+same-host-step-E run = same-host-step wordsE tableE elseWords elseTable words-same (lit≤ tt) (lit≤ tt) run 2 (7 ∷ 7 ∷ [])
+
+-- Cases that meet the premises of what refusals leave: an empty file, a table of one place, no words for a
+-- plan, no place to name, and plan E at speed 3.
+empty-file-host-leaves : (readCall [] wordsE (replicate places 7) .table ≡ replicate places 0) × (readCall [] wordsE (replicate places 7) .plan ≡ planPut wordsE noPlan)
+unfolding version opening head front planFile reader readCall jobsOut planOut
+empty-file-host-leaves = host-read-other-leaves [] wordsE (replicate places 7) (λ e. absurd (omega (arith, e))) (λ e. absurd (omega (arith, e)))
+
+short-table-host-stays : readCall [] wordsE (7 ∷ []) .table ≡ 7 ∷ []
+unfolding reader readCall jobsOut planOut
+short-table-host-stays = host-read-22-leaves [] wordsE (7 ∷ []) refl
+
+no-room-host-stays : writeCall [] tableE (7 ∷ []) .out ≡ 7 ∷ []
+unfolding writeCall
+no-room-host-stays = host-write-leaves [] tableE (7 ∷ []) (λ e. absurd (omega (arith, e)))
+
+no-place-host-stays : startCall wordsE tableE (7 ∷ []) [] .run ≡ 7 ∷ []
+unfolding startCall jobsOut planOut
+no-place-host-stays = host-start-leaves wordsE tableE (7 ∷ []) [] (λ e. absurd (omega (arith, e)))
+
+too-fast-host-stays : (stepCall wordsE tableE (runOut (started planE)) 3 (7 ∷ 7 ∷ []) .run ≡ runOut (started planE))
+    × (stepCall wordsE tableE (runOut (started planE)) 3 (7 ∷ 7 ∷ []) .grants ≡ 7 ∷ 7 ∷ [])
+unfolding tableOf Below.every Below.least Below.greatest gradesHold boundsHold started slotSound slotFault stepped jobsTo planIn planOf jobsOut planOut runIn runOf runOut marksHold stepCall
+too-fast-host-stays =
+    refused-step-stays wordsE tableE (runOut (started planE)) 3 (7 ∷ 7 ∷ []) (λ e. let z : _≡_ {A = ℕ} speedAboveNormal doneNumber = e in absurd (omega arith))
