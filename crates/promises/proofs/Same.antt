@@ -97,10 +97,13 @@ module _ (p : Plan) (table : List ℕ) (q : Plan) (other : List ℕ) (same : Sam
   pub boundaries-same : boundaries p ≡ boundaries q
   boundaries-same = boundaries-ext p q (counted p) release-same deadline-same ∙ ap (boundariesTo q) counted-same
 
+  pub present-same : (t : ℕ) → present p t ≡ present q t
+  present-same t = ap (λ l. come t l - 1) boundaries-same
+
   pub first-same : firstRelease p ≡ firstRelease q
   first-same = least-ext (release p) (release q) (counted p) release-same ∙ ap (least (release q)) counted-same
 
-  last-same : lastDeadline p ≡ lastDeadline q
+  pub last-same : lastDeadline p ≡ lastDeadline q
   last-same = greatest-ext (deadline p) (deadline q) (counted p) deadline-same ∙ ap (greatest (deadline q)) counted-same
 
   -- Rules that test each counted record hold of both.
@@ -109,17 +112,25 @@ module _ (p : Plan) (table : List ℕ) (q : Plan) (other : List ℕ) (same : Sam
       every-ext (λ i. test (jobOf p i)) (λ i. test (jobOf q i)) (counted p) (λ i h. ap test (same .jobs i h))
       ∙ ap (every (λ i. test (jobOf q i))) counted-same
 
-  sound-same : (run : Run) → slotSound p run ≡ slotSound q run
-  unfolding slotSound gradesHold boundsHold
-  sound-same run =
+  pub grades-same : gradesHold p ≡ gradesHold q
+  unfolding gradesHold
+  grades-same = every-same (λ j. gradeAllowed (j .grade))
+
+  pub bounds-same : boundsHold p ≡ boundsHold q
+  unfolding boundsHold
+  bounds-same = every-same (λ j. windowAllowed (j .release .0) (j .deadline .0) && sizeAllowed (j .size .0))
+
+  pub slot-sound-same : (run : Run) → slotSound p run ≡ slotSound q run
+  unfolding slotSound
+  slot-sound-same run =
       ap₂ _&&_
       (ap₂ _&&_
       (ap₂ _&&_
       (ap₂ _&&_
       (ap₂ _&&_
       (ap₂ _&&_ (ap₂ (λ (n : Rate) (d : Rate). ratesAllowed (n .0) (d .0)) (same .n) (same .d)) (ap countAllowed (same .count)))
-      (every-same (λ j. gradeAllowed (j .grade))))
-      (every-same (λ j. windowAllowed (j .release .0) (j .deadline .0) && sizeAllowed (j .size .0))))
+      grades-same)
+      bounds-same)
       (ap (λ t. leb t (run .clock .0)) first-same))
       (ap (λ t. leb (run .clock .0) t) last-same))
       (every-ext _ _ (counted p) (λ i h. ap (leb (carriedOf run i)) (size-same i h)) ∙ ap (every _) counted-same)
@@ -135,7 +146,7 @@ module _ (p : Plan) (table : List ℕ) (q : Plan) (other : List ℕ) (same : Sam
 
   fault-same : (run : Run) (v : ℕ) (grants : List ℕ) → slotFault p table run v grants ≡ slotFault q other run v grants
   unfolding slotFault
-  fault-same run v grants = rw (sound-same run, long-same, last-same, counted-same, same .n) refl
+  fault-same run v grants = rw (slot-sound-same run, long-same, last-same, counted-same, same .n) refl
 
   slow-same : (run : Run) (v : ℕ) → slowAfter p run v ≡ slowAfter q run v
   slow-same run v = ap (λ r. run .slow || ltb v (r .0)) (same .n)
@@ -173,9 +184,6 @@ module _ (p : Plan) (table : List ℕ) (q : Plan) (other : List ℕ) (same : Sam
       t : ℕ
       t = run .clock .0
 
-      present-same : present p t ≡ present q t
-      present-same = ap (λ l. come t l - 1) boundaries-same
-
       here : present p t < intervals p
       here = present-inside p (d .sound .rules .some) (d .sound .rules .windows) t (d .sound .begun) (d .before-end) .0
 
@@ -186,7 +194,7 @@ module _ (p : Plan) (table : List ℕ) (q : Plan) (other : List ℕ) (same : Sam
           let inside : mostIntervals * i + j < places = omega (arith, here, d .sound .rules .spans, d .sound .rules .few) in
           sym (getD-take places table (mostIntervals * i + j) 0 inside) ∙ ap (λ c. getD c (mostIntervals * i + j) 0) (same .cells)
           ∙ getD-take places other (mostIntervals * i + j) 0 inside)
-          ∙ ap (λ k. sum (allotment mostIntervals other i) (suc k)) present-same
+          ∙ ap (λ k. sum (allotment mostIntervals other i) (suc k)) (present-same t)
 
       goal-same : (slow : Bool) → goal p table t slow i ≡ goal q other t slow i
       goal-same true = size-same i h
@@ -233,8 +241,8 @@ module _ (p : Plan) (table : List ℕ) (q : Plan) (other : List ℕ) (same : Sam
       if-true (slotSound p run && ltb i (p .count))
       (λ e.
       let here : i < counted p = asked-counted p run i e in
-      rw (sound-same run, same .count, size-same i here, hi-same i here, deadline-same i here) refl)
-      (λ e. let e′ : (slotSound q run && ltb i (q .count)) ≡ false = rw (← (sound-same run), ← (same .count)) e in rw (e, e′) refl)
+      rw (slot-sound-same run, same .count, size-same i here, hi-same i here, deadline-same i here) refl)
+      (λ e. let e′ : (slotSound q run && ltb i (q .count)) ≡ false = rw (← (slot-sound-same run), ← (same .count)) e in rw (e, e′) refl)
 
 -- Plan E as another host may hold it: with other records from the count on, and one more place behind its table.
 abbrev pub elseE : Plan

@@ -13,7 +13,7 @@ use Rattle.sums.proofs.Laws.{sum-ext}
 use Rattle.plan.specs.Edition.{mostJobs, mostIntervals, places}
 use Rattle.plan.specs.Refusal.{outsideWindow, wrongTotal, overCapacity, belowFloorRule}
 use Rattle.plan.specs.Below.{every}
-use Rattle.plan.specs.Rules.{counted, name, release, size, deadline, nameAllowed, sameName, gradeAllowed, windowAllowed, sizeAllowed, ratesAllowed, countAllowed, namesHold, namesDiffer, gradesHold, boundsHold, rulesHold}
+use Rattle.plan.specs.Rules.{counted, name, nameAllowed, sameName, ratesAllowed, countAllowed, namesHold, namesDiffer, rulesHold}
 use Rattle.plan.specs.Boundaries.{boundary, intervals}
 use Rattle.plan.specs.Table.{sound}
 use Rattle.plan.specs.Same.{Same}
@@ -28,7 +28,7 @@ use Rattle.judge.proofs.First.{first-ext}
 use Rattle.dispatch.specs.Step.{noRun, started, startFrom, startIn}
 use Rattle.dispatch.specs.declared.Run.{Run}
 use Rattle.promises.specs.Cases.{planE, tableE}
-use Rattle.promises.proofs.Same.{counted-same, release-same, deadline-same, size-same, hi-same, boundaries-same, first-same, every-same, long-same, elseE, elseTable, same-E}
+use Rattle.promises.proofs.Same.{counted-same, release-same, deadline-same, size-same, hi-same, boundaries-same, first-same, every-same, grades-same, bounds-same, long-same, elseE, elseTable, same-E}
 
 -- Steps that agree give the same, however often.
 through-ext : {A : Type 0} (f g : ℕ → A → A) (n : ℕ) → ((k : ℕ) (a : A) → f k a ≡ g k a) → (a : A) → through f n a ≡ through g n a
@@ -40,7 +40,7 @@ module _ (p : Plan) (table : List ℕ) (q : Plan) (other : List ℕ) (same : Sam
   jobs-same : counted p ≡ counted q
   jobs-same = counted-same p table q other same
 
-  intervals-same : intervals p ≡ intervals q
+  pub intervals-same : intervals p ≡ intervals q
   intervals-same = ap (λ l. length l - 1) (boundaries-same p table q other same)
 
   boundary-same : (j : ℕ) → boundary p j ≡ boundary q j
@@ -49,25 +49,29 @@ module _ (p : Plan) (table : List ℕ) (q : Plan) (other : List ℕ) (same : Sam
   pub name-same : (i : ℕ) → i < counted p → name p i ≡ name q i
   name-same i h = ap (λ j. j .name .0) (same .jobs i h)
 
-  names-differ-same : namesDiffer p ≡ namesDiffer q
+  pub names-differ-same : namesDiffer p ≡ namesDiffer q
   unfolding namesDiffer
   names-differ-same =
       every-ext _ _ (counted p)
       (λ i h. every-ext _ _ i (λ k l. ap₂ (λ a b. not (sameName a b)) (name-same k (omega arith)) (name-same i h)))
       ∙ ap (every _) jobs-same
 
-  rules-same : rulesHold p ≡ rulesHold q
-  unfolding rulesHold namesHold gradesHold boundsHold
+  pub names-hold-same : namesHold p ≡ namesHold q
+  unfolding namesHold
+  names-hold-same = every-same p table q other same (λ j. nameAllowed (j .name .0))
+
+  pub rules-same : rulesHold p ≡ rulesHold q
+  unfolding rulesHold
   rules-same =
       ap₂ _&&_
       (ap₂ _&&_
       (ap₂ _&&_
       (ap₂ _&&_
       (ap₂ _&&_ (ap₂ (λ (n : Rate) (d : Rate). ratesAllowed (n .0) (d .0)) (same .n) (same .d)) (ap countAllowed (same .count)))
-      (every-same p table q other same (λ j. nameAllowed (j .name .0))))
+      names-hold-same)
       names-differ-same)
-      (every-same p table q other same (λ j. gradeAllowed (j .grade))))
-      (every-same p table q other same (λ j. windowAllowed (j .release .0) (j .deadline .0) && sizeAllowed (j .size .0)))
+      (grades-same p table q other same))
+      (bounds-same p table q other same)
 
   pub sound-same : sound p table ≡ sound q other
   unfolding sound
