@@ -8,9 +8,13 @@ use lib.ListN.{length, take}
 abbrev pub mostDigits : ℕ
 mostDigits = 10
 
+-- The bytes of a name.
+abbrev pub nameBytes : ℕ
+nameBytes = 8
+
 -- A grant at its longest: a space, a name, the equals sign and a number.
 abbrev pub grantBytes : ℕ
-grantBytes = 1 + 8 + 1 + mostDigits
+grantBytes = 1 + nameBytes + 1 + mostDigits
 
 -- A line of which the first bytes count has grown by a piece.
 pub record Grown (before after : List ℕ) (at next : ℕ) (piece : List ℕ) : Type 0 where

@@ -19,6 +19,7 @@ use plan::kinds::Slots;
 use plan::refusal::BUFFER_TOO_SHORT;
 ghost use Prim.Native.Nat.{_≤_};
 ghost use lib.ListN.{length};
+ghost use Rattle.lines.specs.Growth.{mostDigits};
 ghost use Rattle.lines.specs.Answers.{Prints, PrintsOutcome};
 ghost use Rattle.lines.specs.Lines.{slotHeader, outcomeHeader, strayLine, refusedLine, slotLine, refusedSlotLine, outcomeLine};
 
@@ -111,7 +112,7 @@ pub fn refused_slot_line(clock: Slots, speed: u16, number: u8, out: &mut [u8]) -
 
 // The line of a transfer that ended as a word says. No such word is longer than a number.
 fn word_line(name: Name, word: &[u8], carried: u32, out: &mut [u8]) -> Printed
-    requires { ⌜ length (now word) ≤ 10 ⌝ }
+    requires { ⌜ length (now word) ≤ mostDigits ⌝ }
     ensures { λ r. ⌜ Prints (outcomeLine (name .0) (now (word .entry)) carried) (now (out .entry)) r (now (out .exit)) ⌝ }
 {
     let mut line = [0u8; LONGEST_LINE];

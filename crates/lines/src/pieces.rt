@@ -13,7 +13,7 @@ ghost use Rattle.plan.specs.Edition.{mostJobs};
 ghost use Rattle.plan.specs.Rules.{counted};
 ghost use Rattle.lines.specs.Text.{text, decimal, nameText};
 ghost use Rattle.lines.specs.Lines.{modeText, grantText, grantsText, orDash};
-ghost use Rattle.lines.specs.Growth.{Grown, mostDigits, grantBytes};
+ghost use Rattle.lines.specs.Growth.{Grown, mostDigits, nameBytes, grantBytes};
 
 // The digits of a number of 32 bits, and the bytes of a name.
 pub(crate) const MOST_DIGITS: usize = 10;
@@ -100,7 +100,7 @@ fn name_text(name: Name) -> [u8; NAME_BYTES]
 
 // Puts a name behind the first bytes of a line.
 pub(crate) fn add_name(line: &mut [u8], at: usize, name: Name) -> usize
-    requires { ⌜ at + 8 ≤ length (now line) ⌝ }
+    requires { ⌜ at + nameBytes ≤ length (now line) ⌝ }
     ensures { λ r. ⌜ Grown (now (line .entry)) (now (line .exit)) at r (nameText (name .0)) ⌝ }
 {
     let bytes = name_text(name);

@@ -155,7 +155,7 @@ pub read-E : readFile fileE ≡ got (record { plan = planE; table = tableE }) 11
 unfolding tableOf Below.every nameAllowed isAbsent insert boundariesTo value field version extent opening head named jobName oneJob allJobs position oneRow allRows front planFile ended
 read-E = refl
 
-octets-E : (k : ℕ) → getD fileE k 0 < 256
+pub octets-E : (k : ℕ) → getD fileE k 0 < 256
 octets-E = all-below fileE refl
   where
     all-below : (l : List ℕ) → allBelow 256 l ≡ true → (k : ℕ) → getD l k 0 < 256

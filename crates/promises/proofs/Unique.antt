@@ -71,6 +71,8 @@ use Rattle.lines.specs.declared.Printed.{Printed}
 use Rattle.lines.proofs.Told.{printedOf, answer-is, lines-apart}
 use Rattle.night.specs.Turns.{Turned, opened, Takes, Opens}
 use Rattle.night.specs.declared.Turn.{Turn}
+use Rattle.promises.specs.Cases.{fileE}
+use Rattle.promises.proofs.Demand2.{octets-E}
 
 -- What two calls of a line leave, and a result for what one is to leave.
 outputs-one : (r s : Printed) (left other : List ℕ)
@@ -404,6 +406,13 @@ one-units file at r s d e = fields-one r s (d .0 ∙ sym (e .0))
 
 pub some-units : (file : List ℕ) → Octets file → (at : ℕ) → (r : Field) × ReadsUnits file at r
 some-units file octets at = checked-some file octets 4 (λ u. not (eqb u 0)) rowWithoutUnits at
+
+-- The bytes of plan E's file are such: the interval and the units of its first row.
+some-interval-E : (r : Field) × ReadsInterval fileE 65 3 r
+some-interval-E = some-interval fileE octets-E 65 3
+
+some-units-E : (r : Field) × ReadsUnits fileE 67 r
+some-units-E = some-units fileE octets-E 67
 
 -- Every other public call answers a plain value and is lent nothing to change: its promise is that the value is a definition's.
 pub one-value : {A : Type 0} (value r s : A) → r ≡ value → s ≡ value → r ≡ s

@@ -144,12 +144,16 @@ pub by-job-loses : Short order due P8 (2 ∷ 2 ∷ 2 ∷ 2 ∷ 2 ∷ []) 0
 unfolding nightBy tableOf started added serve order enqueue Turns.line sum Below.least insert boundariesTo come
 by-job-loses = lit< tt
 
--- Nothing granted: plan E has nothing of either job at the normal rate.
-pub nothing-granted-loses : Short order (λ p table run slow i. 0) P1 (2 ∷ 2 ∷ 2 ∷ 2 ∷ 2 ∷ 2 ∷ 2 ∷ 2 ∷ 2 ∷ 2 ∷ []) 1
+-- A dispatcher that grants nothing.
+abbrev pub nothingDue : Dues
+nothingDue p table run slow i = 0
+
+-- Plan E loses mirror-A by it at the normal rate.
+pub nothing-granted-loses : Short order nothingDue P1 (2 ∷ 2 ∷ 2 ∷ 2 ∷ 2 ∷ 2 ∷ 2 ∷ 2 ∷ 2 ∷ 2 ∷ []) 1
 unfolding nightBy tableOf started added serve order enqueue Turns.line sum Below.least insert boundariesTo come
 nothing-granted-loses = lit< tt
 
--- The first slot granted, and then only the clock moved.
+-- A dispatcher that grants its first slot, and then only moves the clock.
 abbrev pub firstSlotOnly : Dues
 firstSlotOnly p table run slow i = on (eqb (run .clock .0) (firstRelease p)) (due p table run slow i)
 
