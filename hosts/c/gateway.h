@@ -39,9 +39,9 @@ extern "C" {
 #define GATEWAY_JOB_SIZE 3
 #define GATEWAY_JOB_DEADLINE 4
 
-/* The table has 2016 numbers of 32 bits: the allotment of job i in interval j stands at GATEWAY_PLACE(i, j). */
+/* The table is made of words of 32 bits, one for each job and interval: GATEWAY_PLACE(i, j) is where job i's units in interval j are. */
 #define GATEWAY_TABLE_PLACES 2016
-#define GATEWAY_PLACE(i, j) (63 * (size_t)(i) + (size_t)(j))
+#define GATEWAY_PLACE(i, j) (GATEWAY_MOST_INTERVALS * (size_t)(i) + (size_t)(j))
 
 /* A run lives in 35 words of 32 bits: the clock, the slow mark, the below-floor mark, and the units carried for each of 32 jobs.
  * A mark is 0 or 1; any other mark is refused by 21. */
@@ -117,7 +117,7 @@ uint32_t gateway_judge(const uint64_t *plan, size_t plan_length, const uint32_t 
 uint32_t gateway_slack(const uint64_t *plan, size_t plan_length, const uint32_t *table, size_t table_length, int64_t *slack, uint64_t *place, size_t place_length);
 
 /* Judges a plan, and starts its run if it is accepted.
- * In: plan and table. Out: the run (clock at the first release, nothing carried, both marks clear), and place as with gateway_judge.
+ * In: plan and table. Out: the run (its clock is the first release, all else in it is 0), and place as with gateway_judge.
  * 22 for plan, run or place: nothing is touched. Any other refusal: run stays. */
 uint32_t gateway_start(const uint64_t *plan, size_t plan_length, const uint32_t *table, size_t table_length, uint32_t *run, size_t run_length, uint64_t *place, size_t place_length);
 

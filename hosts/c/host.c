@@ -11,7 +11,7 @@ static uint32_t table[GATEWAY_TABLE_PLACES];
 static uint32_t run[GATEWAY_RUN_WORDS];
 static uint32_t grants[GATEWAY_MOST_JOBS];
 
-/* The file is its first five bytes and as many more as the length says, within the limit. */
+/* The file ends where its length field says, or at the largest file's length if that is earlier. */
 static size_t read_file(void)
 {
     size_t length = fread(file, 1, OPENING_BYTES, stdin);

@@ -7,6 +7,7 @@ use std::fmt;
 pub const MOST_JOBS: usize = 32;
 pub const MOST_INTERVALS: usize = 63;
 pub const LARGEST_FILE: usize = 30_956;
+pub const NAME_BYTES: usize = 8;
 
 const PLAN_WORDS: usize = 163;
 const TABLE_PLACES: usize = MOST_JOBS * MOST_INTERVALS;
@@ -37,6 +38,32 @@ extern "C" {
     fn gateway_outcome(plan: *const u64, plan_length: usize, run: *const u32, run_length: usize, position: usize) -> u32;
 }
 
+/// The numbers of refusals, named as in `gateway.h`.
+pub mod refusal {
+    pub const WRONG_VERSION: u8 = 1;
+    pub const WRONG_EXTENT: u8 = 2;
+    pub const WRONG_RECORD_LENGTH: u8 = 3;
+    pub const WRONG_RATES: u8 = 4;
+    pub const WRONG_JOB_COUNT: u8 = 5;
+    pub const WRONG_NAME_BYTE: u8 = 6;
+    pub const NAME_TAKEN: u8 = 7;
+    pub const WRONG_GRADE: u8 = 8;
+    pub const WRONG_JOB_BOUNDS: u8 = 9;
+    pub const TOO_MANY_ROWS: u8 = 10;
+    pub const ROW_WITHOUT_JOB: u8 = 11;
+    pub const ROW_WITHOUT_INTERVAL: u8 = 12;
+    pub const ROW_WITHOUT_UNITS: u8 = 13;
+    pub const ROW_OUT_OF_ORDER: u8 = 14;
+    pub const OUTSIDE_WINDOW: u8 = 15;
+    pub const WRONG_TOTAL: u8 = 16;
+    pub const OVER_CAPACITY: u8 = 17;
+    pub const BELOW_FLOOR_RULE: u8 = 18;
+    pub const CLOCK_AT_END: u8 = 19;
+    pub const SPEED_ABOVE_NORMAL: u8 = 20;
+    pub const UNSOUND: u8 = 21;
+    pub const BUFFER_TOO_SHORT: u8 = 22;
+}
+
 /// What a refusal names beside its number.
 #[derive(Clone, Copy, Debug, PartialEq, Eq)]
 pub enum Place {
@@ -56,18 +83,19 @@ pub struct Refusal {
 
 impl Refusal {
     fn new(number: u32, place: [u64; PLACE_WORDS]) -> Refusal {
+        let number = number as u8;
         let place = match number {
-            15 => Place::JobAndInterval(place[0] as usize, place[1] as usize),
-            16 => Place::Job(place[0] as usize),
-            17 => Place::Interval(place[0] as usize),
-            18 => Place::IntervalAndDeadline(place[0] as usize, place[1] as u32),
+            refusal::OUTSIDE_WINDOW => Place::JobAndInterval(place[0] as usize, place[1] as usize),
+            refusal::WRONG_TOTAL => Place::Job(place[0] as usize),
+            refusal::OVER_CAPACITY => Place::Interval(place[0] as usize),
+            refusal::BELOW_FLOOR_RULE => Place::IntervalAndDeadline(place[0] as usize, place[1] as u32),
             _ => Place::Nowhere,
         };
-        Refusal { number: number as u8, place }
+        Refusal { number, place }
     }
 
-    fn nowhere(number: u32) -> Refusal {
-        Refusal::new(number, [0; PLACE_WORDS])
+    fn nowhere(number: u8) -> Refusal {
+        Refusal { number, place: Place::Nowhere }
     }
 
     pub fn number(&self) -> u8 {
@@ -81,29 +109,29 @@ impl Refusal {
     /// What the number says.
     pub fn words(&self) -> &'static str {
         match self.number {
-            1 => "no first byte, or it is not the version",
-            2 => "the bytes end inside a field, the length field is wrong, or bytes remain",
-            3 => "a job's or a row's length byte is wrong",
-            4 => "rates outside the bounds",
-            5 => "no job, or too many",
-            6 => "a name byte outside 0x21 to 0x7E",
-            7 => "a name that an earlier job has",
-            8 => "a grade that is neither 0 nor 1",
-            9 => "release, size or deadline outside the bounds",
-            10 => "too many rows",
-            11 => "a row names no job",
-            12 => "a row's interval is not below the number of intervals",
-            13 => "a row's units are 0",
-            14 => "a row does not come strictly after the one before",
-            15 => "an allotment outside its job's window",
-            16 => "a job's allotments do not sum to its size",
-            17 => "an interval's allotments exceed the normal rate times its length",
-            18 => "the floor rule fails",
-            19 => "the clock is at the last deadline",
-            20 => "the speed is above the normal rate",
-            21 => "an unsound plan or run",
-            22 => "a lent buffer is too short",
-            _ => "a number that the library does not give",
+            refusal::WRONG_VERSION => "the file is empty or of another version",
+            refusal::WRONG_EXTENT => "the file is shorter or longer than it says",
+            refusal::WRONG_RECORD_LENGTH => "a job or a row does not have its own length",
+            refusal::WRONG_RATES => "the rates do not keep to their bounds",
+            refusal::WRONG_JOB_COUNT => "there is no job, or there are too many",
+            refusal::WRONG_NAME_BYTE => "a name holds a byte that no name may hold",
+            refusal::NAME_TAKEN => "two jobs share a name",
+            refusal::WRONG_GRADE => "a grade is neither LO nor HI",
+            refusal::WRONG_JOB_BOUNDS => "a release, a size or a deadline does not keep to its bounds",
+            refusal::TOO_MANY_ROWS => "there are too many rows",
+            refusal::ROW_WITHOUT_JOB => "a row is for no job of the plan",
+            refusal::ROW_WITHOUT_INTERVAL => "a row is for no interval of the plan",
+            refusal::ROW_WITHOUT_UNITS => "a row allots nothing",
+            refusal::ROW_OUT_OF_ORDER => "the rows do not rise by job and interval",
+            refusal::OUTSIDE_WINDOW => "a job is allotted units when it may not run",
+            refusal::WRONG_TOTAL => "a job is not allotted exactly its size",
+            refusal::OVER_CAPACITY => "an interval is allotted more than the normal rate carries",
+            refusal::BELOW_FLOOR_RULE => "the floor cannot carry what is essential in time",
+            refusal::CLOCK_AT_END => "the run is over",
+            refusal::SPEED_ABOVE_NORMAL => "the speed is more than the normal rate",
+            refusal::UNSOUND => "the plan or the run is not sound",
+            refusal::BUFFER_TOO_SHORT => "a lent buffer has too few elements",
+            _ => "the library gives no such number",
         }
     }
 }
@@ -132,7 +160,7 @@ pub enum Grade {
 /// A transfer as a plan asks for it.
 #[derive(Clone, Copy, Debug, PartialEq, Eq)]
 pub struct Job {
-    pub name: [u8; 8],
+    pub name: [u8; NAME_BYTES],
     pub grade: Grade,
     pub release: u32,
     pub size: u64,
@@ -166,7 +194,7 @@ impl Plan {
     /// A plan of these rates and jobs with an empty table. Nothing is judged yet; more jobs than there is room for are refused by 5.
     pub fn new(normal_rate: u16, floor: u16, jobs: &[Job]) -> Result<Plan, Refusal> {
         if jobs.len() > MOST_JOBS {
-            return Err(Refusal::nowhere(5));
+            return Err(Refusal::nowhere(refusal::WRONG_JOB_COUNT));
         }
         let mut plan = Plan { words: [0; PLAN_WORDS], table: [0; TABLE_PLACES] };
         plan.words[0] = normal_rate.into();
@@ -247,14 +275,14 @@ fn place_of(job: usize, interval: usize) -> Option<usize> {
 }
 
 fn done(number: u32) -> Result<(), Refusal> {
-    if number == DONE { Ok(()) } else { Err(Refusal::nowhere(number)) }
+    if number == DONE { Ok(()) } else { Err(Refusal::nowhere(number as u8)) }
 }
 
-/// The eight bytes of a job's name inside a plan file; none for a refused file or a position not below its job count.
+/// The bytes of a job's name, where they stand in a plan file; none if the file is refused or has no such job.
 pub fn name(file: &[u8], position: usize) -> Option<&[u8]> {
     // SAFETY: the pointer is valid for the length beside it.
     let at = unsafe { gateway_name(file.as_ptr(), file.len(), position) };
-    if at == 0 { None } else { file.get(at..at + 8) }
+    if at == 0 { None } else { file.get(at..at + NAME_BYTES) }
 }
 
 /// A run of a plan.
@@ -284,7 +312,7 @@ impl Run {
             DISCARDED => Ok(Outcome::Discarded),
             MISSED => Ok(Outcome::Missed),
             OPEN => Ok(Outcome::Open),
-            _ => Err(Refusal::nowhere(number)),
+            _ => Err(Refusal::nowhere(number as u8)),
         }
     }
 

@@ -5,7 +5,7 @@ use std::io::{self, Read, Write};
 
 const OPENING_BYTES: usize = 5;
 
-/// The file is its first five bytes and as many more as the length says, within the limit.
+/// The file ends where its length field says, or at the largest file's length if that is earlier.
 fn file_length(input: &[u8]) -> usize {
     match input {
         [_, a, b, c, d, ..] => {
