@@ -27,6 +27,7 @@ abbrev pub rowTold : RowRead → Step rule.Row
 rowTold (row.Row r next) = got (record { at = r .at; units = r .units }) next
 rowTold (row.Refused number) = no number
 
+-- The refusal number of a row's reading; 0 for a row that was read.
 abbrev pub rowRefusal : RowRead → ℕ
 rowRefusal (row.Row r next) = 0
 rowRefusal (row.Refused number) = number

@@ -121,5 +121,6 @@ abbrev pub shownBy : Step Held → List ℕ → ℕ → List ℕ
 shownBy (got held at) file k = cond (ltb k (held .plan .count)) (take 8 (drop (nameAt k) file)) []
 shownBy (no number) file k = []
 
+-- The name lookup: what is shown at a position of a whole file.
 unfoldable pub nameShown : List ℕ → ℕ → List ℕ
 nameShown file k = shownBy (readFile file) file k

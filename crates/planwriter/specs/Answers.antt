@@ -16,11 +16,12 @@ pub record Writable (p : Plan) (table : List ℕ) : Type 0 where
   pub sized : (i : ℕ) → i < p .count → size p i < 256 ^ 4
   pub exact : length table ≡ places
 
--- The writer's whole result: its answer in the rules' terms, and the output as it is left.
+-- The writer's answer in the rules' terms.
 abbrev pub writtenTold : Written → writing.Answer
 writtenTold (written.Length n) = writing.wrote n
 writtenTold (written.Refused number) = writing.refused number
 
+-- The writer's whole result: its answer and the output as it is left.
 abbrev pub outputTold : Written → List ℕ → writing.Output
 outputTold r out = record { answer = writtenTold r; out = out }
 

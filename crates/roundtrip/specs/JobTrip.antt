@@ -27,12 +27,13 @@ use Rattle.planfile.proofs.Extent.{named-extent}
 use Rattle.planfile.proofs.Roll.{length-snoc, jobs-step, jobs-done}
 use Rattle.roundtrip.specs.Stands.{Stands, stands-none, stands-then, stands-first, stands-rest, stands-at, field-back, field-again}
 
--- The name of a record, both ways.
+-- A name that stands behind its length byte is read.
 pub named-back : (long name : ℕ) (file : List ℕ) (at : ℕ) {n₁ n₂ : ℕ} → field 1 file at ≡ got long n₁ → field 8 file n₁ ≡ got name n₂
     → named long file at ≡ got name n₂
 unfolding named
 named-back long name file at e f = rw (e, eq-eqb long long refl, f)
 
+-- A name that is read behind its length byte stands in the file as both are written.
 pub named-again : (long : ℕ) (file : List ℕ) (at : ℕ) {name next : ℕ} → Octets file → named long file at ≡ got name next
     → Stands file at (bytes 1 long ++ bytes 8 name) next × (name < 256 ^ 8)
 named-again long file at octets e =
@@ -48,6 +49,7 @@ pub record Readable (earlier : List ℕ) (j : Job) : Type 0 where
   pub graded : gradeAllowed (j .grade) ≡ true
   pub bounds : (windowAllowed (j .release .0) (j .deadline .0) && sizeAllowed (j .size .0)) ≡ true
 
+-- An allowed grade fits one byte.
 grade-small : (g : ℕ) → gradeAllowed g ≡ true → g < 256
 grade-small g e = by (eqb g 0) refl (eqb g 1) refl e
   where
@@ -56,16 +58,18 @@ grade-small g e = by (eqb g 0) refl (eqb g 1) refl e
     by false ha true hb e = omega (arith, eqb-true g 1 hb)
     by false ha false hb e = absurd (let z : _≡_ {A = ℕ} 0 1 = cc in omega arith)
 
+-- A job's name is read where its bytes are allowed and no earlier job has it.
 name-back : (earlier file : List ℕ) (at : ℕ) {name next : ℕ} → named jobLength file at ≡ got name next → nameAllowed name ≡ true
     → isAbsent earlier name ≡ true → jobName earlier file at ≡ got name next
 unfolding jobName
 name-back earlier file at e a b = rw (e, a, b)
 
+-- An allowed grade is read from its byte.
 grade-back : (file : List ℕ) (at : ℕ) {g next : ℕ} → field 1 file at ≡ got g next → gradeAllowed g ≡ true
     → checked 1 gradeAllowed wrongGrade file at ≡ got g next
 grade-back file at e g = rw (e, g)
 
--- One job.
+-- A job that stands in the file as it is written is read.
 pub job-back : (earlier : List ℕ) (j : Job) (file : List ℕ) (at : ℕ) {next : ℕ} → Readable earlier j → Stands file at (jobBytes j) next
     → oneJob earlier file at ≡ got j next
 job-back earlier j file at ok s =
@@ -95,6 +99,7 @@ job-back earlier j file at ok s =
     (field-back 4 (j .deadline .0) file (at + length (a ++ b ++ c ++ d ++ e)) (omega arith) (omega (arith, to)) (stands-rest (a ++ b ++ c ++ d ++ e) f s))
     (ok .bounds))
 
+-- A job that is read stands in the file as it is written, and has all that it takes to be read.
 pub job-again : (earlier : List ℕ) (j : Job) (file : List ℕ) (at : ℕ) {next : ℕ} → Octets file → oneJob earlier file at ≡ got j next
     → Stands file at (jobBytes j) next × Readable earlier j
 job-again earlier j file at {next} octets e =
@@ -111,6 +116,7 @@ unfoldable pub spanBytes : Plan → ℕ → ℕ → List ℕ
 spanBytes p i zero = []
 spanBytes p i (suc n) = jobBytes (jobOf p i) ++ spanBytes p (suc i) n
 
+-- The jobs from one on continue those before it.
 pub span-on : (p : Plan) (i n : ℕ) → jobsBytes p i ++ spanBytes p i n ≡ jobsBytes p (i + n)
 unfolding jobsBytes spanBytes
 span-on p i zero = rw (add-zero i) (append-nil (jobsBytes p i))
@@ -118,11 +124,12 @@ span-on p i (suc n) =
     sym (append-assoc (jobsBytes p i) (jobBytes (jobOf p i)) (spanBytes p (suc i) n)) ∙ span-on p (suc i) n
     ∙ ap (jobsBytes p) (suc-add i n ∙ sym (add-suc i n))
 
+-- The jobs from the first on are all of them.
 pub span-whole : (p : Plan) (n : ℕ) → spanBytes p 0 n ≡ jobsBytes p n
 unfolding jobsBytes
 span-whole p n = span-on p 0 n ∙ ap (jobsBytes p) (zero-add n)
 
--- A count of jobs.
+-- Jobs that stand in the file as they are written are read.
 pub jobs-back : (p : Plan) (file : List ℕ) (n i at : ℕ) {next : ℕ} → i + n ≤ length (p .jobs)
     → ((k : ℕ) → i ≤ k → k < i + n → Readable (namesOf (take k (p .jobs))) (jobOf p k))
     → Stands file at (spanBytes p i n) next → allJobs n (take i (p .jobs)) file at ≡ got (take (i + n) (p .jobs)) next
@@ -148,6 +155,7 @@ jobs-keep (suc n) jobs file at all next e k h =
     jobs-keep n (jobs ++ (t .value ∷ [])) file (t .next) all next (t .on) k (omega (arith, length-snoc jobs (t .value)))
     ∙ List·getD-append jobs (t .value ∷ []) noJob k h
 
+-- Jobs that are read stand in the file as they are written.
 pub jobs-again : (p : Plan) (n : ℕ) (jobs : List Job) (file : List ℕ) (at : ℕ) (all : List Job) (next : ℕ) → Octets file
     → ((k : ℕ) → k < length jobs + n → jobOf p k ≡ getD all k noJob) → allJobs n jobs file at ≡ got all next
     → Stands file at (spanBytes p (length jobs) n) next

@@ -78,16 +78,19 @@ rows-counted jobs spans a b same q (u ∷ l) clear =
         ap₂ (λ (x : ℕ) (r : List ℕ). rowBytes x (q % mostIntervals) u ++ r)
         (same (q / mostIntervals) (ltb-true (q / mostIntervals) jobs (d .0))) (rest (c .1))
 
+-- What stands before the rows is read from its three parts.
 front-is : (file : List ℕ) {h : Head} {jobs : List Job} {rows a b c : ℕ} → head mostJobs file 0 ≡ got h a → allJobs (h .count) [] file a ≡ got jobs b
     → checked 2 (λ n. leb n mostRows) tooManyRows file b ≡ got rows c
     → front file 0 ≡ got (record { plan = planOf h jobs; names = namesOf jobs; rows = rows }) c
 unfolding front
 front-is file e₁ e₂ e₃ = rw (e₁, e₂, e₃)
 
+-- A row count within its bound is read from its field.
 count-back : (file : List ℕ) (at : ℕ) {rows next : ℕ} → field 2 file at ≡ got rows next → rows ≤ mostRows
     → checked 2 (λ n. leb n mostRows) tooManyRows file at ≡ got rows next
 count-back file at {rows} e h = rw (e, le-leb rows mostRows h)
 
+-- At the end of the file nothing remains.
 ended-back : (file : List ℕ) (at : ℕ) → at ≡ length file → ended file at ≡ got tt at
 unfolding ended
 ended-back file at e = rw (eq-eqb at (length file) e)

@@ -124,6 +124,7 @@ pub record Proper (q : Plan) (table : List ℕ) : Type 0 where
   pub named : (i : ℕ) → i < q .count → name q i < 256 ^ 8
   pub entries : (k : ℕ) → getD table k 0 < 256 ^ 4
 
+-- What the reader takes can be handed to the writer.
 pub read-proper : (file : List ℕ) → Octets file → {held : Held} {end : ℕ} → readFile file ≡ got held end → Proper (held .plan) (held .table)
 read-proper file octets {held} e =
     let r = file-read file e in

@@ -27,27 +27,31 @@ use Rattle.planwriter.proofs.Pages.{rows-split, count-split}
 use Rattle.roundtrip.specs.Stands.{Stands, stands-none, stands-then, stands-first, stands-rest, stands-at, field-back, field-again}
 use Rattle.roundtrip.specs.JobTrip.{named-back, named-again}
 
--- Zeros have no rows, and nothing in them is stray.
+-- Zeros have no rows.
 zeros-rows : (names : List ℕ) (q m : ℕ) → rowsBytes mostIntervals names q (replicate m 0) ≡ []
 unfolding rowsBytes
 zeros-rows names q zero = refl
 zeros-rows names q (suc m) = zeros-rows names (suc q) m
 
+-- Zeros count no rows.
 zeros-count : (m : ℕ) → rowCount (replicate m 0) ≡ 0
 unfolding rowCount
 zeros-count zero = refl
 zeros-count (suc m) = zeros-count m
 
+-- Nothing in zeros is stray.
 zeros-clear : (jobs spans q m : ℕ) → noStray mostIntervals jobs spans q (replicate m 0) ≡ true
 unfolding noStray
 zeros-clear jobs spans q zero = refl
 zeros-clear jobs spans q (suc m) = zeros-clear jobs spans (suc q) m
 
+-- Zeros fit 32 bits.
 zeros-small : (m k : ℕ) → getD (replicate m 0) k 0 < 256 ^ 4
 zeros-small zero k = lit< tt
 zeros-small (suc m) zero = lit< tt
 zeros-small (suc m) (suc k) = zeros-small m k
 
+-- Numbers without stray places, one part behind the other, have none together.
 clear-split : (jobs spans q : ℕ) (a b : List ℕ) → noStray mostIntervals jobs spans q a ≡ true → noStray mostIntervals jobs spans (q + length a) b ≡ true
     → noStray mostIntervals jobs spans q (a ++ b) ≡ true
 unfolding noStray
@@ -56,6 +60,7 @@ clear-split jobs spans q (u ∷ a) b ha hb =
     let h = both (eqb u 0 || ltb (q / mostIntervals) jobs && ltb (q % mostIntervals) spans) (noStray mostIntervals jobs spans (suc q) a) ha in
     rw (h .0) (clear-split jobs spans (suc q) a b (h .1) (rw (add-suc q (length a) ∙ sym (suc-add q (length a))) at hb))
 
+-- Numbers that fit 32 bits, one part behind the other, do so together.
 small-split : (a b : List ℕ) → ((k : ℕ) → getD a k 0 < 256 ^ 4) → ((k : ℕ) → getD b k 0 < 256 ^ 4) → (k : ℕ) → getD (a ++ b) k 0 < 256 ^ 4
 small-split [] b ha hb k = hb k
 small-split (x ∷ a) b ha hb zero = ha 0

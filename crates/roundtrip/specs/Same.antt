@@ -42,10 +42,12 @@ rows-names width a b same q (u ∷ l) = rw (same (q / width)) (ap (λ r. rowAt w
 abbrev pub kept : Plan → Plan
 kept p = planOf (record { n = p .n .0; d = p .d .0; count = p .count }) (take (p .count) (p .jobs))
 
+-- The counted jobs are read back as they were.
 pub kept-job : (p : Plan) (i : ℕ) → i < p .count → jobOf (kept p) i ≡ jobOf p i
 kept-job p i h =
     getD-pad (take (p .count) (p .jobs)) (mostJobs - length (take (p .count) (p .jobs))) i noJob ∙ getD-take (p .count) (p .jobs) i noJob h
 
+-- Plans with the same jobs have the same boundaries.
 boundaries-same : (p q : Plan) (n : ℕ) → ((i : ℕ) → i < n → jobOf p i ≡ jobOf q i) → boundariesTo p n ≡ boundariesTo q n
 unfolding boundariesTo
 boundaries-same p q zero h = refl
@@ -54,6 +56,7 @@ boundaries-same p q (suc n) h =
     ap₂ insert (ap (λ (j : Job). j .deadline .0) e)
     (ap₂ insert (ap (λ (j : Job). j .release .0) e) (boundaries-same p q n (λ i l. h i (omega arith))))
 
+-- The plan as it is read back has as many intervals.
 pub kept-intervals : (p : Plan) → intervals (kept p) ≡ intervals p
 kept-intervals p = ap (λ l. length l - 1) (boundaries-same (kept p) p (counted p) (λ i h. kept-job p i (omega arith)))
 

@@ -20,6 +20,7 @@ use Rattle.roundtrip.specs.JobTrip.{spanBytes, span-on, span-whole, jobs
 use Rattle.roundtrip.specs.Same.{getD-pad}
 use Rattle.roundtrip.specs.WriteAfterRead.{FileRead, file-read}
 
+-- The first of several jobs stands in front.
 span-first : (p : Plan) (k m : ℕ) → spanBytes p k (suc m) ≡ jobBytes (jobOf p k) ++ spanBytes p (suc k) m
 unfolding spanBytes
 span-first p k m = refl

@@ -18,9 +18,11 @@ pub record Stands (file : List ℕ) (at : ℕ) (bs : List ℕ) (next : ℕ) : Ty
   pub is : drop at file ≡ bs ++ drop next file
   pub ends : next ≡ at + length bs
 
+-- No bytes stand everywhere.
 pub stands-none : (file : List ℕ) (at : ℕ) → Stands file at [] at
 stands-none file at = record { is = refl; ends = sym (add-zero at) }
 
+-- Bytes that stand where others end stand behind them.
 pub stands-then : {file : List ℕ} {at next end : ℕ} {a b : List ℕ} → Stands file at a next → Stands file next b end → Stands file at (a ++ b) end
 stands-then {file} {end = end} {a = a} {b = b} s t =
     record {
@@ -28,7 +30,7 @@ stands-then {file} {end = end} {a = a} {b = b} s t =
       ends = rw (length-append a b) (omega (arith, s .ends, t .ends));
     }
 
--- Of bytes that stand one behind the other, each stands.
+-- Of two parts that stand, the second stands behind the first.
 pub stands-rest : {file : List ℕ} {at end : ℕ} (a b : List ℕ) → Stands file at (a ++ b) end → Stands file (at + length a) b end
 stands-rest {file} {at} {end} a b s =
     record {
@@ -37,6 +39,7 @@ stands-rest {file} {at} {end} a b s =
       ends = s .ends ∙ rw (length-append a b) (omega arith);
     }
 
+-- Of two parts that stand, the first stands.
 pub stands-first : {file : List ℕ} {at end : ℕ} (a b : List ℕ) → Stands file at (a ++ b) end → Stands file at a (at + length a)
 stands-first {file} {at} {end} a b s =
     record {
@@ -44,23 +47,26 @@ stands-first {file} {at} {end} a b s =
       ends = refl;
     }
 
+-- The next place may be given as any equal number.
 pub stands-at : {file : List ℕ} {at next end : ℕ} {bs : List ℕ} → Stands file at bs next → next ≡ end → Stands file at bs end
 stands-at s e = rw e at s
 
+-- The bytes may be given as any equal bytes.
 pub stands-as : {file : List ℕ} {at next : ℕ} {a b : List ℕ} → Stands file at a next → a ≡ b → Stands file at b next
 stands-as s e = rw e at s
 
--- Parts of bytes are bytes.
+-- What follows some bytes is bytes.
 pub octets-drop : (n : ℕ) (l : List ℕ) → Octets l → Octets (drop n l)
 octets-drop n l h k = rw (getD-drop n l k 0) (h (n + k))
 
+-- The first of some bytes are bytes.
 pub octets-take : (n : ℕ) (l : List ℕ) → Octets l → Octets (take n l)
 octets-take zero l h k = lit< tt
 octets-take (suc n) [] h k = lit< tt
 octets-take (suc n) (x ∷ l) h zero = h 0
 octets-take (suc n) (x ∷ l) h (suc k) = octets-take n l (λ j. h (suc j)) k
 
--- A field, both ways, at any width.
+-- A number that stands in the file as it is written, and fits its width, is read.
 pub field-back : (w x : ℕ) (file : List ℕ) (at : ℕ) {next : ℕ} → 1 ≤ w → x < 256 ^ w → Stands file at (bytes w x) next → field w file at ≡ got x next
 field-back w x file at {next} some small s =
     let n = length-bytes w x in
@@ -70,6 +76,7 @@ field-back w x file at {next} some small s =
     sym (field-whole w file at (omega (arith, long)) (sym (ap (value 0) front ∙ value-bytes w x small)))
     ∙ ap (got x) (sym (s .ends ∙ ap (λ k. at + k) n))
 
+-- A field that is read stands in the file as its value is written, and the value fits its width.
 pub field-again : (w : ℕ) (file : List ℕ) (at : ℕ) {x next : ℕ} → Octets file → field w file at ≡ got x next
     → Stands file at (bytes w x) next × (x < 256 ^ w)
 field-again w file at {x} {next} octets e =

@@ -44,6 +44,7 @@ pub record FileRead (file : List ℕ) (held : Held) : Type 0 where
   pub fine : Fine (record { plan = planOf h jobs; names = namesOf jobs; rows = rows })
   pub is : held .plan ≡ planOf h jobs
 
+-- Where nothing remains, the file is at its end.
 ended-at : (file : List ℕ) (at : ℕ) {u : Unit {0}} {end : ℕ} → ended file at ≡ got u end → at ≡ length file
 unfolding ended
 ended-at file at e = by (eqb at (length file)) refl e
@@ -77,6 +78,7 @@ front-parts file {last = last} {h = h} {jobs} {rows} {n₁} {n₂} {n₃} fine e
       is = ap (λ (h : Held). h .plan) (sym held) ∙ ap (λ (f : Front). f .plan) (sym f);
     }
 
+-- A file that is read has all its parts.
 pub file-read : (file : List ℕ) {held : Held} {end : ℕ} → readFile file ≡ got held end → FileRead file held
 unfolding planFile front
 file-read file e =
@@ -88,6 +90,7 @@ file-read file e =
     let u₂ = through (ended file (u₁ .next)) (u₁ .on) in
     front-parts file (front-fine file (t .is)) (t₁ .is) (t₂ .is) (t₃ .is) (same-value (t₃ .on)) (same-next (t₃ .on)) (u₁ .is) (u₂ .is) (same-value (u₂ .on))
 
+-- A first byte of 1 is the written version.
 version-stands : (file : List ℕ) → 0 < length file → getD file 0 0 ≡ 1 → Stands file 0 (bytes 1 1) 1
 unfolding bytes
 version-stands file h e = record { is = drop-cons file 0 0 h ∙ ap (λ x. x ∷ drop 1 file) e; ends = refl }
