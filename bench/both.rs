@@ -2,6 +2,9 @@
 //!
 //! It first compares what both answer, and stops if they differ.
 
+#[path = "../hosts/rust/calls.rs"]
+mod calls;
+
 use std::arch::global_asm;
 use std::env;
 use std::hint::black_box;
@@ -9,25 +12,10 @@ use std::process::ExitCode;
 
 use bench::inputs::{Input, Shape, LARGEST_FILE};
 use bench::{judge, read, slack, step, write, Plan, Run, Slack, Verdict, MOST_JOBS, PLACES};
+use calls::*;
 
 const USAGE: &str = "usage: both count usual|full|file JOBS
        both stack";
-
-const PLAN_WORDS: usize = 163;
-const RUN_WORDS: usize = 35;
-const PLACE_WORDS: usize = 2;
-
-#[link(name = "gateway", kind = "static")]
-extern "C" {
-    fn gateway_read(file: *const u8, file_length: usize, plan: *mut u64, plan_length: usize, table: *mut u32, table_length: usize) -> u32;
-    fn gateway_write(plan: *const u64, plan_length: usize, table: *const u32, table_length: usize, out: *mut u8, out_length: usize, written: *mut usize) -> u32;
-    fn gateway_name(file: *const u8, file_length: usize, position: usize) -> usize;
-    fn gateway_judge(plan: *const u64, plan_length: usize, table: *const u32, table_length: usize, place: *mut u64, place_length: usize) -> u32;
-    fn gateway_slack(plan: *const u64, plan_length: usize, table: *const u32, table_length: usize, slack: *mut i64, place: *mut u64, place_length: usize) -> u32;
-    fn gateway_start(plan: *const u64, plan_length: usize, table: *const u32, table_length: usize, run: *mut u32, run_length: usize, place: *mut u64, place_length: usize) -> u32;
-    fn gateway_step(plan: *const u64, plan_length: usize, table: *const u32, table_length: usize, run: *mut u32, run_length: usize, speed: u16, grants: *mut u32, grants_length: usize) -> u32;
-    fn gateway_outcome(plan: *const u64, plan_length: usize, run: *const u32, run_length: usize, position: usize) -> u32;
-}
 
 fn main() -> ExitCode {
     let words: Vec<String> = env::args().skip(1).collect();

@@ -2,17 +2,18 @@
 //!
 //! A [`Plan`] and a [`Run`] own the memory that the library works on. Every refusal is a [`Refusal`] with its number, its place and its words.
 
+mod calls;
+
 use std::fmt;
+
+use calls::*;
 
 pub const MOST_JOBS: usize = 32;
 pub const MOST_INTERVALS: usize = 63;
 pub const LARGEST_FILE: usize = 30_956;
 pub const NAME_BYTES: usize = 8;
 
-const PLAN_WORDS: usize = 163;
 const TABLE_PLACES: usize = MOST_JOBS * MOST_INTERVALS;
-const RUN_WORDS: usize = 35;
-const PLACE_WORDS: usize = 2;
 
 const HEAD_WORDS: usize = 3;
 const JOB_WORDS: usize = 5;
@@ -24,19 +25,6 @@ const MET: u32 = 257;
 const DISCARDED: u32 = 258;
 const MISSED: u32 = 259;
 const OPEN: u32 = 260;
-
-// The declarations of gateway.h; nothing checks one against the other.
-#[link(name = "gateway", kind = "static")]
-extern "C" {
-    fn gateway_read(file: *const u8, file_length: usize, plan: *mut u64, plan_length: usize, table: *mut u32, table_length: usize) -> u32;
-    fn gateway_write(plan: *const u64, plan_length: usize, table: *const u32, table_length: usize, out: *mut u8, out_length: usize, written: *mut usize) -> u32;
-    fn gateway_name(file: *const u8, file_length: usize, position: usize) -> usize;
-    fn gateway_judge(plan: *const u64, plan_length: usize, table: *const u32, table_length: usize, place: *mut u64, place_length: usize) -> u32;
-    fn gateway_slack(plan: *const u64, plan_length: usize, table: *const u32, table_length: usize, slack: *mut i64, place: *mut u64, place_length: usize) -> u32;
-    fn gateway_start(plan: *const u64, plan_length: usize, table: *const u32, table_length: usize, run: *mut u32, run_length: usize, place: *mut u64, place_length: usize) -> u32;
-    fn gateway_step(plan: *const u64, plan_length: usize, table: *const u32, table_length: usize, run: *mut u32, run_length: usize, speed: u16, grants: *mut u32, grants_length: usize) -> u32;
-    fn gateway_outcome(plan: *const u64, plan_length: usize, run: *const u32, run_length: usize, position: usize) -> u32;
-}
 
 /// The numbers of refusals, named as in `gateway.h`.
 pub mod refusal {

@@ -1,6 +1,8 @@
 //! The plans to try, P1 to P12, and the four short cases that follow them.
 
-use crate::common::{answer, e_file, e_plan, e_table, e_with, hi, lo, plan_of, table_of, ROW_3};
+use crate::common::{
+    answer, e_file, e_plan, e_table, e_with, hi, least, lo, plan_of, table_of, ROW_3,
+};
 use reference::judge::judge;
 use reference::plan::Plan;
 use reference::refusal::{
@@ -9,14 +11,6 @@ use reference::refusal::{
 };
 use reference::run::{start, step};
 use reference::slack::{slack_figure, slack_of_pair, SlackFigure};
-
-fn least(slack: i64, interval: u64, deadline: u32) -> Result<SlackFigure, Refusal> {
-    Ok(SlackFigure::Least {
-        slack,
-        interval,
-        deadline,
-    })
-}
 
 fn four_jobs() -> Plan {
     plan_of(&[

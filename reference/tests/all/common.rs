@@ -3,8 +3,9 @@
 use reference::edition::{HI, LO, TABLE_PLACES};
 use reference::plan::{Job, Plan};
 use reference::reader::reader;
-use reference::refusal::{GRADE, JOB_COUNT, NAME_BYTE, NAME_TWICE, RATES, TIMES_OR_SIZE};
+use reference::refusal::{Refusal, GRADE, JOB_COUNT, NAME_BYTE, NAME_TWICE, RATES, TIMES_OR_SIZE};
 use reference::run::Run;
+use reference::slack::SlackFigure;
 
 /// Where the parts of plan E's file stand.
 pub const JOB_0: usize = 10;
@@ -110,6 +111,15 @@ pub fn e_plan() -> Plan {
 
 pub fn e_table() -> Vec<u32> {
     table_of(&[&[2, 4, 0], &[0, 4, 4]])
+}
+
+/// The answer of a slack figure with its first pair.
+pub fn least(slack: i64, interval: u64, deadline: u32) -> Result<SlackFigure, Refusal> {
+    Ok(SlackFigure::Least {
+        slack,
+        interval,
+        deadline,
+    })
 }
 
 /// A run of plan E made by hand.

@@ -1,6 +1,6 @@
 //! The slack of a pair and the slack figure.
 
-use crate::common::{broken_plans, e_plan, e_table, hi, lo, plan_of, table_of};
+use crate::common::{broken_plans, e_plan, e_table, hi, least, lo, plan_of, table_of};
 use reference::plan::Plan;
 use reference::refusal::{Refusal, ABOVE_RATE, NOT_THE_SIZE, OUTSIDE_WINDOW, TOO_SHORT, UNSOUND};
 use reference::slack::{slack_figure, slack_of_pair, SlackFigure};
@@ -34,51 +34,31 @@ fn slack_of_a_table_never_judged_is_exact_far_below_zero() {
 fn figure_is_taken_over_essential_deadlines_only() {
     // Over all boundaries this pair would be the first of those with slack 1.
     assert_eq!(slack_of_pair(&e_plan(), &e_table(), 0, 1), 1);
-    let figure = SlackFigure::Least {
-        slack: 1,
-        interval: 1,
-        deadline: 10,
-    };
-    assert_eq!(slack_figure(&e_plan(), &e_table()), Ok(figure));
+    assert_eq!(slack_figure(&e_plan(), &e_table()), least(1, 1, 10));
 }
 
 #[test]
 fn equal_slacks_answer_with_the_lower_interval() {
     // Intervals 1 and 2 of plan E both have 1 to spare.
     assert_eq!(slack_of_pair(&e_plan(), &e_table(), 2, 10), 1);
-    let figure = SlackFigure::Least {
-        slack: 1,
-        interval: 1,
-        deadline: 10,
-    };
-    assert_eq!(slack_figure(&e_plan(), &e_table()), Ok(figure));
+    assert_eq!(slack_figure(&e_plan(), &e_table()), least(1, 1, 10));
 }
 
 #[test]
 fn equal_slacks_of_one_interval_answer_with_the_lower_deadline() {
     let plan = plan_of(&[hi(b"later-hi", 0, 1, 2), hi(b"early-hi", 0, 1, 1)]);
-    let figure = SlackFigure::Least {
-        slack: 0,
-        interval: 0,
-        deadline: 1,
-    };
     assert_eq!(
         slack_figure(&plan, &table_of(&[&[1, 0], &[1, 0]])),
-        Ok(figure)
+        least(0, 0, 1)
     );
 }
 
 #[test]
 fn lesser_slack_of_a_later_interval_goes_before_a_greater_one() {
     let plan = plan_of(&[hi(b"later-hi", 0, 1, 4), hi(b"early-hi", 0, 1, 3)]);
-    let figure = SlackFigure::Least {
-        slack: 0,
-        interval: 1,
-        deadline: 4,
-    };
     assert_eq!(
         slack_figure(&plan, &table_of(&[&[0, 1], &[1, 0]])),
-        Ok(figure)
+        least(0, 1, 4)
     );
 }
 
@@ -135,13 +115,8 @@ fn each_broken_rule_and_a_stray_place_are_21() {
 fn greatest_shortfall_is_exact() {
     let mut plan = plan_of(&[hi(b"only-job", 0, 100_000_000, 100_000)]);
     plan.n = 1_000;
-    let figure = SlackFigure::Least {
-        slack: -99_900_000,
-        interval: 0,
-        deadline: 100_000,
-    };
     assert_eq!(
         slack_figure(&plan, &table_of(&[&[100_000_000]])),
-        Ok(figure)
+        least(-99_900_000, 0, 100_000)
     );
 }
