@@ -27,12 +27,14 @@ extern "C" {
 /* A plan lives in 163 words of 64 bits beside its table. The words are n, d and the job count, then for each of 32 jobs name, grade
  * (0 LO, 1 HI), release, size and deadline. A name is its eight bytes as one number, the first byte highest. A word that is too large for
  * what it says means the largest number that could stand there, and no rule allows that number. Jobs from the count on are not looked at. */
-#define GATEWAY_PLAN_WORDS 163
+#define GATEWAY_HEAD_WORDS 3
+#define GATEWAY_JOB_WORDS 5
+#define GATEWAY_PLAN_WORDS (GATEWAY_HEAD_WORDS + GATEWAY_JOB_WORDS * GATEWAY_MOST_JOBS)
 #define GATEWAY_NORMAL_RATE 0
 #define GATEWAY_FLOOR 1
 #define GATEWAY_JOB_COUNT 2
 /* Where the words of job i begin, and which of them says what. */
-#define GATEWAY_JOB(i) (3 + 5 * (size_t)(i))
+#define GATEWAY_JOB(i) (GATEWAY_HEAD_WORDS + GATEWAY_JOB_WORDS * (size_t)(i))
 #define GATEWAY_JOB_NAME 0
 #define GATEWAY_JOB_GRADE 1
 #define GATEWAY_JOB_RELEASE 2
@@ -40,16 +42,17 @@ extern "C" {
 #define GATEWAY_JOB_DEADLINE 4
 
 /* The table is made of words of 32 bits, one for each job and interval: GATEWAY_PLACE(i, j) is where job i's units in interval j are. */
-#define GATEWAY_TABLE_PLACES 2016
+#define GATEWAY_TABLE_PLACES (GATEWAY_MOST_JOBS * GATEWAY_MOST_INTERVALS)
 #define GATEWAY_PLACE(i, j) (GATEWAY_MOST_INTERVALS * (size_t)(i) + (size_t)(j))
 
 /* A run lives in 35 words of 32 bits: the clock, the slow mark, the below-floor mark, and the units carried for each of 32 jobs.
  * A mark is 0 or 1; any other mark is refused by 21. */
-#define GATEWAY_RUN_WORDS 35
+#define GATEWAY_MARK_WORDS 3
+#define GATEWAY_RUN_WORDS (GATEWAY_MARK_WORDS + GATEWAY_MOST_JOBS)
 #define GATEWAY_CLOCK 0
 #define GATEWAY_SLOW 1
 #define GATEWAY_BELOW_FLOOR 2
-#define GATEWAY_CARRIED(i) (3 + (size_t)(i))
+#define GATEWAY_CARRIED(i) (GATEWAY_MARK_WORDS + (size_t)(i))
 
 /* A place has two words of 64 bits: with 15 job and interval, with 16 job and 0, with 17 interval and 0, with 18 interval and deadline,
  * with any other answer of judge and start 0 and 0. */

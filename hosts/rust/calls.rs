@@ -1,7 +1,14 @@
 //! The calls of `libgateway.a` and the sizes of what is lent to them, as `gateway.h` declares them; nothing checks one against the other.
 
-pub const PLAN_WORDS: usize = 163;
-pub const RUN_WORDS: usize = 35;
+pub const MOST_JOBS: usize = 32;
+
+// The rates and the job count; each job; the clock and both marks.
+pub const HEAD_WORDS: usize = 3;
+pub const JOB_WORDS: usize = 5;
+pub const MARK_WORDS: usize = 3;
+
+pub const PLAN_WORDS: usize = HEAD_WORDS + JOB_WORDS * MOST_JOBS;
+pub const RUN_WORDS: usize = MARK_WORDS + MOST_JOBS;
 pub const PLACE_WORDS: usize = 2;
 
 #[link(name = "gateway", kind = "static")]

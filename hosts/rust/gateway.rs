@@ -6,18 +6,14 @@ mod calls;
 
 use std::fmt;
 
+pub use calls::MOST_JOBS;
 use calls::*;
 
-pub const MOST_JOBS: usize = 32;
 pub const MOST_INTERVALS: usize = 63;
 pub const LARGEST_FILE: usize = 30_956;
 pub const NAME_BYTES: usize = 8;
 
 const TABLE_PLACES: usize = MOST_JOBS * MOST_INTERVALS;
-
-const HEAD_WORDS: usize = 3;
-const JOB_WORDS: usize = 5;
-const MARK_WORDS: usize = 3;
 
 const DONE: u32 = 0;
 const NONE_ESSENTIAL: u32 = 256;
