@@ -1,7 +1,8 @@
 // The reader's refusals, each on plan E's file with one change.
+use crate::fields::read_with;
 use plan::edition::Edition;
 use planfile::lookup::name_of;
-use planfile::reader::Reading;
+use planfile::reader::Answer;
 use planfile::reader::read;
 use report::answers::read_number;
 use report::example::BYTES;
@@ -16,24 +17,25 @@ use report::text::put_word;
 
 const LINE: usize = 80;
 
-fn reader_line(text: &mut [u8], name: &[u8], r: Reading) -> usize {
-    let answer = r.answer;
-    let begun = put_word(text, 0, b"reader, ");
+fn reader_line(text: &mut [u8], group: &[u8], name: &[u8], number: u8) -> usize {
+    let begun = put_word(text, 0, group);
     let named = put_word(text, begun, name);
-    let told = put_next_number(text, named, read_number(answer) as u64);
+    let told = put_next_number(text, named, number as u64);
     end_line(text, told)
 }
 
-fn print_reading(name: &[u8], r: Reading) -> bool {
+pub fn print_answer(group: &[u8], name: &[u8], answer: Answer) -> bool {
     let mut text = [0u8; LINE];
-    let length = reader_line(&mut text, name, r);
+    let length = reader_line(&mut text, group, name, read_number(answer));
     print(&text, length)
 }
 
-// Plan E with other bytes at a place.
-pub fn changed(name: &[u8], at: usize, bytes: &[u8]) -> bool {
+// Plan E with another number in the field at a place.
+pub fn changed(name: &[u8], at: usize, left_out: usize, number: u64) -> bool {
     let mut table = [0u32; Edition::PLACES];
-    print_reading(name, read_changed(at, bytes, &mut table))
+    let reading = read_with(at, left_out, number, &mut table);
+    let answer = reading.answer;
+    print_answer(b"reader, ", name, answer)
 }
 
 // The first bytes of plan E's file.
@@ -41,7 +43,9 @@ pub fn cut(name: &[u8], length: usize) -> bool {
     let mut file = [0u8; BYTES];
     let mut table = [0u32; Edition::PLACES];
     lay_changed(&mut file, 0, b"");
-    print_reading(name, read(part(&file, length), &mut table))
+    let reading = read(part(&file, length), &mut table);
+    let answer = reading.answer;
+    print_answer(b"reader, ", name, answer)
 }
 
 // Plan E's file and a byte more.
@@ -49,13 +53,17 @@ pub fn longer(name: &[u8]) -> bool {
     let mut file = [0u8; BYTES + 1];
     let mut table = [0u32; Edition::PLACES];
     lay_changed(&mut file, 0, b"\x01\x00\x00\x00\x70");
-    print_reading(name, read(&file, &mut table))
+    let reading = read(&file, &mut table);
+    let answer = reading.answer;
+    print_answer(b"reader, ", name, answer)
 }
 
 // Plan E and a table with a place too few.
 pub fn short_table(name: &[u8]) -> bool {
     let mut table = [0u32; Edition::PLACES - 1];
-    print_reading(name, read_changed(0, b"", &mut table))
+    let reading = read_changed(0, b"", &mut table);
+    let answer = reading.answer;
+    print_answer(b"reader, ", name, answer)
 }
 
 fn name_line(text: &mut [u8], position: usize, name: &[u8]) -> usize {

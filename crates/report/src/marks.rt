@@ -1,4 +1,4 @@
-// The marks that lent buffers hold beforehand, never zero.
+// Lent buffers: the marks that they hold beforehand, never zero, and their first places.
 
 // The bytes of a marked output rise from 1 and begin anew after so many.
 const OUTPUT_CYCLE: usize = 250;
@@ -26,4 +26,12 @@ pub fn mark_output(output: &mut [u8]) {
         output[k] = 1 + (k % OUTPUT_CYCLE) as u8;
         k += 1;
     }
+}
+
+// The first places, or all where there are fewer.
+pub fn first(buffer: &[u32], places: usize) -> &[u32] {
+    if buffer.len() < places {
+        return buffer;
+    }
+    &buffer[..places]
 }
