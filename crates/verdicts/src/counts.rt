@@ -1,88 +1,99 @@
-// Counts over all printed answers, in one lent row: the inputs, each refusal at its number, the outcomes, the modes.
+// Counts over all printed answers, in one row: the inputs, each refusal at its number, the outcomes, the modes.
 use crate::numbers::after;
 use dispatch::answers::Answer;
 use dispatch::answers::Outcome;
+use plan::refusal::BUFFER_TOO_SHORT;
 use report::answers::DONE;
 use report::text::end_line;
-use report::text::put_named;
 use report::text::put_next_number;
 use report::text::put_word;
 
 const INPUTS: usize = 0;
 
-const LAST_REFUSAL: usize = 22;
+const LAST_REFUSAL: usize = BUFFER_TOO_SHORT as usize;
 
-const MET: usize = 23;
+const MET: usize = LAST_REFUSAL + 1;
 
-const DISCARDED: usize = 24;
+const DISCARDED: usize = LAST_REFUSAL + 2;
 
-const MISSED: usize = 25;
+const MISSED: usize = LAST_REFUSAL + 3;
 
-const OPEN: usize = 26;
+const OPEN: usize = LAST_REFUSAL + 4;
 
-const NORMAL: usize = 27;
+const NORMAL: usize = LAST_REFUSAL + 5;
 
-const DEGRADED: usize = 28;
+const DEGRADED: usize = LAST_REFUSAL + 6;
 
-pub const COUNTS: usize = 29;
+const COUNTS: usize = LAST_REFUSAL + 7;
 
-fn count(counts: &mut [u64], which: usize) {
-    if counts.len() <= which {
-        return;
-    }
-    let so_far = counts[which];
-    counts[which] = after(so_far);
+// The counts so far.
+pub struct Counts {
+    of: [u64; COUNTS],
 }
 
-fn counted(counts: &[u64], which: usize) -> u64 {
-    if counts.len() <= which {
+pub fn no_counts() -> Counts {
+    Counts { of: [0u64; COUNTS] }
+}
+
+fn count(c: Counts, which: usize) -> Counts {
+    let mut of = c.of;
+    if COUNTS <= which {
+        return Counts { of };
+    }
+    let so_far = of[which];
+    of[which] = after(so_far);
+    Counts { of }
+}
+
+fn counted(c: Counts, which: usize) -> u64 {
+    if COUNTS <= which {
         return 0;
     }
-    counts[which]
+    c.of[which]
 }
 
-pub fn count_input(counts: &mut [u64]) {
-    count(counts, INPUTS)
+pub fn count_input(c: Counts) -> Counts {
+    count(c, INPUTS)
 }
 
-pub fn inputs(counts: &[u64]) -> u64 {
-    counted(counts, INPUTS)
+pub fn inputs(c: Counts) -> u64 {
+    counted(c, INPUTS)
 }
 
-pub fn count_refusal(counts: &mut [u64], number: u8) {
+pub fn count_refusal(c: Counts, number: u8) -> Counts {
     if number == DONE {
-        return;
+        return c;
     }
-    count(counts, number as usize)
+    count(c, number as usize)
 }
 
 // Counts a step: its mode, by the slow mark after it, or its refusal.
-pub fn count_step(counts: &mut [u64], a: Answer, slow: bool) {
+pub fn count_step(c: Counts, a: Answer, slow: bool) -> Counts {
     match a {
         Answer::Done => {
             if slow {
-                count(counts, DEGRADED)
+                count(c, DEGRADED)
             } else {
-                count(counts, NORMAL)
+                count(c, NORMAL)
             }
         }
-        Answer::Refused(number) => count_refusal(counts, number),
+        Answer::Refused(number) => count_refusal(c, number),
     }
 }
 
-pub fn count_outcome(counts: &mut [u64], o: Outcome) {
+pub fn count_outcome(c: Counts, o: Outcome) -> Counts {
     match o {
-        Outcome::Met => count(counts, MET),
-        Outcome::Discarded => count(counts, DISCARDED),
-        Outcome::Missed => count(counts, MISSED),
-        Outcome::Open => count(counts, OPEN),
-        Outcome::Refused(number) => count_refusal(counts, number),
+        Outcome::Met => count(c, MET),
+        Outcome::Discarded => count(c, DISCARDED),
+        Outcome::Missed => count(c, MISSED),
+        Outcome::Open => count(c, OPEN),
+        Outcome::Refused(number) => count_refusal(c, number),
     }
 }
 
-fn count_line(text: &mut [u8], at: usize, group: &[u8], word: &[u8], number: u64) -> usize {
-    let begun = put_word(text, at, group);
-    let told = put_named(text, begun, word, number);
+fn count_line(text: &mut [u8], at: usize, name: &[u8], number: u64) -> usize {
+    let begun = put_word(text, at, name);
+    let told = put_next_number(text, begun, number);
     end_line(text, told)
 }
 
@@ -93,50 +104,32 @@ fn refusal_line(text: &mut [u8], at: usize, which: usize, number: u64) -> usize 
     end_line(text, counted)
 }
 
-fn refusal_lines(text: &mut [u8], at: usize, counts: &[u64]) -> usize {
+fn refusal_lines(text: &mut [u8], at: usize, c: Counts) -> usize {
     let mut next = at;
     let mut which = 1;
     while which <= LAST_REFUSAL {
-        next = refusal_line(text, next, which, counted(counts, which));
+        next = refusal_line(text, next, which, counted(c, which));
         which += 1;
     }
     next
 }
 
-fn outcome_lines(text: &mut [u8], at: usize, counts: &[u64]) -> usize {
-    let met = count_line(text, at, b"outcome", b"met", counted(counts, MET));
-    let discarded = count_line(
-        text,
-        met,
-        b"outcome",
-        b"discarded",
-        counted(counts, DISCARDED),
-    );
-    let missed = count_line(
-        text,
-        discarded,
-        b"outcome",
-        b"missed",
-        counted(counts, MISSED),
-    );
-    count_line(text, missed, b"outcome", b"open", counted(counts, OPEN))
+fn outcome_lines(text: &mut [u8], at: usize, c: Counts) -> usize {
+    let met = count_line(text, at, b"outcome met", counted(c, MET));
+    let discarded = count_line(text, met, b"outcome discarded", counted(c, DISCARDED));
+    let missed = count_line(text, discarded, b"outcome missed", counted(c, MISSED));
+    count_line(text, missed, b"outcome open", counted(c, OPEN))
 }
 
-fn inputs_line(text: &mut [u8], at: usize, counts: &[u64]) -> usize {
-    let begun = put_word(text, at, b"inputs");
-    let told = put_next_number(text, begun, inputs(counts));
-    end_line(text, told)
-}
-
-fn mode_lines(text: &mut [u8], at: usize, counts: &[u64]) -> usize {
-    let normal = count_line(text, at, b"mode", b"N", counted(counts, NORMAL));
-    count_line(text, normal, b"mode", b"D", counted(counts, DEGRADED))
+fn mode_lines(text: &mut [u8], at: usize, c: Counts) -> usize {
+    let normal = count_line(text, at, b"mode N", counted(c, NORMAL));
+    count_line(text, normal, b"mode D", counted(c, DEGRADED))
 }
 
 // One line for each count.
-pub fn count_lines(text: &mut [u8], counts: &[u64]) -> usize {
-    let inputs = inputs_line(text, 0, counts);
-    let refusals = refusal_lines(text, inputs, counts);
-    let outcomes = outcome_lines(text, refusals, counts);
-    mode_lines(text, outcomes, counts)
+pub fn count_lines(text: &mut [u8], c: Counts) -> usize {
+    let inputs = count_line(text, 0, b"inputs", inputs(c));
+    let refusals = refusal_lines(text, inputs, c);
+    let outcomes = outcome_lines(text, refusals, c);
+    mode_lines(text, outcomes, c)
 }

@@ -3,11 +3,15 @@ mod counts;
 mod hand;
 mod lines;
 mod numbers;
+mod plans;
+mod steps;
 
-use crate::counts::COUNTS;
+use crate::counts::Counts;
 use crate::counts::count_input;
 use crate::counts::count_lines;
+use crate::counts::count_refusal;
 use crate::counts::inputs;
+use crate::counts::no_counts;
 use crate::hand::RUN_BYTES;
 use crate::hand::entries_from;
 use crate::hand::lay_entries;
@@ -15,29 +19,31 @@ use crate::hand::plan_from;
 use crate::hand::run_bytes_from;
 use crate::hand::run_from;
 use crate::lines::input_line;
-use crate::lines::judge_line;
 use crate::lines::names_line;
-use crate::lines::outcomes_line;
 use crate::lines::reader_line;
-use crate::lines::run_lines;
-use crate::lines::slack_lines;
-use crate::lines::start_line;
-use crate::lines::writer_line;
 use crate::numbers::byte_at;
 use crate::numbers::four;
 use crate::numbers::two;
+use crate::plans::answers_of;
+use crate::plans::plan_lines;
+use crate::steps::Page;
+use crate::steps::outcomes_line;
+use crate::steps::run_lines;
 use dispatch::Run;
-use dispatch::start::start;
 use judge::answers::is_accepted;
 use libc::STDIN_FILENO;
 use plan::edition::Edition;
 use plan::kinds::Plan;
 use plan::kinds::Slots;
+use planfile::reader::Reading;
 use planfile::reader::read;
 use report::answers::DONE;
 use report::answers::read_number;
+use report::checksum::FIRST;
+use report::checksum::add_all;
+use report::checksum::add_plan;
+use report::marks::first;
 use report::marks::mark_from;
-use report::marks::mark_output;
 use report::text::part;
 use report::text::print;
 use report::text::tail;
@@ -56,13 +62,7 @@ const MOST_TEXT: usize = 4_096;
 
 const MOST_LENT_TABLE: usize = 2_100;
 
-const MOST_LENT_OUTPUT: usize = 31_100;
-
-const MOST_LENT_GRANTS: usize = 48;
-
 const TABLE_MARK: u32 = 3_000_000_000;
-
-const GRANT_MARK: u32 = 4_000_000_000;
 
 const CARRIED_MARK: u32 = 2_000_000_000;
 
@@ -93,231 +93,170 @@ fn grant_places(body: &[u8]) -> usize {
     two(tail(body, 6)) as usize
 }
 
-// Steps and outcomes on so many places of a grant row.
-fn walk_on(
-    text: &mut [u8],
-    at: usize,
-    counts: &mut [u64],
-    p: Plan,
-    table: &[u32],
-    grants: &mut [u32],
-    places: usize,
-    speeds: &[u8],
-    run: Run,
-) -> usize {
-    if grants.len() < places {
-        return at;
-    }
-    run_lines(
-        text,
-        at,
-        counts,
-        p,
-        table,
-        &mut grants[..places],
-        speeds,
-        run,
+// The file of a body, and the speeds behind it.
+fn file_of(body: &[u8]) -> &[u8] {
+    part(
+        tail(body, LENT_BYTES + 4),
+        four(tail(body, LENT_BYTES)) as usize,
     )
 }
 
-fn walk(
-    text: &mut [u8],
-    at: usize,
-    counts: &mut [u64],
-    body: &[u8],
-    p: Plan,
-    table: &[u32],
-    speeds: &[u8],
-    run: Run,
-) -> usize {
-    let mut grants = [0u32; MOST_LENT_GRANTS];
-    mark_from(&mut grants, 0, GRANT_MARK);
-    walk_on(
-        text,
-        at,
-        counts,
-        p,
-        table,
-        &mut grants,
-        grant_places(body),
-        speeds,
-        run,
+fn speeds_of(body: &[u8]) -> &[u8] {
+    tail(
+        tail(body, LENT_BYTES + 4),
+        four(tail(body, LENT_BYTES)) as usize,
     )
 }
 
-// The writer on so many bytes of an output.
-fn write_on(
-    text: &mut [u8],
-    at: usize,
-    counts: &mut [u64],
-    p: Plan,
-    table: &[u32],
-    output: &mut [u8],
-    bytes: usize,
-) -> usize {
-    if output.len() < bytes {
-        return at;
+// The reader on the first places of a table, as far as there are so many.
+fn read_on(file: &[u8], table: &mut [u32], places: usize) -> Reading {
+    if table.len() < places {
+        return read(file, table);
     }
-    mark_output(output);
-    writer_line(text, at, counts, p, table, &mut output[..bytes])
-}
-
-fn written(
-    text: &mut [u8],
-    at: usize,
-    counts: &mut [u64],
-    body: &[u8],
-    p: Plan,
-    table: &[u32],
-) -> usize {
-    let mut output = [0u8; MOST_LENT_OUTPUT];
-    write_on(text, at, counts, p, table, &mut output, output_bytes(body))
-}
-
-// The calls on a plan and its table alone.
-fn plan_lines(
-    text: &mut [u8],
-    at: usize,
-    counts: &mut [u64],
-    body: &[u8],
-    p: Plan,
-    table: &[u32],
-) -> usize {
-    let wrote = written(text, at, counts, body, p, table);
-    let judged = judge_line(text, wrote, counts, p, table);
-    slack_lines(text, judged, counts, p, table)
+    read(file, &mut table[..places])
 }
 
 // The calls on a plan that was read.
-fn read_lines(
-    text: &mut [u8],
-    at: usize,
-    counts: &mut [u64],
-    body: &[u8],
-    p: Plan,
-    table: &[u32],
-    speeds: &[u8],
-) -> usize {
-    let planned = plan_lines(text, at, counts, body, p, table);
-    let started = start(p, table);
-    let verdict = started.verdict;
-    let run = started.run;
-    let told = start_line(text, planned, counts, started, marked_run());
+fn read_lines(text: &mut [u8], page: Page, body: &[u8], p: Plan, table: &[u32]) -> Page {
+    let answers = answers_of(p, table, output_bytes(body), marked_run());
+    let verdict = answers.started;
+    let run = answers.run;
+    let told = plan_lines(text, page, answers);
     if !is_accepted(verdict) {
         return told;
     }
-    walk(text, told, counts, body, p, table, speeds, run)
+    run_lines(
+        text,
+        told,
+        p,
+        table,
+        grant_places(body),
+        speeds_of(body),
+        run,
+    )
 }
 
-fn file_lines(text: &mut [u8], counts: &mut [u64], body: &[u8], table: &mut [u32]) -> usize {
-    let length = four(tail(body, LENT_BYTES)) as usize;
-    let rest = tail(body, LENT_BYTES + 4);
-    let file = part(rest, length);
-    let begun = input_line(text, inputs(counts), b"file");
-    let reading = read(file, table);
-    let answer = reading.answer;
-    let p = reading.plan;
-    let told = reader_line(text, begun, counts, reading, table);
-    let named = names_line(text, told, file);
-    if read_number(answer) != DONE {
-        return named;
-    }
-    read_lines(text, named, counts, body, p, table, tail(rest, length))
-}
-
-// The calls on a run made by hand.
-fn hand_run_lines(
+// The lines of a reading, and of the names in its file.
+fn reading_lines(
     text: &mut [u8],
-    at: usize,
-    counts: &mut [u64],
+    counts: Counts,
+    file: &[u8],
+    number: u8,
+    p: Plan,
+    table: &[u32],
+) -> Page {
+    let begun = input_line(text, inputs(counts), b"file");
+    let told = reader_line(
+        text,
+        begun,
+        number,
+        add_plan(FIRST, p),
+        add_all(FIRST, table),
+    );
+    let at = names_line(text, told, file);
+    Page {
+        at,
+        counts: count_refusal(counts, number),
+    }
+}
+
+fn file_lines(text: &mut [u8], counts: Counts, body: &[u8], r: Reading, table: &[u32]) -> Page {
+    let answer = r.answer;
+    let p = r.plan;
+    let number = read_number(answer);
+    let page = reading_lines(text, counts, file_of(body), number, p, table);
+    if number != DONE {
+        return page;
+    }
+    read_lines(text, page, body, p, table)
+}
+
+// A file on so many places of a table.
+fn file_input(text: &mut [u8], counts: Counts, body: &[u8], places: usize) -> Page {
+    let mut table = [0u32; MOST_LENT_TABLE];
+    mark_from(&mut table, 0, TABLE_MARK);
+    let reading = read_on(file_of(body), &mut table, places);
+    file_lines(text, counts, body, reading, first(&table, places))
+}
+
+// The calls on a plan in hand, with a run made by hand as the lent record.
+fn held_lines(
+    text: &mut [u8],
+    counts: Counts,
+    body: &[u8],
+    p: Plan,
+    table: &[u32],
+    run: Run,
+) -> Page {
+    let at = input_line(text, inputs(counts), b"hand");
+    let answers = answers_of(p, table, output_bytes(body), run);
+    plan_lines(text, Page { at, counts }, answers)
+}
+
+// The calls on a plan and a run made by hand.
+fn hand_lines(
+    text: &mut [u8],
+    counts: Counts,
     body: &[u8],
     p: Plan,
     table: &[u32],
     rest: &[u8],
-) -> usize {
+) -> Page {
     let run = run_from(rest);
-    let started = start_line(text, at, counts, start(p, table), run);
-    let ended = outcomes_line(text, started, counts, p, run);
-    walk(
+    let told = held_lines(text, counts, body, p, table, run);
+    let ended = outcomes_line(text, told, p, run);
+    run_lines(
         text,
         ended,
-        counts,
-        body,
         p,
         table,
+        grant_places(body),
         tail(rest, RUN_BYTES),
         run,
     )
 }
 
-fn hand_lines(
-    text: &mut [u8],
-    counts: &mut [u64],
-    body: &[u8],
-    p: Plan,
-    table: &[u32],
-    rest: &[u8],
-) -> usize {
-    let begun = input_line(text, inputs(counts), b"hand");
-    let planned = plan_lines(text, begun, counts, body, p, table);
-    hand_run_lines(text, planned, counts, body, p, table, rest)
-}
-
-// A file on so many places of a table.
-fn file_on(
-    text: &mut [u8],
-    counts: &mut [u64],
-    body: &[u8],
-    table: &mut [u32],
-    places: usize,
-) -> usize {
-    if table.len() < places {
-        return 0;
-    }
-    mark_from(table, 0, TABLE_MARK);
-    file_lines(text, counts, body, &mut table[..places])
-}
-
 // A plan in hand on so many places of a table.
-fn hand_on(
-    text: &mut [u8],
-    counts: &mut [u64],
-    body: &[u8],
-    table: &mut [u32],
-    places: usize,
-) -> usize {
+fn hand_input(text: &mut [u8], counts: Counts, body: &[u8], places: usize) -> Page {
     let bytes = tail(body, LENT_BYTES);
     let entries = entries_from(bytes);
-    lay_entries(table, entries);
-    mark_from(table, Edition::PLACES, TABLE_MARK);
-    if table.len() < places {
-        return 0;
-    }
+    let mut table = [0u32; MOST_LENT_TABLE];
+    lay_entries(&mut table, entries);
+    mark_from(&mut table, Edition::PLACES, TABLE_MARK);
     hand_lines(
         text,
         counts,
         body,
         plan_from(bytes),
-        &table[..places],
+        first(&table, places),
         run_bytes_from(entries),
     )
 }
 
 // The lines of one input.
-fn input_lines(text: &mut [u8], counts: &mut [u64], kind: u8, body: &[u8]) -> usize {
-    let mut table = [0u32; MOST_LENT_TABLE];
+fn input_lines(text: &mut [u8], counts: Counts, kind: u8, body: &[u8]) -> Page {
     if kind == FILE {
-        return file_on(text, counts, body, &mut table, table_places(body));
+        return file_input(text, counts, body, table_places(body));
     }
-    hand_on(text, counts, body, &mut table, table_places(body))
+    hand_input(text, counts, body, table_places(body))
+}
+
+// Whether there may be more inputs, and the counts so far.
+struct Next {
+    more: bool,
+    counts: Counts,
 }
 
 // Answers one input.
-fn answer(counts: &mut [u64], kind: u8, body: &[u8]) -> bool {
+fn answer(counts: Counts, kind: u8, body: &[u8]) -> Next {
     let mut text = [0u8; MOST_TEXT];
-    let length = input_lines(&mut text, counts, kind, body);
-    count_input(counts);
-    print(&text, length)
+    let page = input_lines(&mut text, counts, kind, body);
+    let told = page.counts;
+    let more = print(&text, page.at);
+    Next {
+        more,
+        counts: count_input(told),
+    }
 }
 
 fn read_body(body: &mut [u8], length: usize) -> usize {
@@ -327,11 +266,14 @@ fn read_body(body: &mut [u8], length: usize) -> usize {
     io::read_full(STDIN_FILENO, &mut body[..length])
 }
 
-// Reads one record and answers it; whether to go on.
-fn answer_next(counts: &mut [u64]) -> bool {
+// Reads one record and answers it.
+fn answer_next(counts: Counts) -> Next {
     let mut head = [0u8; HEAD_BYTES];
     if io::read_full(STDIN_FILENO, &mut head) < HEAD_BYTES {
-        return false;
+        return Next {
+            more: false,
+            counts,
+        };
     }
     let kind = byte_at(&head, 0);
     let length = four(tail(&head, 1)) as usize;
@@ -341,17 +283,23 @@ fn answer_next(counts: &mut [u64]) -> bool {
 }
 
 // The loop counts its turns down from a number that no run uses up, since nothing says that the input ends.
-fn answer_all(counts: &mut [u64]) {
+fn answer_all() -> Counts {
+    let mut next = Next {
+        more: true,
+        counts: no_counts(),
+    };
     let mut turns = u64::MAX;
-    while turns > 0 && answer_next(counts) {
+    while turns > 0 && next.more {
+        let counts = next.counts;
+        next = answer_next(counts);
         turns -= 1;
     }
+    next.counts
 }
 
 fn main() {
-    let mut counts = [0u64; COUNTS];
-    answer_all(&mut counts);
+    let counts = answer_all();
     let mut text = [0u8; MOST_TEXT];
-    let length = count_lines(&mut text, &counts);
+    let length = count_lines(&mut text, counts);
     print(&text, length);
 }

@@ -1,15 +1,16 @@
 -- `answer_all` is safe and ends: the measure is the number of turns that are left.
-use mathlib.Core.Path.{_≡_}
 use borrow.Author.Needs.{needs}
-use lib.ListN.{length}
 use Rattle.verdicts.proofs.answer_all.Statement.{statement}
 use Rattle.verdicts.proofs.answer_all.Tie as tie
 
 abbrev Inv-loop : tie.InvT-loop
-Inv-loop counts₀ turns₀ counts turns = length counts ≡ length counts₀
+Inv-loop next₀ turns₀ next turns = Unit {0}
 
 abbrev μ-loop : tie.MeasureT-loop
-μ-loop counts₀ turns₀ counts turns = turns
+μ-loop next₀ turns₀ next turns = turns
+
+no-counts-requires : tie.Need-no-counts-requires Inv-loop μ-loop
+no-counts-requires c κs = search needs
 
 loop-holds : tie.Need-loop-holds Inv-loop μ-loop
 loop-holds c = search needs
@@ -26,17 +27,8 @@ loop-less c = search needs
 loop-again : tie.Need-loop-again Inv-loop μ-loop
 loop-again c = search needs
 
-same-length : tie.Need-same-length Inv-loop μ-loop
-same-length c = search needs
-
 returns : tie.Need-returns Inv-loop μ-loop
 returns c = search needs
-
-same-length-2 : tie.Need-same-length-2 Inv-loop μ-loop
-same-length-2 c = search needs
-
-returns-2 : tie.Need-returns-2 Inv-loop μ-loop
-returns-2 c = search needs
 
 pub answer-all-spec : {M : Type 1} → statement M
 answer-all-spec =
@@ -44,12 +36,10 @@ answer-all-spec =
     (tie.spec
     Inv-loop
     μ-loop
+    no-counts-requires
     loop-holds
     answer-next-requires
     sub-turns
     loop-less
     loop-again
-    same-length
-    returns
-    same-length-2
-    returns-2)
+    returns)

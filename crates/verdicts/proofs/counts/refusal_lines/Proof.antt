@@ -7,7 +7,7 @@ use Rattle.verdicts.proofs.counts.refusal_lines.Statement.{statement}
 use Rattle.verdicts.proofs.counts.refusal_lines.Tie as tie
 
 abbrev Inv-loop : tie.InvT-loop
-Inv-loop text₀ at counts next₀ which₀ text next which = (which ≤ 23) × (length text ≡ length text₀)
+Inv-loop text₀ at c next₀ which₀ text next which = (which ≤ 23) × (length text ≡ length text₀)
 
 abbrev μ-loop : tie.MeasureT-loop
 μ-loop text₀ at counts next₀ which₀ text next which = 23 - which

@@ -3,14 +3,14 @@ use mathlib.Core.Path.{_≡_}
 use Prim.Native.Nat.{_≤_, _-_}
 use borrow.Author.Needs.{needs}
 use lib.ListN.{length}
-use Rattle.verdicts.proofs.lines.outcome_marks.Statement.{statement}
-use Rattle.verdicts.proofs.lines.outcome_marks.Tie as tie
+use Rattle.verdicts.proofs.steps.outcome_marks.Statement.{statement}
+use Rattle.verdicts.proofs.steps.outcome_marks.Tie as tie
 
 abbrev Inv-loop : tie.InvT-loop
-Inv-loop text₀ at counts₀ p run last next₀ position₀ text counts next position = (position ≤ 33) × (length text ≡ length text₀) × (length counts ≡ length counts₀)
+Inv-loop text₀ p run last next₀ position₀ text next position = (position ≤ 33) × (length text ≡ length text₀)
 
 abbrev μ-loop : tie.MeasureT-loop
-μ-loop text₀ at counts₀ p run last next₀ position₀ text counts next position = 33 - position
+μ-loop text₀ p run last next₀ position₀ text next position = 33 - position
 
 counted-of-requires : tie.Need-counted-of-requires Inv-loop μ-loop
 counted-of-requires c κs = search needs
@@ -36,9 +36,6 @@ loop-again c = search needs
 same-length : tie.Need-same-length Inv-loop μ-loop
 same-length c = search needs
 
-same-length-2 : tie.Need-same-length-2 Inv-loop μ-loop
-same-length-2 c = search needs
-
 returns : tie.Need-returns Inv-loop μ-loop
 returns c = search needs
 
@@ -56,5 +53,4 @@ outcome-marks-spec =
     loop-less
     loop-again
     same-length
-    same-length-2
     returns)

@@ -3,15 +3,14 @@ use mathlib.Core.Path.{_≡_}
 use Prim.Native.Nat.{_≤_, _-_}
 use borrow.Author.Needs.{needs}
 use lib.ListN.{length}
-use Rattle.verdicts.proofs.lines.take_steps.Statement.{statement}
-use Rattle.verdicts.proofs.lines.take_steps.Tie as tie
+use Rattle.verdicts.proofs.steps.take_steps.Statement.{statement}
+use Rattle.verdicts.proofs.steps.take_steps.Tie as tie
 
 abbrev Inv-loop : tie.InvT-loop
-Inv-loop text₀ counts₀ p table grants₀ speeds steps way₀ k₀ text counts grants way k =
-    (k ≤ 200) × (length text ≡ length text₀) × (length counts ≡ length counts₀) × (length grants ≡ length grants₀)
+Inv-loop text₀ p table places speeds steps trip₀ k₀ text trip k = (k ≤ 200) × (length text ≡ length text₀)
 
 abbrev μ-loop : tie.MeasureT-loop
-μ-loop text₀ counts₀ p table grants₀ speeds steps way₀ k₀ text counts grants way k = 200 - k
+μ-loop text₀ p table places speeds steps trip₀ k₀ text trip k = 200 - k
 
 lesser-requires : tie.Need-lesser-requires Inv-loop μ-loop
 lesser-requires c κs = search needs
@@ -34,12 +33,6 @@ loop-again c = search needs
 same-length : tie.Need-same-length Inv-loop μ-loop
 same-length c = search needs
 
-same-length-2 : tie.Need-same-length-2 Inv-loop μ-loop
-same-length-2 c = search needs
-
-same-length-3 : tie.Need-same-length-3 Inv-loop μ-loop
-same-length-3 c = search needs
-
 returns : tie.Need-returns Inv-loop μ-loop
 returns c = search needs
 
@@ -56,6 +49,4 @@ take-steps-spec =
     loop-less
     loop-again
     same-length
-    same-length-2
-    same-length-3
     returns)
