@@ -1,4 +1,4 @@
-//! The reader of plan files: front to back, field by field, the first fault decides.
+//! The reader of plan files: it takes the fields as they come and answers with the first that is wrong.
 
 use crate::edition::{
     HEAD_BYTES, JOB_LENGTH, MOST_ROWS, NAME_BYTES, ROW_LENGTH, TABLE_PLACES, VERSION,

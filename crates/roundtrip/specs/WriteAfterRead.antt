@@ -1,4 +1,4 @@
--- Write after read: a file that the reader takes, written again, is the same bytes. So no two files read to the same plan.
+-- Write after read: writing what was read gives the file back, byte for byte. So no two files read to the same plan.
 use mathlib.Core.Path.{_≡_, refl, sym, _∙_, ap}
 use mathlib.Core.Bool.{Bool, true, false, cond}
 use mathlib.Core.List.{List, [], _∷_, _++_, append-nil}
@@ -133,7 +133,7 @@ module _ (file : List ℕ) (octets : Octets file) {held : Held} (r : FileRead fi
       ∙ sym (append-nil _) ∙ ap (λ l. bytes 1 1 ++ bytes 4 (length (body plan-read (held .table))) ++ body plan-read (held .table) ++ l) (sym (drop-length file))
       ∙ ap (λ n. bytes 1 1 ++ bytes 4 (length (body plan-read (held .table))) ++ body plan-read (held .table) ++ drop n file) (sym (r .end)) ∙ sym (all .is)
 
--- Every file that the reader takes, written again, gives the same bytes.
+-- A file that is read is what the writer makes of its plan.
 pub write-after-read : (file : List ℕ) → Octets file → {held : Held} {end : ℕ} → readFile file ≡ got held end → written (held .plan) (held .table) ≡ file
 write-after-read file octets e = written-again file octets (file-read file e)
 
