@@ -23,7 +23,6 @@ use report::checksum::add_all;
 use report::checksum::add_run;
 use report::marks::first;
 use report::marks::mark_from;
-use report::text::end_line;
 use report::text::put_word;
 use report::text::tail;
 
@@ -148,20 +147,20 @@ fn outcome_marks(text: &mut [u8], page: Page, p: Plan, run: Run) -> Page {
     next
 }
 
+// A word on a page.
+fn put_on(text: &mut [u8], page: Page, word: &[u8]) -> Page {
+    let counts = page.counts;
+    let at = put_word(text, page.at, word);
+    Page { at, counts }
+}
+
 // The marks of the near positions, and of two far beyond.
 pub fn outcomes_line(text: &mut [u8], page: Page, p: Plan, run: Run) -> Page {
-    let before = page.counts;
-    let begun = put_word(text, page.at, b"outcomes ");
-    let start = Page {
-        at: begun,
-        counts: before,
-    };
-    let near = outcome_marks(text, start, p, run);
+    let begun = put_on(text, page, b"outcomes ");
+    let near = outcome_marks(text, begun, p, run);
     let far = outcome_mark(text, near, p, run, FAR);
     let farthest = outcome_mark(text, far, p, run, FARTHEST);
-    let counts = farthest.counts;
-    let at = end_line(text, farthest.at);
-    Page { at, counts }
+    put_on(text, farthest, b"\n")
 }
 
 // A run with the marked grant row, before its first step.
@@ -176,26 +175,13 @@ fn setting_out(run: Run) -> Way {
     }
 }
 
-fn steps_line(
-    text: &mut [u8],
-    page: Page,
-    p: Plan,
-    table: &[u32],
-    places: usize,
-    speeds: &[u8],
-    run: Run,
-) -> Trip {
-    let before = page.counts;
-    let begun = put_word(text, page.at, b"steps");
-    let start = Page {
-        at: begun,
-        counts: before,
-    };
-    let trip = Trip {
-        way: setting_out(run),
-        page: start,
-    };
-    take_steps(text, p, table, places, speeds, trip)
+// The end of a way, and the outcomes there.
+fn end_lines(text: &mut [u8], t: Trip, p: Plan) -> Page {
+    let way = t.way;
+    let run = way.run;
+    let page = t.page;
+    let ended = put_on(text, page, b"\n");
+    outcomes_line(text, ended, p, run)
 }
 
 // The steps on so many places of a grant row and, after them, the outcomes.
@@ -208,11 +194,8 @@ pub fn run_lines(
     speeds: &[u8],
     run: Run,
 ) -> Page {
-    let trip = steps_line(text, page, p, table, places, speeds, run);
-    let way = trip.way;
-    let last = way.run;
-    let told = trip.page;
-    let counts = told.counts;
-    let at = end_line(text, told.at);
-    outcomes_line(text, Page { at, counts }, p, last)
+    let begun = put_on(text, page, b"steps");
+    let way = setting_out(run);
+    let end = take_steps(text, p, table, places, speeds, Trip { way, page: begun });
+    end_lines(text, end, p)
 }
