@@ -1,19 +1,22 @@
 -- The laws of column sums: rows added in place, sums taken from the last interval back, and the lowest interval that falls short.
 use mathlib.Core.Path.{_≡_, refl, sym, _∙_, ap, ap₂}
-use mathlib.Core.Bool.{Bool, true, false, cond}
+use mathlib.Core.Bool.{Bool, true, false, not, cond}
 use mathlib.Core.List.{List}
 use mathlib.Core.Logic.{_⊎_, inl, inr}
-use Prim.Native.Nat.{ℕ, zero, suc, _+_, _*_, _-_, _≤_, _<_}
+use Prim.Native.Nat.{ℕ, zero, suc, _+_, _*_, _-_, _≤_, _<_, min}
 use native.Mathlib.Nat.{zero-add, add-zero}
 use native.Mathlib.Decide.{decLt}
 use native.Mathlib.Omega.{arith}
-use lib.Dec.{ltb}
+use borrow.Author.Tests.{lt-ltb, le-ltb, not-true, not-false}
+use lib.Dec.{ltb, eqb}
 use lib.ListN.{length, getD, set, length-set}
 use lib.Seq.{getD-set-same, getD-set-other}
-use Rattle.sums.specs.Sum.{sum}
-use Rattle.sums.proofs.Laws.{sum-ext, sum-split, sum-start, sum-step}
+use Rattle.sums.specs.Sum.{sum, on}
+use Rattle.sums.proofs.Laws.{sum-ext, sum-none, sum-split, sum-start, sum-step}
+use Rattle.plan.specs.Below.{every}
+use Rattle.plan.proofs.Below.{every-at}
 use Rattle.plan.proofs.Rising.{by-order}
-use Rattle.judge.specs.Columns.{lowest, asksMore}
+use Rattle.judge.specs.Columns.{isDueIn, lowest, asksMore}
 
 -- Numbers were added to the first n of a list, and the rest stays.
 pub record Added (old : List ℕ) (add : ℕ → ℕ) (n : ℕ) (new : List ℕ) : Type 0 where
@@ -97,6 +100,21 @@ lowest-at test other l (suc n) = go (test l) refl (lowest-at test other (suc l) 
     go true e rest = inr (omega arith, e)
     go false e (inl q) = inl q
     go false e (inr q) = inr (omega (arith, q .0), q .1)
+
+-- The lesser of two numbers, by a test.
+pub lesser-is : (x y : ℕ) → cond (ltb x y) x y ≡ min y x
+lesser-is x y = go (decLt x y)
+  where
+    go : Dec (x < y) → cond (ltb x y) x y ≡ min y x
+    go (yes h) = rw (lt-ltb x y h) (omega arith)
+    go (no h) = rw (le-ltb x y (omega arith)) (omega arith)
+
+-- Where a time is none of some deadlines, nothing is due at it.
+pub none-due : (deadlines : List ℕ) (time : ℕ) (f : ℕ → ℕ) → isDueIn deadlines time ≡ false
+    → sum (λ i. on (eqb (getD deadlines i 0) time) (f i)) (length deadlines) ≡ 0
+none-due deadlines time f h =
+    sum-none (λ i. on (eqb (getD deadlines i 0) time) (f i)) (length deadlines)
+    (λ i b. ap (λ t. on t (f i)) (not-true (eqb (getD deadlines i 0) time) (every-at (λ k. not (eqb (getD deadlines k 0) time)) (length deadlines) i (not-false (every (λ k. not (eqb (getD deadlines k 0) time)) (length deadlines)) h) b)))
 
 -- One number more of a row stands as it must.
 pub stands-next : (f : ℕ → ℕ) (row : List ℕ) (n x : ℕ) → n < length row → ((k : ℕ) → k < n → getD row k 0 ≡ f k) → x ≡ f n

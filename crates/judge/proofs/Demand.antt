@@ -15,7 +15,7 @@ use Rattle.plan.specs.Boundaries.{boundaries, boundary, intervals, present, com
 use Rattle.plan.specs.declared.kinds.Plan.{Plan}
 use Rattle.plan.proofs.Rising.{boundaries-rise}
 use Rattle.plan.proofs.Come.{come-few}
-use Rattle.judge.specs.Constraints.{units, unitsBetween, demand, floorCarries}
+use Rattle.judge.specs.Constraints.{units, unitsBetween, demand}
 use Rattle.judge.specs.Verdict.{isHiDeadline, isPair}
 use Rattle.judge.proofs.Running.{sum-window}
 use Rattle.judge.proofs.Times.{ends-by, come-first}
@@ -56,19 +56,6 @@ pub demand-is : (p : Plan) (table : List ℕ) (l D e : ℕ) → EndBy p D e
     ≡ demand p table l D
 demand-is p table l D e h =
     sum-ext _ _ (counted p) (λ i b. ap (on (isHi p i && leb (deadline p i) D)) (sym (between-is p table l D e i h)))
-
--- Both sides of a pair, as they are read off the boundaries.
-pub carries-is : (p : Plan) (times : List ℕ) (l m : ℕ) {r : ℕ} → times ≡ boundaries p → r ≡ p .d .0 * (getD times m 0 - getD times l 0)
-    → r ≡ floorCarries p l (boundary p m)
-carries-is p times l m e h = h ∙ ap (λ t. p .d .0 * (getD t m 0 - getD t l 0)) e
-
-pub asked-is : (p : Plan) (table times : List ℕ) (l m : ℕ) {r : ℕ} → times ≡ boundaries p → m < length times
-    → r ≡ sum (λ i. on (isHi p i && leb (deadline p i) (getD times m 0)) (sum (strided table (mostIntervals * i + l) 1) (m - l))) (counted p)
-    → r ≡ demand p table l (boundary p m)
-asked-is p table times l m e b h =
-    h
-    ∙ ap (λ t. sum (λ i. on (isHi p i && leb (deadline p i) (getD t m 0)) (sum (strided table (mostIntervals * i + l) 1) (m - l))) (counted p)) e
-    ∙ demand-is p table l (boundary p m) m (end-by-boundary p m (rw e at b))
 
 -- A pair of the floor rule: not where the boundary comes no later, not where it is no HI deadline, and else it is one.
 pub early-pair : (p : Plan) (l m : ℕ) → m ≤ l → isPair p l m ≡ false

@@ -1,36 +1,45 @@
 -- The floor rule's one pass over the boundaries: which jobs are in the column sums, what the sums are, and the lowest interval that falls short.
 use mathlib.Core.Path.{_≡_, refl, sym, _∙_, ap, ap₂}
-use mathlib.Core.Bool.{Bool, true, false, not, cond, _&&_, and-false}
+use mathlib.Core.Bool.{Bool, true, false, not, cond, _&&_, and-true, and-false}
 use mathlib.Core.List.{List, [], _∷_}
 use mathlib.Core.Logic.{_⊎_, ⊎-elim}
 use Prim.Native.Nat.{ℕ, zero, suc, _+_, _*_, _-_, _≤_, _<_, min}
 use native.Mathlib.Nat.{zero-add, mul-le-mul-right}
 use native.Mathlib.Decide.{decLt}
 use native.Mathlib.Omega.{arith}
-use borrow.Author.Tests.{le-leb, lt-leb, eq-eqb, ne-eqb}
+use borrow.Author.Tests.{ltb-true, leb-true, lt-ltb, le-ltb, le-leb, lt-leb, eq-eqb, ne-eqb, not-false}
 use lib.Dec.{leb, ltb, eqb}
-use lib.ListN.{length, getD, take, replicate}
-use lib.Seq.{length-take-le, getD-take}
+use lib.ListN.{length, getD, replicate}
 use Rattle.sums.specs.Sum.{sum, on}
 use Rattle.sums.proofs.Laws.{sum-ext, sum-add, sum-swap, sum-none, sum-bound}
-use Rattle.plan.specs.Edition.{mostJobs, mostIntervals, places}
+use Rattle.plan.specs.Edition.{mostJobs, mostIntervals, mostDeadline, places}
 use Rattle.plan.specs.Refusal.{belowFloorRule}
 use Rattle.plan.specs.Below.{every}
-use Rattle.plan.specs.Rules.{hi, counted, jobOf, deadline, isHi}
+use Rattle.plan.specs.Rules.{counted, release, size, deadline, isHi, windowAllowed, sizeAllowed, boundsHold, rulesHold}
 use Rattle.plan.specs.Boundaries.{boundaries, boundary, intervals}
 use Rattle.plan.specs.declared.kinds.Plan.{Plan}
 use Rattle.plan.proofs.Rising.{by-order, boundaries-few}
-use Rattle.plan.proofs.Below.{every-start, every-next, every-ext, every-all}
-use Rattle.plan.proofs.Timeline.{deadline-is-boundary}
+use Rattle.plan.proofs.Below.{every-start, every-next, every-ext, every-all, every-at, both, greatest-attained}
+use Rattle.plan.proofs.Timeline.{deadline-is-boundary, last-boundary}
 use Rattle.judge.specs.Constraints.{mostAtPlace, units, demand}
 use Rattle.judge.specs.Verdict.{Report, fault, isNone, first, isHiDeadline, isPair, fallsShort, floorFault}
-use Rattle.judge.specs.Columns.{asksMore, lowest, holdsAt, Lowest}
-use Rattle.judge.proofs.Hand.{zeros-at}
-use Rattle.judge.proofs.First.{none-empty, none-plain, none-first, first-found}
+use Rattle.judge.specs.Columns.{never, hiDeadline, isDueIn, asksMore, lowest}
+use Rattle.judge.proofs.Hand.{zeros-at, rules-count, rules-bounds}
+use Rattle.judge.proofs.First.{none-empty, none-plain, none-first, first-found, found-here}
 use Rattle.judge.proofs.Running.{on-at-most}
 use Rattle.judge.proofs.Demand.{end-by-boundary, demand-is, early-pair, other-pair, true-pair}
 use Rattle.judge.proofs.Enough.{boundary-less, deadline-before}
 use Rattle.judge.proofs.Columns.{lowest-before, lowest-at}
+
+-- Interval l and boundary m are no pair, or one that does not fall short.
+abbrev pub holdsAt : Plan → List ℕ → ℕ → ℕ → Bool
+holdsAt p table l m = not (isPair p l m && fallsShort p table l m)
+
+-- The lowest interval that falls short of one of the first m boundaries, and the first that it does; or the number of intervals.
+pub record Lowest (p : Plan) (table : List ℕ) (m low until : ℕ) : Type 0 where
+  pub few : low ≤ intervals p
+  pub below : (l : ℕ) → l < low → every (holdsAt p table l) m ≡ true
+  pub there : low < intervals p → (until < m) × (holdsAt p table low until ≡ false) × (every (holdsAt p table low) until ≡ true)
 
 -- Job i is HI, with a deadline among the first m boundaries.
 unfoldable pub dueBefore : Plan → ℕ → ℕ → Bool
@@ -121,34 +130,37 @@ asks-is p table sums times l m e b h columns =
     ap₂ ltb (ap (λ t. p .d .0 * (getD t m 0 - getD t l 0)) e)
     (sum-ext _ _ (m - l) (λ k c. columns (l + k) (omega arith)) ∙ demand-columns p table l m (omega arith))
 
--- One boundary more: it holds where it held and holds there, and fails where it failed or fails there.
+-- One boundary more: it holds where it held and holds there.
 more-true : (test : ℕ → Bool) (m : ℕ) → every test m ≡ true → test m ≡ true → every test (m + 1) ≡ true
 more-true test m a b = sym (every-next test m refl refl) ∙ ap₂ _&&_ a b
 
-more-false : (test : ℕ → Bool) (m : ℕ) → every test m ≡ false → every test (m + 1) ≡ false
-more-false test m a = sym (every-next test m refl refl) ∙ ap (λ x. x && test m) a
-
-last-false : (test : ℕ → Bool) (m : ℕ) → test m ≡ false → every test (m + 1) ≡ false
-last-false test m b = sym (every-next test m refl refl) ∙ ap (λ x. every test m && x) b ∙ and-false (every test m)
-
-pub lowest-start : (p : Plan) (table : List ℕ) → Lowest p table 0 (intervals p)
+pub lowest-start : (p : Plan) (table : List ℕ) → Lowest p table 0 (intervals p) 0
 lowest-start p table = record { few = omega arith; below = λ l b. every-start _; there = λ h. absurd (omega arith) }
 
-pub lowest-next : (p : Plan) (table sums times : List ℕ) (m low r : ℕ) (due : Bool) → times ≡ boundaries p → m ≤ intervals p
+pub lowest-next : (p : Plan) (table sums times : List ℕ) (m low until r place : ℕ) (due : Bool) → times ≡ boundaries p → m ≤ intervals p
     → ((j : ℕ) → j < intervals p → getD sums j 0 ≡ columnSum p table (suc m) j)
     → due ≡ isHiDeadline p (boundary p m)
     → r ≡ cond due (min low (lowest (asksMore (p .d .0) sums times m) low 0 m)) low
-    → Lowest p table m low → Lowest p table (m + 1) r
-lowest-next p table sums times m low r due e h columns d q so = go due d q
+    → place ≡ cond (ltb r low) m until
+    → Lowest p table m low until → Lowest p table (m + 1) r place
+lowest-next p table sums times m low until r place due e h columns d q here so = go due d q
   where
+    -- Where the lowest stays, its place does.
+    still : r ≡ low → low < intervals p
+        → (place < m + 1) × (holdsAt p table low place ≡ false) × (every (holdsAt p table low) place ≡ true)
+    still same k =
+        let stays : place ≡ until = here ∙ ap (λ b. cond b m until) (le-ltb r low (omega arith)) in
+        let w = so .there k in
+        rw stays (omega (arith, w .0), w .1, w .2)
+
     go : (t : Bool) → t ≡ isHiDeadline p (boundary p m) → r ≡ cond t (min low (lowest (asksMore (p .d .0) sums times m) low 0 m)) low
-        → Lowest p table (m + 1) r
+        → Lowest p table (m + 1) r place
     go false d q =
         rw q (record {
           few = so .few;
           below = λ l b. more-true (holdsAt p table l) m (so .below l b)
               (ap (λ x. not (x && fallsShort p table l m)) (other-pair p l m (sym d)));
-          there = λ k. more-false (holdsAt p table low) m (so .there k);
+          there = still q;
         })
     go true d q =
         record {
@@ -168,23 +180,26 @@ lowest-next p table sums times m low r due e h columns d q so = go due d q
             → (lowest (asksMore (p .d .0) sums times m) low 0 m ≡ low)
             ⊎ ((lowest (asksMore (p .d .0) sums times m) low 0 m < 0 + m)
             × (asksMore (p .d .0) sums times m (lowest (asksMore (p .d .0) sums times m) low 0 m) ≡ true))
-            → every (holdsAt p table r) (m + 1) ≡ false
+            → (place < m + 1) × (holdsAt p table r place ≡ false) × (every (holdsAt p table r) place ≡ true)
         fails k w =
             by-order (lowest (asksMore (p .d .0) sums times m) low 0 m) low
-            (λ x. let same : r ≡ low = omega arith in rw same (more-false (holdsAt p table low) m (so .there (omega arith))))
+            (λ x. let same : r ≡ low = omega arith in rw same (still same (omega arith)))
             (λ x.
             let same : r ≡ lowest (asksMore (p .d .0) sums times m) low 0 m = omega arith in
+            let moves : place ≡ m = here ∙ ap (λ b. cond b m until) (lt-ltb r low (omega arith)) in
             ⊎-elim
             (λ (y : lowest (asksMore (p .d .0) sums times m) low 0 m ≡ low). absurd (omega (arith, y)))
             (λ (y : (lowest (asksMore (p .d .0) sums times m) low 0 m < 0 + m)
             × (asksMore (p .d .0) sums times m (lowest (asksMore (p .d .0) sums times m) low 0 m) ≡ true)).
             let found = lowest (asksMore (p .d .0) sums times m) low 0 m in
             let early : found < m = omega (arith, y .0) in
-            rw same (last-false (holdsAt p table found) m
-            (ap₂ (λ u v. not (u && v)) (true-pair p found m early (sym d))
-            (sym (asks-is p table sums times found m e early h columns) ∙ y .1))))
+            rw (moves, same) (
+              omega arith,
+              ap₂ (λ u v. not (u && v)) (true-pair p found m early (sym d)) (sym (asks-is p table sums times found m e early h columns) ∙ y .1),
+              so .below found (omega arith),
+            ))
             w)
-            (λ x. let same : r ≡ low = omega arith in rw same (more-false (holdsAt p table low) m (so .there (omega arith))))
+            (λ x. let same : r ≡ low = omega arith in rw same (still same (omega arith)))
 
 -- A column sum is at most what all jobs' places can hold.
 pub column-bound : (p : Plan) (table : List ℕ) (m j : ℕ) → ((q : ℕ) → getD table q 0 ≤ mostAtPlace) → columnSum p table m j ≤ mostJobs * mostAtPlace
@@ -196,34 +211,68 @@ column-bound p table m j most =
       mul-le-mul-right {m = counted p} {n = mostJobs} mostAtPlace (omega arith),
     )
 
--- What a pass reads: a plan's boundaries, its jobs' deadlines and grades, the number of its intervals, and a table with all its places.
-pub record ReadyFor (p : Plan) (table times deadlines grades : List ℕ) (spans : ℕ) : Type 0 where
+-- No boundary of a plan by the rules is as late as the time that no plan reaches.
+early-boundary : (p : Plan) → rulesHold p ≡ true → (m : ℕ) → m ≤ intervals p → boundary p m < never
+unfolding boundsHold
+early-boundary p rules m h =
+    let some = rules-count p rules in
+    let last = greatest-attained (deadline p) (counted p) some in
+    let end = last-boundary p some (λ i b. ltb-true (release p i) (deadline p i) (both (ltb (release p i) (deadline p i)) (leb (deadline p i) mostDeadline) (window i b) .0)) in
+    let rises : boundary p m ≤ boundary p (intervals p)
+    = by-order m (intervals p) (λ q. omega (arith, ap (boundary p) q))
+    (λ q. omega (arith, boundary-less p m (intervals p) q (omega arith)))
+    (λ q. absurd (omega arith)) in
+    omega (arith, leb-true (deadline p (last .0)) mostDeadline (both (ltb (release p (last .0)) (deadline p (last .0))) (leb (deadline p (last .0)) mostDeadline) (window (last .0) (last .1)) .1), last .2, end, rises)
+  where
+    window : (i : ℕ) → i < counted p → windowAllowed (release p i) (deadline p i) ≡ true
+    window i b =
+        both (windowAllowed (release p i) (deadline p i)) (sizeAllowed (size p i))
+        (every-at (λ k. windowAllowed (release p k) (deadline p k) && sizeAllowed (size p k)) (counted p) i (rules-bounds p rules) b) .0
+
+-- What a pass reads: a plan's boundaries, its HI jobs' deadlines, the number of its intervals, and a table with all its places.
+pub record ReadyFor (p : Plan) (table times deadlines : List ℕ) (spans : ℕ) : Type 0 where
   pub are-boundaries : times ≡ boundaries p
   pub some : spans < length times
   pub are-intervals : spans ≡ intervals p
   pub long : places ≤ length table
-  pub deadline-count : length deadlines ≡ counted p
-  pub grade-count : length grades ≡ counted p
-  pub are-deadlines : (i : ℕ) → i < counted p → getD deadlines i 0 ≡ deadline p i
-  pub are-grades : (i : ℕ) → i < counted p → getD grades i 0 ≡ jobOf p i .grade
+  pub all-records : length deadlines ≡ mostJobs
+  pub are-deadlines : (i : ℕ) → i < mostJobs → getD deadlines i 0 ≡ hiDeadline p i
+  pub early : (m : ℕ) → m ≤ intervals p → boundary p m < never
 
--- It is made from the rows of all records.
-pub ready-from : (p : Plan) (table times deadlines grades : List ℕ) (spans jobs : ℕ)
-    → (times ≡ boundaries p) × (spans ≡ intervals p) × (spans < length times) × (places ≤ length table) → jobs ≡ counted p
-    → (length deadlines ≡ mostJobs) × ((k : ℕ) → k < mostJobs → getD deadlines k 0 ≡ deadline p k)
-    → (length grades ≡ mostJobs) × ((k : ℕ) → k < mostJobs → getD grades k 0 ≡ jobOf p k .grade)
-    → ReadyFor p table times (take jobs deadlines) (take jobs grades) spans
-ready-from p table times deadlines grades spans jobs h e ds gs =
+-- It is made from what a pass is given.
+pub ready-from : (p : Plan) (table times deadlines : List ℕ) (spans : ℕ)
+    → (times ≡ boundaries p) × (spans ≡ intervals p) × (spans < length times) × (places ≤ length table) × (rulesHold p ≡ true)
+    → (length deadlines ≡ mostJobs) × ((k : ℕ) → k < mostJobs → getD deadlines k 0 ≡ hiDeadline p k)
+    → ReadyFor p table times deadlines spans
+ready-from p table times deadlines spans h ds =
     record {
       are-boundaries = h .0;
       some = h .2;
       are-intervals = h .1;
       long = h .3;
-      deadline-count = length-take-le jobs deadlines (omega (arith, ds .0)) ∙ e;
-      grade-count = length-take-le jobs grades (omega (arith, gs .0)) ∙ e;
-      are-deadlines = λ i b. getD-take jobs deadlines i 0 (omega arith) ∙ ds .1 i (omega arith);
-      are-grades = λ i b. getD-take jobs grades i 0 (omega arith) ∙ gs .1 i (omega arith);
+      all-records = ds .0;
+      are-deadlines = ds .1;
+      early = early-boundary p (h .4);
     }
+
+-- A test that holds from a number on, and terms that are nothing from it on, do not matter past it.
+every-cut : (test : ℕ → Bool) (m n : ℕ) → m ≤ n → ((k : ℕ) → m ≤ k → k < n → test k ≡ true) → every test n ≡ every test m
+unfolding every
+every-cut test m zero h more = let e : m ≡ 0 = omega arith in rw e refl
+every-cut test m (suc n) h more =
+    by-order m (suc n)
+    (λ e. rw e refl)
+    (λ l. ap₂ _&&_ (every-cut test m n (omega arith) (λ k a b. more k a (omega arith))) (more n (omega arith) (omega arith)) ∙ and-true (every test m))
+    (λ l. absurd (omega arith))
+
+sum-cut : (f : ℕ → ℕ) (m n : ℕ) → m ≤ n → ((k : ℕ) → m ≤ k → k < n → f k ≡ 0) → sum f n ≡ sum f m
+unfolding sum
+sum-cut f m zero h more = let e : m ≡ 0 = omega arith in rw e refl
+sum-cut f m (suc n) h more =
+    by-order m (suc n)
+    (λ e. rw e refl)
+    (λ l. omega (arith, sum-cut f m n (omega arith) (λ k a b. more k a (omega arith)), more n (omega arith) (omega arith)))
+    (λ l. absurd (omega arith))
 
 -- Column sums of the jobs due before boundary m.
 pub record Summed (p : Plan) (table : List ℕ) (m : ℕ) (sums : List ℕ) : Type 0 where
@@ -237,36 +286,47 @@ pub few-intervals : (p : Plan) → intervals p ≤ mostIntervals
 few-intervals p = omega (arith, boundaries-few p (counted p))
 
 -- A turn of a pass: what the rows of a boundary are added to, whether it is a HI deadline, and the sums with its jobs.
-module _ {p : Plan} {table times deadlines grades : List ℕ} {spans m : ℕ} (ready : ReadyFor p table times deadlines grades spans)
+module _ {p : Plan} {table times deadlines : List ℕ} {spans m : ℕ} (ready : ReadyFor p table times deadlines spans)
     (most : (q : ℕ) → getD table q 0 ≤ mostAtPlace) (h : m ≤ spans) where
-  at-deadline : (i : ℕ) → i < counted p
-      → (eqb (getD grades i 0) hi && eqb (getD deadlines i 0) (getD times m 0)) ≡ (isHi p i && eqb (deadline p i) (boundary p m))
+  -- A number of the row is the boundary exactly where it is the deadline of a HI job.
+  at-deadline : (i : ℕ) → i < mostJobs
+      → eqb (getD deadlines i 0) (getD times m 0) ≡ (ltb i (counted p) && isHi p i && eqb (deadline p i) (boundary p m))
   at-deadline i b =
-      ap₂ (λ g d. eqb g hi && eqb d (getD times m 0)) (ready .are-grades i b) (ready .are-deadlines i b)
-      ∙ ap (λ t. isHi p i && eqb (deadline p i) (getD t m 0)) (ready .are-boundaries)
+      ap₂ eqb (ready .are-deadlines i b) (ap (λ t. getD t m 0) (ready .are-boundaries)) ∙ by-test (ltb i (counted p) && isHi p i)
+    where
+      by-test : (t : Bool) → eqb (cond t (deadline p i) never) (boundary p m) ≡ (t && eqb (deadline p i) (boundary p m))
+      by-test true = refl
+      by-test false = ne-eqb never (boundary p m) (λ e. omega (arith, ready .early m (omega (arith, ready .are-intervals))))
+
+  counted-deadline : (i : ℕ) → i < counted p → eqb (getD deadlines i 0) (getD times m 0) ≡ (isHi p i && eqb (deadline p i) (boundary p m))
+  counted-deadline i b =
+      at-deadline i (omega arith) ∙ ap (λ t. t && isHi p i && eqb (deadline p i) (boundary p m)) (lt-ltb i (counted p) b)
+
+  no-deadline : (i : ℕ) → counted p ≤ i → i < mostJobs → eqb (getD deadlines i 0) (getD times m 0) ≡ false
+  no-deadline i b l = at-deadline i l ∙ ap (λ t. t && isHi p i && eqb (deadline p i) (boundary p m)) (le-ltb i (counted p) b)
 
   pub rows-fit : {sums : List ℕ} → Summed p table m sums
-      → (spans ≤ length sums) × (length deadlines ≡ length grades) × (length grades ≤ mostJobs) × (spans ≤ mostIntervals) × (places ≤ length table)
+      → (spans ≤ length sums) × (length deadlines ≤ mostJobs) × (spans ≤ mostIntervals) × (places ≤ length table)
       × ((j : ℕ) → j < spans → getD sums j 0 ≤ mostJobs * mostAtPlace)
   rows-fit so = (
     omega (arith, so .room, ready .are-intervals, few-intervals p),
-    ready .deadline-count ∙ sym (ready .grade-count),
-    omega (arith, ready .grade-count),
+    omega (arith, ready .all-records),
     omega (arith, ready .are-intervals, few-intervals p),
     ready .long,
     λ j b. omega (arith, so .columns j (omega (arith, ready .are-intervals)), column-bound p table m j most),
   )
 
-  pub due-is : {due : Bool}
-      → due ≡ not (every (λ i. not (eqb (getD grades i 0) hi && eqb (getD deadlines i 0) (getD times m 0))) (length grades))
-      → due ≡ isHiDeadline p (boundary p m)
+  pub due-is : {due : Bool} → due ≡ isDueIn deadlines (getD times m 0) → due ≡ isHiDeadline p (boundary p m)
   unfolding isHiDeadline
   due-is e =
-      e ∙ ap not (ap (every _) (ready .grade-count) ∙ every-ext _ _ (counted p) (λ i b. ap not (at-deadline i b)))
+      e
+      ∙ ap not (ap (every _) (ready .all-records)
+      ∙ every-cut _ (counted p) mostJobs (omega arith) (λ i a b. ap not (no-deadline i a b))
+      ∙ every-ext _ _ (counted p) (λ i b. ap not (counted-deadline i b)))
 
   pub summed-next : {old : List ℕ} (new : List ℕ) → Summed p table m old → length new ≡ length old
       → ((j : ℕ) → j < spans → getD new j 0
-      ≡ getD old j 0 + sum (λ i. on (eqb (getD grades i 0) hi && eqb (getD deadlines i 0) (getD times m 0)) (units table i j)) (length grades))
+      ≡ getD old j 0 + sum (λ i. on (eqb (getD deadlines i 0) (getD times m 0)) (units table i j)) (length deadlines))
       → Summed p table (suc m) new
   summed-next new so same more =
       record {
@@ -274,7 +334,9 @@ module _ {p : Plan} {table times deadlines grades : List ℕ} {spans m : ℕ} (r
         columns = λ j b.
             more j (omega (arith, ready .are-intervals))
             ∙ ap₂ _+_ (so .columns j b)
-            (ap (sum _) (ready .grade-count) ∙ sum-ext _ _ (counted p) (λ i a. ap (λ t. on t (units table i j)) (at-deadline i a)))
+            (ap (sum _) (ready .all-records)
+            ∙ sum-cut _ (counted p) mostJobs (omega arith) (λ i a l. ap (λ t. on t (units table i j)) (no-deadline i a l))
+            ∙ sum-ext _ _ (counted p) (λ i a. ap (λ t. on t (units table i j)) (counted-deadline i a)))
             ∙ sym (column-more p table m j (omega (arith, ready .are-intervals)));
       }
 
@@ -287,23 +349,33 @@ module _ {p : Plan} {table times deadlines grades : List ℕ} {spans m : ℕ} (r
     λ j b. omega (arith, so .columns j (omega (arith, ready .are-intervals)), column-bound p table (suc m) j most),
   )
 
--- What the whole pass tells of rule 18: nothing, or at which interval its first place is.
-module _ (p : Plan) (table : List ℕ) (low : ℕ) (found : Lowest p table (suc (intervals p)) low) where
-  abbrev row : ℕ → Report
-  row l = first (λ m. fault (isPair p l m && fallsShort p table l m) (belowFloorRule ∷ l ∷ boundary p m ∷ [])) (suc (intervals p))
+-- What the whole pass tells of rule 18: nothing, or its first place.
+module _ (p : Plan) (table : List ℕ) (low until : ℕ) (found : Lowest p table (suc (intervals p)) low until) where
+  abbrev cell : ℕ → ℕ → Report
+  cell l m = fault (isPair p l m && fallsShort p table l m) (belowFloorRule ∷ l ∷ boundary p m ∷ [])
 
-  row-none : (l : ℕ) → isNone (row l) ≡ every (holdsAt p table l) (suc (intervals p))
-  row-none l =
-      none-first (λ m. fault (isPair p l m && fallsShort p table l m) (belowFloorRule ∷ l ∷ boundary p m ∷ [])) (suc (intervals p))
-      ∙ every-ext _ _ (suc (intervals p)) (λ m b. none-plain (isPair p l m && fallsShort p table l m) belowFloorRule (l ∷ boundary p m ∷ []))
+  abbrev row : ℕ → Report
+  row l = first (cell l) (suc (intervals p))
+
+  cells-none : (l n : ℕ) → isNone (first (cell l) n) ≡ every (holdsAt p table l) n
+  cells-none l n =
+      none-first (cell l) n
+      ∙ every-ext _ _ n (λ m b. none-plain (isPair p l m && fallsShort p table l m) belowFloorRule (l ∷ boundary p m ∷ []))
 
   before-low : first row low ≡ []
-  before-low = none-empty (first row low) (none-first row low ∙ every-all _ low (λ l b. row-none l ∙ found .below l b))
+  before-low = none-empty (first row low) (none-first row low ∙ every-all _ low (λ l b. cells-none l (suc (intervals p)) ∙ found .below l b))
 
   pub nothing-short : intervals p ≤ low → [] ≡ floorFault p table
   unfolding floorFault
   nothing-short h = let all : low ≡ intervals p = omega (arith, found .few) in sym (rw all at before-low)
 
-  pub short-at-lowest : low < intervals p → row low ≡ floorFault p table
+  in-row : low < intervals p → belowFloorRule ∷ low ∷ boundary p until ∷ [] ≡ row low
+  in-row h =
+      let w = found .there h in
+      found-here (cell low) until (suc (intervals p)) belowFloorRule (low ∷ boundary p until ∷ [])
+      (none-empty (first (cell low) until) (cells-none low until ∙ w .2)) (w .0)
+      (ap (λ b. fault b (belowFloorRule ∷ low ∷ boundary p until ∷ [])) (not-false (isPair p low until && fallsShort p table low until) (w .1)))
+
+  pub short-at-lowest : low < intervals p → belowFloorRule ∷ low ∷ boundary p until ∷ [] ≡ floorFault p table
   unfolding floorFault
-  short-at-lowest h = sym (first-found row low (intervals p) before-low h (row-none low ∙ found .there h))
+  short-at-lowest h = in-row h ∙ sym (first-found row low (intervals p) before-low h (ap isNone (sym (in-row h))))

@@ -1,39 +1,39 @@
 -- What the two passes over the boundaries keep: the floor rule's lowest interval that falls short, and the least slack.
-use mathlib.Core.Path.{_≡_}
-use mathlib.Core.Bool.{Bool, true, false, not, cond, _&&_, _||_}
+use mathlib.Core.Bool.{Bool, not, cond, _&&_, _||_}
 use mathlib.Core.List.{List}
-use Prim.Native.Nat.{ℕ, zero, suc, _+_, _*_, _-_, _≤_, _<_}
-use lib.Dec.{ltb}
-use lib.ListN.{getD}
+use Prim.Native.Nat.{ℕ, zero, suc, _+_, _*_, _-_}
+use lib.Dec.{ltb, eqb}
+use lib.ListN.{length, getD}
 use lib.IntN.{ℤ, subℕ}
 use lib.Signed.{ltZ, leZ}
 use Rattle.sums.specs.Sum.{sum}
 use Rattle.plan.specs.Below.{every}
-use Rattle.plan.specs.Boundaries.{intervals}
+use Rattle.plan.specs.Rules.{counted, deadline, isHi}
 use Rattle.plan.specs.declared.kinds.Plan.{Plan}
-use Rattle.judge.specs.Verdict.{isPair, fallsShort}
 use Rattle.judge.specs.Slack.{Figure, noneEssential, least, refused}
 
--- More stands in column sums from interval l to boundary m than a rate carries.
+-- A time that no sound plan reaches (rule 9): it stands in a row of deadlines where no HI job does.
+abbrev pub never : ℕ
+never = 4_294_967_295
+
+-- The deadline of record k, where it is that of a HI job.
+abbrev pub hiDeadline : Plan → ℕ → ℕ
+hiDeadline p k = cond (ltb k (counted p) && isHi p k) (deadline p k) never
+
+-- A time is one of a row of deadlines.
+abbrev pub isDueIn : List ℕ → ℕ → Bool
+isDueIn deadlines time = not (every (λ i. not (eqb (getD deadlines i 0) time)) (length deadlines))
+
+-- Rule 18 on column sums: more stands in them from interval l to boundary m than a rate carries.
 abbrev pub asksMore : ℕ → List ℕ → List ℕ → ℕ → ℕ → Bool
 asksMore rate sums times m l = ltb (rate * (getD times m 0 - getD times l 0)) (sum (λ k. getD sums (l + k) 0) (m - l))
 
--- The lowest of the n numbers from l on at which a test holds, or else another number.
+-- The lowest of the n numbers from l on at which a test holds, or else another number, as rule 18 names its interval.
 unfoldable pub lowest : (ℕ → Bool) → ℕ → ℕ → ℕ → ℕ
 lowest test other l zero = other
 lowest test other l (suc n) = cond (test l) l (lowest test other (suc l) n)
 
--- Interval l and boundary m are no pair, or one that does not fall short.
-abbrev pub holdsAt : Plan → List ℕ → ℕ → ℕ → Bool
-holdsAt p table l m = not (isPair p l m && fallsShort p table l m)
-
--- The lowest interval that falls short of one of the first m boundaries, or the number of intervals.
-pub record Lowest (p : Plan) (table : List ℕ) (m low : ℕ) : Type 0 where
-  pub few : low ≤ intervals p
-  pub below : (l : ℕ) → l < low → every (holdsAt p table l) m ≡ true
-  pub there : low < intervals p → every (holdsAt p table low) m ≡ false
-
--- What column sums from interval l to boundary m leave of what a rate carries.
+-- The slack on column sums: what they leave, from interval l to boundary m, of what a rate carries.
 abbrev pub spare : ℕ → List ℕ → List ℕ → ℕ → ℕ → ℤ
 spare rate sums times m l = subℕ (rate * (getD times m 0 - getD times l 0)) (sum (λ k. getD sums (l + k) 0) (m - l))
 

@@ -20,39 +20,39 @@ mostAtPlace = 4_294_967_295
 abbrev pub mostSide : ℕ
 mostSide = 2 ^ 62
 
--- The units of job i in interval j.
+-- The units of job i in interval j, which rules 15 to 18 are about.
 abbrev pub units : List ℕ → ℕ → ℕ → ℕ
 units table i j = allotment mostIntervals table i j
 
--- Interval j, of some boundaries, lies inside a window.
+-- Interval j, of some boundaries, lies inside a window, as rule 15 has it.
 abbrev pub within : List ℕ → ℕ → ℕ → ℕ → Bool
 within times from to j = leb from (getD times j 0) && leb (getD times (suc j) 0) to
 
--- Interval j lies inside the window of job i.
+-- Rule 15: interval j lies inside the window of job i.
 abbrev pub inWindow : Plan → ℕ → ℕ → Bool
 inWindow p i j = within (boundaries p) (release p i) (deadline p i) j
 
--- The length of interval j, in slots.
+-- The length of interval j in slots, for rule 17.
 abbrev pub span : Plan → ℕ → ℕ
 span p j = boundary p (suc j) - boundary p j
 
--- All units of job i.
+-- All units of job i, which rule 16 compares with its size.
 abbrev pub total : Plan → List ℕ → ℕ → ℕ
 total p table i = sum (units table i) (intervals p)
 
--- All units in interval j.
+-- All units in interval j, which rule 17 bounds.
 abbrev pub load : Plan → List ℕ → ℕ → ℕ
 load p table j = sum (λ i. units table i j) (counted p)
 
--- The units of job i in intervals from l on that end by time D.
+-- The units of job i in intervals from l on that end by time D, for rule 18.
 abbrev pub unitsBetween : Plan → List ℕ → ℕ → ℕ → ℕ → ℕ
 unitsBetween p table l D i = sum (λ j. on (leb l j && leb (boundary p (suc j)) D) (units table i j)) (intervals p)
 
--- The demand on the floor from interval l to time D: the HI units between them, of jobs with deadline at most D.
+-- The demand on the floor in rule 18, from interval l to time D: the HI units between them, of jobs with deadline at most D.
 abbrev pub demand : Plan → List ℕ → ℕ → ℕ → ℕ
 demand p table l D = sum (λ i. on (isHi p i && leb (deadline p i) D) (unitsBetween p table l D i)) (counted p)
 
--- What the floor carries from the start of interval l to time D.
+-- What the floor carries in rule 18, from the start of interval l to time D.
 abbrev pub floorCarries : Plan → ℕ → ℕ → ℕ
 floorCarries p l D = p .d .0 * (D - boundary p l)
 

@@ -14,27 +14,27 @@ use Rattle.plan.specs.declared.kinds.Plan.{Plan}
 use Rattle.judge.specs.Constraints.{span, total, load, demand, floorCarries}
 use Rattle.judge.specs.Verdict.{Report, isStray, isPair}
 
--- 22 and 21 are not given.
+-- 22 and 21 are not given: the table has all its places, and the plan is sound.
 abbrev pub InHand : Plan → List ℕ → Type 0
 InHand p table = (places ≤ length table) × (sound p table ≡ true)
 
--- The first n jobs have nothing outside their windows.
+-- Rule 15 holds for the first n jobs: they have nothing outside their windows.
 abbrev pub InsideTo : Plan → List ℕ → ℕ → Type 0
 InsideTo p table n = (i j : ℕ) → i < n → j < intervals p → isStray p table i j ≡ false
 
--- The first n jobs have their sizes.
+-- Rule 16 holds for the first n jobs: they have their sizes.
 abbrev pub TotalTo : Plan → List ℕ → ℕ → Type 0
 TotalTo p table n = (i : ℕ) → i < n → total p table i ≡ size p i
 
--- The first n intervals hold no more than the normal rate carries in them.
+-- Rule 17 holds in the first n intervals: they hold no more than the normal rate carries in them.
 abbrev pub WithinTo : Plan → List ℕ → ℕ → Type 0
 WithinTo p table n = (j : ℕ) → j < n → load p table j ≤ p .n .0 * span p j
 
--- From interval l to each HI deadline among the boundaries before m, no more is asked than the floor carries.
+-- Rule 18 holds from interval l to each HI deadline among the boundaries before m: no more is asked than the floor carries.
 abbrev pub FloorAt : Plan → List ℕ → ℕ → ℕ → Type 0
 FloorAt p table l m = (k : ℕ) → k < m → isPair p l k ≡ true → demand p table l (boundary p k) ≤ floorCarries p l (boundary p k)
 
--- The same from each of the first n intervals to every HI deadline.
+-- Rule 18 holds from each of the first n intervals to every HI deadline: no more is asked than the floor carries.
 abbrev pub FloorTo : Plan → List ℕ → ℕ → Type 0
 FloorTo p table n = (l : ℕ) → l < n → (k : ℕ) → k ≤ intervals p → isPair p l k ≡ true
     → demand p table l (boundary p k) ≤ floorCarries p l (boundary p k)

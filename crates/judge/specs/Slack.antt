@@ -25,7 +25,7 @@ lesser noneEssential s l D = least s l D
 lesser (least best l₀ D₀) s l D = cond (ltZ s best) (least s l D) (least best l₀ D₀)
 lesser (refused report) s l D = refused report
 
--- A step for each number below a length, in rising order.
+-- A step for each number below a length, in rising order, which is the order that decides between equal slacks.
 unfoldable pub through : {A : Type 0} → (ℕ → A → A) → ℕ → A → A
 through step zero a = a
 through step (suc n) a = step n (through step n a)

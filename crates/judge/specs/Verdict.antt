@@ -17,12 +17,12 @@ use Rattle.judge.specs.Constraints.{units, inWindow, span, total, load, 
 abbrev pub Report : Type 0
 Report = List ℕ
 
--- A report, if there is one, or else the next.
+-- A report, if there is one, or else the next, as the order of the refusals has it.
 abbrev pub orElse : Report → Report → Report
 orElse [] next = next
 orElse (number ∷ places) next = number ∷ places
 
--- There is nothing to refuse.
+-- A report is empty: there is nothing to refuse.
 abbrev pub isNone : Report → Bool
 isNone [] = true
 isNone (number ∷ places) = false
@@ -37,7 +37,7 @@ unfoldable pub first : (ℕ → Report) → ℕ → Report
 first f zero = []
 first f (suc n) = orElse (first f n) (f n)
 
--- Job i has units in interval j, which lies outside its window.
+-- Rule 15 is broken at a place: job i has units in interval j, which lies outside its window.
 abbrev pub isStray : Plan → List ℕ → ℕ → ℕ → Bool
 isStray p table i j = not (inWindow p i j || eqb (units table i j) 0)
 
@@ -54,7 +54,7 @@ totalFault p table = first (λ i. fault (not (eqb (total p table i) (size p i)))
 unfoldable pub capacityFault : Plan → List ℕ → Report
 capacityFault p table = first (λ j. fault (ltb (p .n .0 * span p j) (load p table j)) (overCapacity ∷ j ∷ [])) (intervals p)
 
--- Time D is the deadline of a HI job.
+-- Time D is the deadline of a HI job, as rule 18 asks.
 unfoldable pub isHiDeadline : Plan → ℕ → Bool
 isHiDeadline p D = not (every (λ i. not (isHi p i && eqb (deadline p i) D)) (counted p))
 
@@ -62,7 +62,7 @@ isHiDeadline p D = not (every (λ i. not (isHi p i && eqb (deadline p i) D)) (co
 abbrev pub isPair : Plan → ℕ → ℕ → Bool
 isPair p l m = ltb l m && isHiDeadline p (boundary p m)
 
--- From interval l to boundary m more is asked than the floor carries.
+-- Rule 18 is broken by a pair: from interval l to boundary m more is asked than the floor carries.
 abbrev pub fallsShort : Plan → List ℕ → ℕ → ℕ → Bool
 fallsShort p table l m = ltb (floorCarries p l (boundary p m)) (demand p table l (boundary p m))
 

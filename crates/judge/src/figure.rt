@@ -3,10 +3,9 @@ use crate::answers::Slack;
 use crate::answers::is_accepted;
 use crate::faults::constraints;
 use crate::faults::in_hand;
-use crate::floor::demand_of;
+use crate::pair::demand_of;
 use crate::rows::add_rows;
-use crate::rows::deadlines_of;
-use crate::rows::grades_of;
+use crate::rows::hi_deadlines_of;
 use crate::totals::carried;
 use plan::boundaries::boundaries_of;
 use plan::boundaries::present_of;
@@ -15,13 +14,13 @@ use plan::kinds::Plan;
 use plan::kinds::Rate;
 use plan::kinds::Slots;
 use plan::kinds::Units;
-use plan::rules::counted_of;
 ghost use mathlib.Core.Path.{_≡_};
-ghost use mathlib.Core.Bool.{cond};
+ghost use mathlib.Core.Bool.{true, cond};
 ghost use Prim.Native.Nat.{ℕ, _*_, _≤_, _<_};
 ghost use lib.IntN.{subℕ};
 ghost use lib.ListN.{length, getD};
 ghost use Rattle.plan.specs.Edition.{mostJobs, mostIntervals, places};
+ghost use Rattle.plan.specs.Rules.{rulesHold};
 ghost use Rattle.plan.specs.Boundaries.{boundaries, intervals};
 ghost use Rattle.judge.specs.Constraints.{mostAtPlace, mostSide};
 ghost use Rattle.judge.specs.Verdict.{constraintFault};
@@ -62,7 +61,7 @@ pub fn slack_of(p: Plan, table: &[u32], interval: usize, deadline: Slots) -> i64
         return slack_from(carries, Units(0));
     }
     let asked = demand_of(p, table, interval, (ended - interval) as u32, deadline.0);
-    slack_from(carries, Units(asked))
+    slack_from(carries, asked)
 }
 
 // Of the figure so far and a pair at a deadline no earlier, the lesser; where they are equal, the one of the lower interval.
@@ -92,13 +91,13 @@ fn column_taken_in(due: bool, d: Rate, sums: &[u64], times: &[u32], m: usize, kn
     }
     let time = times[m];
     let mut best = known;
-    let mut asked: u64 = 0;
+    let mut asked = Units(0);
     let mut l = m;
     while l > 0 {
         l -= 1;
-        asked += sums[l];
+        asked = Units(asked.0 + sums[l]);
         let carries = carried(d, times[l], time);
-        let slack = slack_from(carries, Units(asked));
+        let slack = slack_from(carries, asked);
         best = sooner_of(best, slack, l, Slots(time));
     }
     best
@@ -107,25 +106,16 @@ fn column_taken_in(due: bool, d: Rate, sums: &[u64], times: &[u32], m: usize, kn
 // The least slack over all pairs. One pass over the boundaries: the column sums take in the rows of the HI jobs due at each, and each
 // HI deadline is looked at from its last interval back.
 fn least_slack(p: Plan, table: &[u32], times: &[u32], spans: usize) -> Slack
-    requires { ⌜ (now times ≡ boundaries p) × (spans ≡ intervals p) × (spans < length (now times)) × (places ≤ length (now table)) ⌝ }
+    requires { ⌜ (now times ≡ boundaries p) × (spans ≡ intervals p) × (spans < length (now times)) × (places ≤ length (now table)) × (rulesHold p ≡ true) ⌝ }
     ensures { λ r. ⌜ figure r ≡ leastSlack p (now (table .entry)) ⌝ }
 {
-    let jobs = counted_of(p);
-    let deadlines = deadlines_of(p);
-    let grades = grades_of(p);
+    let deadlines = hi_deadlines_of(p);
     let mut sums = [0u64; Edition::MOST_INTERVALS];
     let mut best = Slack::NoneEssential;
     let mut m = 0;
     while m <= spans {
         let time = times[m];
-        let due = add_rows(
-            &mut sums,
-            table,
-            &deadlines[..jobs],
-            &grades[..jobs],
-            spans,
-            time,
-        );
+        let due = add_rows(&mut sums, table, &deadlines, spans, time);
         let d = p.d;
         best = column_taken_in(due, d, &sums, times, m, best);
         m += 1;
@@ -135,7 +125,7 @@ fn least_slack(p: Plan, table: &[u32], times: &[u32], spans: usize) -> Slack
 
 // The slack figure of a plan in hand that is sound, with its boundaries.
 fn slack_at(p: Plan, table: &[u32], times: &[u32]) -> Slack
-    requires { ⌜ (now times ≡ boundaries p) × (0 < length (now times)) × (places ≤ length (now table)) ⌝ }
+    requires { ⌜ (now times ≡ boundaries p) × (0 < length (now times)) × (places ≤ length (now table)) × (rulesHold p ≡ true) ⌝ }
     ensures { λ r. ⌜ figure r ≡ unless (constraintFault p (now (table .entry))) (leastSlack p (now (table .entry))) ⌝ }
 {
     let spans = times.len() - 1;

@@ -3,6 +3,7 @@ pub mod answers;
 mod faults;
 pub mod figure;
 mod floor;
+mod pair;
 mod rows;
 mod totals;
 mod windows;
@@ -15,16 +16,18 @@ use crate::floor::below_floor;
 use plan::boundaries::boundaries_of;
 use plan::kinds::Plan;
 ghost use mathlib.Core.Path.{_≡_};
+ghost use mathlib.Core.Bool.{true};
 ghost use Prim.Native.Nat.{_<_, _≤_};
 ghost use lib.ListN.{length};
 ghost use Rattle.plan.specs.Edition.{places};
+ghost use Rattle.plan.specs.Rules.{rulesHold};
 ghost use Rattle.plan.specs.Boundaries.{boundaries};
 ghost use Rattle.judge.specs.Verdict.{orElse, constraintFault, floorFault};
 ghost use Rattle.judge.specs.Answers.{report, Judges};
 
 // The verdict on a plan in hand that is sound, with its boundaries.
 fn judge_at(p: Plan, table: &[u32], times: &[u32]) -> Verdict
-    requires { ⌜ (now times ≡ boundaries p) × (0 < length (now times)) × (places ≤ length (now table)) ⌝ }
+    requires { ⌜ (now times ≡ boundaries p) × (0 < length (now times)) × (places ≤ length (now table)) × (rulesHold p ≡ true) ⌝ }
     ensures { λ r. ⌜ report r ≡ orElse (constraintFault p (now (table .entry))) (floorFault p (now (table .entry))) ⌝ }
 {
     let spans = times.len() - 1;

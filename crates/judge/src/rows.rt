@@ -1,17 +1,18 @@
-// What the passes over the boundaries share: jobs' deadlines and grades in a row, and rows of the table added to column sums.
+// What the passes over the boundaries share: the HI jobs' deadlines in a row, and rows of the table added to column sums.
 use plan::edition::Edition;
 use plan::kinds::HI;
 use plan::kinds::Plan;
+use plan::kinds::Units;
+use plan::rules::counted_of;
 ghost use mathlib.Core.Path.{_≡_};
-ghost use mathlib.Core.Bool.{not, _&&_};
+ghost use mathlib.Core.Bool.{cond};
 ghost use Prim.Native.Nat.{ℕ, _+_, _*_, _≤_, _<_};
 ghost use lib.Dec.{eqb};
 ghost use lib.ListN.{length, getD};
 ghost use Rattle.sums.specs.Sum.{sum, on};
 ghost use Rattle.plan.specs.Edition.{mostJobs, mostIntervals, places};
-ghost use Rattle.plan.specs.Below.{every};
-ghost use Rattle.plan.specs.Rules.{hi, jobOf, deadline};
 ghost use Rattle.judge.specs.Constraints.{mostAtPlace, mostSide, units};
+ghost use Rattle.judge.specs.Columns.{never, hiDeadline, isDueIn};
 
 // Adds a row's numbers to column sums, where they are wanted.
 fn add_row(sums: &mut [u64], wanted: bool, table: &[u32], start: usize, spans: usize)
@@ -23,59 +24,66 @@ fn add_row(sums: &mut [u64], wanted: bool, table: &[u32], start: usize, spans: u
     }
     let mut j = 0;
     while j < spans {
-        let so_far = sums[j];
-        sums[j] = so_far + table[start + j] as u64;
+        let so_far = Units(sums[j]);
+        sums[j] = so_far.0 + table[start + j] as u64;
         j += 1;
     }
 }
 
-// Adds the rows of all HI jobs with a deadline to column sums; whether there are any.
-pub(crate) fn add_rows(
-    sums: &mut [u64],
-    table: &[u32],
-    deadlines: &[u32],
-    grades: &[u8],
-    spans: usize,
-    time: u32,
-) -> bool
-    requires { ⌜ (spans ≤ length (now sums)) × (length (now deadlines) ≡ length (now grades)) × (length (now grades) ≤ mostJobs) × (spans ≤ mostIntervals) × (places ≤ length (now table)) × ((j : ℕ) → j < spans → getD (now sums) j 0 ≤ mostJobs * mostAtPlace) ⌝ }
-    ensures { λ r. ⌜ (r ≡ not (every (λ i. not (eqb (getD (now (grades .entry)) i 0) hi && eqb (getD (now (deadlines .entry)) i 0) time)) (length (now (grades .entry))))) × (length (now (sums .exit)) ≡ length (now (sums .entry))) × ((j : ℕ) → j < spans → getD (now (sums .exit)) j 0 ≡ getD (now (sums .entry)) j 0 + sum (λ i. on (eqb (getD (now (grades .entry)) i 0) hi && eqb (getD (now (deadlines .entry)) i 0) time) (units (now (table .entry)) i j)) (length (now (grades .entry)))) ⌝ }
+// Whether a time is one of some deadlines. It looks at all of them, which is faster than to stop early.
+fn is_due(deadlines: &[u32], time: u32) -> bool
+    ensures { λ r. ⌜ r ≡ isDueIn (now (deadlines .entry)) time ⌝ }
 {
     let mut absent = true;
     let mut i = 0;
-    while i < grades.len() {
-        let wanted = (grades[i] == HI) & (deadlines[i] == time);
-        absent = absent & !wanted;
-        add_row(sums, wanted, table, Edition::MOST_INTERVALS * i, spans);
+    while i < deadlines.len() {
+        absent = absent & (deadlines[i] != time);
         i += 1;
     }
     !absent
 }
 
-// The deadlines of all records, in a row.
-pub(crate) fn deadlines_of(p: Plan) -> [u32; Edition::MOST_JOBS]
-    ensures { λ r. ⌜ (length r ≡ mostJobs) × ((k : ℕ) → k < mostJobs → getD r k 0 ≡ deadline p k) ⌝ }
+// Adds the rows of all jobs with a deadline to column sums; whether there are any.
+pub(crate) fn add_rows(
+    sums: &mut [u64],
+    table: &[u32],
+    deadlines: &[u32],
+    spans: usize,
+    time: u32,
+) -> bool
+    requires { ⌜ (spans ≤ length (now sums)) × (length (now deadlines) ≤ mostJobs) × (spans ≤ mostIntervals) × (places ≤ length (now table)) × ((j : ℕ) → j < spans → getD (now sums) j 0 ≤ mostJobs * mostAtPlace) ⌝ }
+    ensures { λ r. ⌜ (r ≡ isDueIn (now (deadlines .entry)) time) × (length (now (sums .exit)) ≡ length (now (sums .entry))) × ((j : ℕ) → j < spans → getD (now (sums .exit)) j 0 ≡ getD (now (sums .entry)) j 0 + sum (λ i. on (eqb (getD (now (deadlines .entry)) i 0) time) (units (now (table .entry)) i j)) (length (now (deadlines .entry)))) ⌝ }
 {
+    if !is_due(deadlines, time) {
+        return false;
+    }
+    let mut i = 0;
+    while i < deadlines.len() {
+        let wanted = deadlines[i] == time;
+        add_row(sums, wanted, table, Edition::MOST_INTERVALS * i, spans);
+        i += 1;
+    }
+    true
+}
+
+// A deadline where it is wanted, and else a time that no sound plan reaches.
+fn deadline_if(wanted: bool, deadline: u32) -> u32
+    ensures { λ r. ⌜ r ≡ cond wanted deadline never ⌝ }
+{
+    if wanted { deadline } else { u32::MAX }
+}
+
+// The deadlines of the HI jobs in a row, at the places of their records.
+pub(crate) fn hi_deadlines_of(p: Plan) -> [u32; Edition::MOST_JOBS]
+    ensures { λ r. ⌜ (length r ≡ mostJobs) × ((k : ℕ) → k < mostJobs → getD r k 0 ≡ hiDeadline p k) ⌝ }
+{
+    let jobs = counted_of(p);
     let mut row = [0u32; Edition::MOST_JOBS];
     let mut i = 0;
     while i < Edition::MOST_JOBS {
         let job = p.jobs[i];
         let deadline = job.deadline;
-        row[i] = deadline.0;
-        i += 1;
-    }
-    row
-}
-
-// The grades of all records, in a row.
-pub(crate) fn grades_of(p: Plan) -> [u8; Edition::MOST_JOBS]
-    ensures { λ r. ⌜ (length r ≡ mostJobs) × ((k : ℕ) → k < mostJobs → getD r k 0 ≡ jobOf p k .grade) ⌝ }
-{
-    let mut row = [0u8; Edition::MOST_JOBS];
-    let mut i = 0;
-    while i < Edition::MOST_JOBS {
-        let job = p.jobs[i];
-        row[i] = job.grade;
+        row[i] = deadline_if((i < jobs) & (job.grade == HI), deadline.0);
         i += 1;
     }
     row

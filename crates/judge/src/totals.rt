@@ -48,8 +48,8 @@ pub(crate) fn wrong_total(p: Plan, table: &[u32], spans: usize) -> Verdict
     while i < jobs {
         let job = p.jobs[i];
         let size = job.size;
-        let total = sum_of(table, Edition::MOST_INTERVALS * i, 1, spans as u32);
-        if total != size.0 {
+        let total = Units(sum_of(table, Edition::MOST_INTERVALS * i, 1, spans as u32));
+        if total.0 != size.0 {
             return Verdict::WrongTotal(i);
         }
         i += 1;
@@ -63,8 +63,8 @@ fn is_over(n: Rate, jobs: usize, table: &[u32], from: u32, to: u32, j: usize) ->
     ensures { λ r. ⌜ r ≡ ltb (n .0 * (to - from)) (sum (λ i. units (now (table .entry)) i j) jobs) ⌝ }
 {
     let most = carried(n, from, to);
-    let load = sum_of(table, j, Edition::MOST_INTERVALS, jobs as u32);
-    most.0 < load
+    let load = Units(sum_of(table, j, Edition::MOST_INTERVALS, jobs as u32));
+    most.0 < load.0
 }
 
 // Rule 17 over all intervals.

@@ -56,7 +56,8 @@ judge-at-requires : tie.Need-judge-at-requires
 judge-at-requires c κs =
     let hand = hand-none (c .before .before .before .before .before .before .before .args .p) (c .before .before .before .before .before .before .before .args .table .now) (passes _ _ _ (c .before .before .before .before .before .in-hand .ensures) (c .before .before .before .before .is-accepted .ensures) (c .before .before .before .if1 .left)) in
     let p = c .before .before .before .before .before .before .before .args .p in
-    (are-boundaries (c .before .before), rw (are-boundaries (c .before .before)) (boundaries-some p (counted p) (rules-count p (sound-rules p (c .before .before .before .before .before .before .before .args .table .now) (hand .1)))), hand .0)
+    let rules = sound-rules p (c .before .before .before .before .before .before .before .args .table .now) (hand .1) in
+    (are-boundaries (c .before .before), rw (are-boundaries (c .before .before)) (boundaries-some p (counted p) (rules-count p rules)), hand .0, rules)
 
 returns-2 : tie.Need-returns-2
 unfolding judged

@@ -25,7 +25,7 @@ returns c =
     stops _ _ _ _ (c .before .before .constraints .ensures) (c .before .is-accepted .ensures) (c .if1 .taken)
 
 below-floor-requires : tie.Need-below-floor-requires
-below-floor-requires c κs = (c .before .before .before .before .before .pre .0, ap (λ t. length t - 1) (c .before .before .before .before .before .pre .0), omega arith, c .before .before .before .before .before .pre .2)
+below-floor-requires c κs = (c .before .before .before .before .before .pre .0, ap (λ t. length t - 1) (c .before .before .before .before .before .pre .0), omega arith, c .before .before .before .before .before .pre .2, c .before .before .before .before .before .pre .3)
 
 returns-2 : tie.Need-returns-2
 returns-2 c =

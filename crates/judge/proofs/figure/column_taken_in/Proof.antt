@@ -21,7 +21,7 @@ use Rattle.judge.proofs.figure.column_taken_in.Tie as tie
 
 abbrev Inv-loop : tie.InvT-loop
 Inv-loop due d sums times m time best₀ asked₀ l₀ best asked l =
-    (l ≤ m) × (asked ≡ sum (λ k. getD sums (l + k) 0) (m - l)) × (asked ≤ (m - l) * (mostJobs * mostAtPlace)) × (columnTaken (d .0) sums times m l (figure best) ≡ columnTaken (d .0) sums times m m (figure best₀))
+    (l ≤ m) × (asked .0 ≡ sum (λ k. getD sums (l + k) 0) (m - l)) × (asked .0 ≤ (m - l) * (mostJobs * mostAtPlace)) × (columnTaken (d .0) sums times m l (figure best) ≡ columnTaken (d .0) sums times m m (figure best₀))
 
 abbrev μ-loop : tie.MeasureT-loop
 μ-loop due d sums times m time best₀ asked₀ l₀ best asked l = l
@@ -44,19 +44,19 @@ loop-holds c =
 sub-l : tie.Need-sub-l Inv-loop μ-loop
 sub-l c = omega arith
 
-mul-asked : tie.Need-mul-asked Inv-loop μ-loop
-mul-asked c = omega arith
+mul-t18 : tie.Need-mul-t18 Inv-loop μ-loop
+mul-t18 c = omega arith
 
-shared-slice-read-asked : tie.Need-shared-slice-read-asked Inv-loop μ-loop
-shared-slice-read-asked c = omega arith
+shared-slice-read-t20 : tie.Need-shared-slice-read-t20 Inv-loop μ-loop
+shared-slice-read-t20 c = omega arith
 
 -- The sum stays small with one interval more.
-small : (c : tie.In-loop Inv-loop μ-loop) → c .before .loop .asked + getD (c .before .before .before .before .before .before .args .sums .now) (c .before .loop .l - 1) 0 < mostSide
+small : (c : tie.In-loop Inv-loop μ-loop) → c .before .loop .asked .0 + getD (c .before .before .before .before .before .before .args .sums .now) (c .before .loop .l - 1) 0 < mostSide
 small c =
     omega (arith, c .before .before .before .before .before .before .pre .3 (c .before .loop .l - 1) (omega arith), mul-le-mul-right {m = c .before .before .before .before .before .before .args .m - c .before .loop .l} {n = mostIntervals} (mostJobs * mostAtPlace) (omega arith))
 
-add-asked : tie.Need-add-asked Inv-loop μ-loop
-add-asked c = omega (arith, small (c .before))
+add-t21 : tie.Need-add-t21 Inv-loop μ-loop
+add-t21 c = omega (arith, small (c .before .before))
 
 mul-carried : tie.Need-mul-carried Inv-loop μ-loop
 mul-carried c = search needs
@@ -68,7 +68,7 @@ carried-requires : tie.Need-carried-requires Inv-loop μ-loop
 carried-requires c κs = search needs
 
 slack-from-requires : tie.Need-slack-from-requires Inv-loop μ-loop
-slack-from-requires c κs = (c .carried .ensures .1, small (c .before .before .before))
+slack-from-requires c κs = (c .carried .ensures .1, small (c .before .before .before .before))
 
 sooner-of-requires : tie.Need-sooner-of-requires Inv-loop μ-loop
 sooner-of-requires c κs = search needs
@@ -78,17 +78,17 @@ loop-less c = omega arith
 
 loop-again : tie.Need-loop-again Inv-loop μ-loop
 loop-again c =
-    let a = c .before .before .before .before .before .before .before .before .before .before .before .args in
-    let l = c .before .before .before .before .before .before .loop .l in
-    let asked = c .before .before .before .before .before .before .loop .asked in
-    let turn = taken-next (a .d .0) (a .sums .now) (a .times .now) (a .m) l asked _ (figure (c .before .before .before .before .before .before .loop .best)) (figure (c .sooner-of .result)) (omega arith) (omega arith) (c .before .before .before .before .before .before .loop .inv .1)
-    (kept-difference _ _ _ (c .before .before .carried .ensures .1) (small (c .before .before .before .before .before)) (c .before .slack-from .ensures) ∙ ap (λ n. subℕ n (asked + getD (a .sums .now) (l - 1) 0)) (c .before .before .carried .ensures .0))
+    let a = c .before .before .before .before .before .before .before .before .before .before .before .before .args in
+    let l = c .before .before .before .before .before .before .before .loop .l in
+    let asked = c .before .before .before .before .before .before .before .loop .asked .0 in
+    let turn = taken-next (a .d .0) (a .sums .now) (a .times .now) (a .m) l asked _ (figure (c .before .before .before .before .before .before .before .loop .best)) (figure (c .sooner-of .result)) (omega arith) (omega arith) (c .before .before .before .before .before .before .before .loop .inv .1)
+    (kept-difference _ _ _ (c .before .before .carried .ensures .1) (small (c .before .before .before .before .before .before)) (c .before .slack-from .ensures) ∙ ap (λ n. subℕ n (asked + getD (a .sums .now) (l - 1) 0)) (c .before .before .carried .ensures .0))
     (c .sooner-of .ensures) in
     let one-more : a .m - (l - 1) ≡ a .m - l + 1 = omega arith in (
       omega arith,
       turn .0,
-      omega (arith, c .before .before .before .before .before .before .before .before .before .before .before .pre .3 (l - 1) (omega arith), ap (λ n. n * (mostJobs * mostAtPlace)) one-more),
-      turn .1 ∙ c .before .before .before .before .before .before .loop .inv .3,
+      omega (arith, c .before .before .before .before .before .before .before .before .before .before .before .before .pre .3 (l - 1) (omega arith), ap (λ n. n * (mostJobs * mostAtPlace)) one-more),
+      turn .1 ∙ c .before .before .before .before .before .before .before .loop .inv .3,
     )
 
 returns-2 : tie.Need-returns-2 Inv-loop μ-loop
@@ -110,9 +110,9 @@ column-taken-in-spec =
     shared-slice-read-time
     loop-holds
     sub-l
-    mul-asked
-    shared-slice-read-asked
-    add-asked
+    mul-t18
+    shared-slice-read-t20
+    add-t21
     mul-carried
     shared-slice-read-carried
     carried-requires

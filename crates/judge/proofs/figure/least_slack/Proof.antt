@@ -4,8 +4,7 @@ use Prim.Native.Nat.{ℕ, suc, _-_, _≤_}
 use native.Mathlib.Numerals.{add-one}
 use native.Mathlib.Omega.{arith}
 use borrow.Author.Needs.{needs}
-use lib.ListN.{getD, take}
-use lib.Seq.{length-take-le}
+use lib.ListN.{getD}
 use Rattle.plan.specs.Boundaries.{boundary, intervals}
 use Rattle.judge.specs.Constraints.{mostAtPlace}
 use Rattle.judge.specs.Verdict.{isHiDeadline}
@@ -17,99 +16,78 @@ use Rattle.judge.proofs.figure.least_slack.Statement.{statement}
 use Rattle.judge.proofs.figure.least_slack.Tie as tie
 
 abbrev Inv-loop : tie.InvT-loop
-Inv-loop p table times spans jobs deadlines grades sums₀ best₀ m₀ sums best m =
+Inv-loop p table times spans deadlines sums₀ best₀ m₀ sums best m =
     (m ≤ suc spans) × Summed p table m sums × LeastAmong p table (Before p m) (figure best)
 
 abbrev μ-loop : tie.MeasureT-loop
-μ-loop p table times spans jobs deadlines grades sums₀ best₀ m₀ sums best m = suc spans - m
+μ-loop p table times spans deadlines sums₀ best₀ m₀ sums best m = suc spans - m
 
-counted-of-requires : tie.Need-counted-of-requires Inv-loop μ-loop
-counted-of-requires c κs = search needs
-
-deadlines-of-requires : tie.Need-deadlines-of-requires Inv-loop μ-loop
-deadlines-of-requires c κs = search needs
-
-grades-of-requires : tie.Need-grades-of-requires Inv-loop μ-loop
-grades-of-requires c κs = search needs
+hi-deadlines-of-requires : tie.Need-hi-deadlines-of-requires Inv-loop μ-loop
+hi-deadlines-of-requires c κs = search needs
 
 loop-holds : tie.Need-loop-holds Inv-loop μ-loop
 loop-holds c =
-    let a = c .before .before .before .before .before .args in
+    let a = c .before .before .before .args in
     (omega arith, summed-start (a .p) (a .table .now), tightest-start (a .p) (a .table .now))
 
 mul-time : tie.Need-mul-time Inv-loop μ-loop
-mul-time c = omega (arith, c .before .before .before .before .before .before .before .pre .2)
+mul-time c = omega (arith, c .before .before .before .before .before .pre .2)
 
 shared-slice-read-time : tie.Need-shared-slice-read-time Inv-loop μ-loop
-shared-slice-read-time c = omega (arith, c .before .before .before .before .before .before .before .before .pre .2)
+shared-slice-read-time c = omega (arith, c .before .before .before .before .before .before .pre .2)
 
 slice-aggregate-add-rows : tie.Need-slice-aggregate-add-rows Inv-loop μ-loop
 slice-aggregate-add-rows c = sym (c .before .before .before .loop .inv .1 .room)
 
-array-share-prefix-deadlines : tie.Need-array-share-prefix-deadlines Inv-loop μ-loop
-array-share-prefix-deadlines c = omega (arith, c .before .before .before .before .before .deadlines-of .ensures .0, c .before .before .before .before .before .before .counted-of .ensures)
-
 slice-aggregate-add-rows-2 : tie.Need-slice-aggregate-add-rows-2 Inv-loop μ-loop
-slice-aggregate-add-rows-2 c =
-    sym (length-take-le (c .before .before .before .before .before .before .before .counted-of .result) (c .before .before .before .before .before .before .deadlines-of .result) (omega (arith, c .before .before .before .before .before .before .deadlines-of .ensures .0, c .before .before .before .before .before .before .before .counted-of .ensures)))
-
-array-share-prefix-grades : tie.Need-array-share-prefix-grades Inv-loop μ-loop
-array-share-prefix-grades c = omega (arith, c .before .before .before .before .before .grades-of .ensures .0, c .before .before .before .before .before .before .before .counted-of .ensures)
-
-slice-aggregate-add-rows-3 : tie.Need-slice-aggregate-add-rows-3 Inv-loop μ-loop
-slice-aggregate-add-rows-3 c =
-    sym (length-take-le (c .before .before .before .before .before .before .before .before .counted-of .result) (c .before .before .before .before .before .before .grades-of .result) (omega (arith, c .before .before .before .before .before .before .grades-of .ensures .0, c .before .before .before .before .before .before .before .before .counted-of .ensures)))
+slice-aggregate-add-rows-2 c = sym (c .before .before .before .before .before .hi-deadlines-of .ensures .0)
 
 -- What the pass reads, and what a place of the table can hold.
-ready : (c : tie.After-grades-of Inv-loop μ-loop)
-    → ReadyFor (c .before .before .before .before .before .args .p) (c .before .before .before .before .before .args .table .now) (c .before .before .before .before .before .args .times .now) (take (c .before .before .counted-of .result) (c .before .deadlines-of .result)) (take (c .before .before .counted-of .result) (c .grades-of .result)) (c .before .before .before .before .before .args .spans)
+ready : (c : tie.After-hi-deadlines-of Inv-loop μ-loop) → ReadyFor (c .before .before .before .args .p) (c .before .before .before .args .table .now) (c .before .before .before .args .times .now) (c .hi-deadlines-of .result) (c .before .before .before .args .spans)
 ready c =
-    let a = c .before .before .before .before .before .args in
-    ready-from (a .p) (a .table .now) (a .times .now) (c .before .deadlines-of .result) (c .grades-of .result) (a .spans) (c .before .before .counted-of .result) (c .before .before .before .before .before .pre) (c .before .before .counted-of .ensures) (c .before .deadlines-of .ensures) (c .grades-of .ensures)
+    let a = c .before .before .before .args in
+    ready-from (a .p) (a .table .now) (a .times .now) (c .hi-deadlines-of .result) (a .spans) (c .before .before .before .pre) (c .hi-deadlines-of .ensures)
 
 most : (c : tie.After-shared-slice-known Inv-loop μ-loop) → (q : ℕ) → getD (c .before .args .table .now) q 0 ≤ mostAtPlace
 most c q = omega (arith, c .shared-slice-known .given q)
 
 add-rows-requires : tie.Need-add-rows-requires Inv-loop μ-loop
-add-rows-requires c κs =
-    rows-fit (ready (c .before .before .before .before .before .before)) (most (c .before .before .before .before .before .before .before .before .before .before)) (c .before .before .before .before .loop-test .taken) (c .before .before .before .before .before .loop .inv .1)
+add-rows-requires c κs = rows-fit (ready (c .before .before .before .before .before)) (most (c .before .before .before .before .before .before .before)) (c .before .before .before .loop-test .taken) (c .before .before .before .before .loop .inv .1)
 
 -- After the rows of a boundary are added, the column sums are those of the jobs due by it.
-summed : (c : tie.After-add-rows Inv-loop μ-loop) → Summed (c .before .before .before .before .before .before .before .before .before .before .before .before .args .p) (c .before .before .before .before .before .before .before .before .before .before .before .before .args .table .now) (suc (c .before .before .before .before .before .before .loop .m)) (c .add-rows .last .0)
+summed : (c : tie.After-add-rows Inv-loop μ-loop) → Summed (c .before .before .before .before .before .before .before .before .before .args .p) (c .before .before .before .before .before .before .before .before .before .args .table .now) (suc (c .before .before .before .before .before .loop .m)) (c .add-rows .last .0)
 summed c =
-    summed-next (ready (c .before .before .before .before .before .before .before)) (most (c .before .before .before .before .before .before .before .before .before .before .before)) (c .before .before .before .before .before .loop-test .taken) (c .add-rows .last .0) (c .before .before .before .before .before .before .loop .inv .1) (c .add-rows .ensures .1) (c .add-rows .ensures .2)
+    summed-next (ready (c .before .before .before .before .before .before)) (most (c .before .before .before .before .before .before .before .before)) (c .before .before .before .before .loop-test .taken) (c .add-rows .last .0) (c .before .before .before .before .before .loop .inv .1) (c .add-rows .ensures .1) (c .add-rows .ensures .2)
 
-due : (c : tie.After-add-rows Inv-loop μ-loop) → c .add-rows .result ≡ isHiDeadline (c .before .before .before .before .before .before .before .before .before .before .before .before .args .p) (boundary (c .before .before .before .before .before .before .before .before .before .before .before .before .args .p) (c .before .before .before .before .before .before .loop .m))
-due c =
-    due-is (ready (c .before .before .before .before .before .before .before)) (most (c .before .before .before .before .before .before .before .before .before .before .before)) (c .before .before .before .before .before .loop-test .taken) (c .add-rows .ensures .0)
+due : (c : tie.After-add-rows Inv-loop μ-loop) → c .add-rows .result ≡ isHiDeadline (c .before .before .before .before .before .before .before .before .before .args .p) (boundary (c .before .before .before .before .before .before .before .before .before .args .p) (c .before .before .before .before .before .loop .m))
+due c = due-is (ready (c .before .before .before .before .before .before)) (most (c .before .before .before .before .before .before .before .before)) (c .before .before .before .before .loop-test .taken) (c .add-rows .ensures .0)
 
 slice-aggregate-column-taken-in : tie.Need-slice-aggregate-column-taken-in Inv-loop μ-loop
 slice-aggregate-column-taken-in c = sym (summed (c .before .before .before) .room)
 
 column-taken-in-requires : tie.Need-column-taken-in-requires Inv-loop μ-loop
-column-taken-in-requires c κs =
-    column-fits (ready (c .before .before .before .before .before .before .before .before .before .before)) (most (c .before .before .before .before .before .before .before .before .before .before .before .before .before .before)) (c .before .before .before .before .before .before .before .before .loop-test .taken) (summed (c .before .before .before))
+column-taken-in-requires c κs = column-fits (ready (c .before .before .before .before .before .before .before .before .before)) (most (c .before .before .before .before .before .before .before .before .before .before .before)) (c .before .before .before .before .before .before .before .loop-test .taken) (summed (c .before .before .before))
 
 add-m : tie.Need-add-m Inv-loop μ-loop
-add-m c = omega (arith, c .before .before .before .before .before .before .before .before .before .before .before .before .before .before .before .before .pre .1, few-intervals (c .before .before .before .before .before .before .before .before .before .before .before .before .before .before .before .before .args .p))
+add-m c = omega (arith, c .before .before .before .before .before .before .before .before .before .before .before .before .before .pre .1, few-intervals (c .before .before .before .before .before .before .before .before .before .before .before .before .before .args .p))
 
 loop-less : tie.Need-loop-less Inv-loop μ-loop
 loop-less c = omega arith
 
 loop-again : tie.Need-loop-again Inv-loop μ-loop
 loop-again c =
-    let a = c .before .before .before .before .before .before .before .before .before .before .before .before .before .before .before .before .args in
-    let m = c .before .before .before .before .before .before .before .before .before .before .loop .m in
-    let in-time : m ≤ intervals (a .p) = omega (arith, c .before .before .before .before .before .before .before .before .before .loop-test .taken, c .before .before .before .before .before .before .before .before .before .before .before .before .before .before .before .before .pre .1) in (
+    let a = c .before .before .before .before .before .before .before .before .before .before .before .before .before .args in
+    let m = c .before .before .before .before .before .before .before .before .before .loop .m in
+    let in-time : m ≤ intervals (a .p) = omega (arith, c .before .before .before .before .before .before .before .before .loop-test .taken, c .before .before .before .before .before .before .before .before .before .before .before .before .before .pre .1) in (
       omega arith,
       rw (add-one m) (summed (c .before .before .before .before)),
-      tightest-next (a .p) (a .table .now) (c .before .before .before .before .add-rows .last .0) (a .times .now) m (c .before .before .before .before .before .before .before .before .before .before .before .before .before .before .before .before .pre .0) in-time (summed (c .before .before .before .before)) (c .before .before .before .before .add-rows .result) (figure (c .before .before .before .before .before .before .before .before .before .before .loop .best)) (figure (c .column-taken-in .result)) (due (c .before .before .before .before)) (c .column-taken-in .ensures) (c .before .before .before .before .before .before .before .before .before .before .loop .inv .2),
+      tightest-next (a .p) (a .table .now) (c .before .before .before .before .add-rows .last .0) (a .times .now) m (c .before .before .before .before .before .before .before .before .before .before .before .before .before .pre .0) in-time (summed (c .before .before .before .before)) (c .before .before .before .before .add-rows .result) (figure (c .before .before .before .before .before .before .before .before .before .loop .best)) (figure (c .column-taken-in .result)) (due (c .before .before .before .before)) (c .column-taken-in .ensures) (c .before .before .before .before .before .before .before .before .before .loop .inv .2),
     )
 
 returns : tie.Need-returns Inv-loop μ-loop
 returns c =
-    let a = c .before .before .before .before .before .before .before .args in
-    tightest-end (a .p) (a .table .now) (c .before .loop .m) (figure (c .before .loop .best)) (omega (arith, c .before .before .before .before .before .before .before .pre .1)) (c .before .loop .inv .2)
+    let a = c .before .before .before .before .before .args in
+    tightest-end (a .p) (a .table .now) (c .before .loop .m) (figure (c .before .loop .best)) (omega (arith, c .before .before .before .before .before .pre .1)) (c .before .loop .inv .2)
 
 pub least-slack-spec : {M : Type 1} → statement M
 least-slack-spec =
@@ -117,17 +95,12 @@ least-slack-spec =
     (tie.spec
     Inv-loop
     μ-loop
-    counted-of-requires
-    deadlines-of-requires
-    grades-of-requires
+    hi-deadlines-of-requires
     loop-holds
     mul-time
     shared-slice-read-time
     slice-aggregate-add-rows
-    array-share-prefix-deadlines
     slice-aggregate-add-rows-2
-    array-share-prefix-grades
-    slice-aggregate-add-rows-3
     add-rows-requires
     slice-aggregate-column-taken-in
     column-taken-in-requires

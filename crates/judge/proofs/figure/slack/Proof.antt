@@ -58,7 +58,8 @@ slack-at-requires : tie.Need-slack-at-requires
 slack-at-requires c κs =
     let p = c .before .before .before .before .before .before .before .args .p in
     let hand = hand-none p (c .before .before .before .before .before .before .before .args .table .now) (passes _ _ _ (c .before .before .before .before .before .in-hand .ensures) (c .before .before .before .before .is-accepted .ensures) (c .before .before .before .if1 .left)) in
-    (are-boundaries (c .before .before), rw (are-boundaries (c .before .before)) (boundaries-some p (counted p) (rules-count p (sound-rules p (c .before .before .before .before .before .before .before .args .table .now) (hand .1)))), hand .0)
+    let rules = sound-rules p (c .before .before .before .before .before .before .before .args .table .now) (hand .1) in
+    (are-boundaries (c .before .before), rw (are-boundaries (c .before .before)) (boundaries-some p (counted p) (rules-count p rules)), hand .0, rules)
 
 returns-2 : tie.Need-returns-2
 unfolding slackFigure

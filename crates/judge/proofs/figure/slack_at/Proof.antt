@@ -25,7 +25,7 @@ returns c =
 
 least-slack-requires : tie.Need-least-slack-requires
 least-slack-requires c κs =
-    (c .before .before .before .before .before .pre .0, ap (λ t. length t - 1) (c .before .before .before .before .before .pre .0), omega (arith, c .before .before .before .before .before .pre .1), c .before .before .before .before .before .pre .2)
+    (c .before .before .before .before .before .pre .0, ap (λ t. length t - 1) (c .before .before .before .before .before .pre .0), omega (arith, c .before .before .before .before .before .pre .1), c .before .before .before .before .before .pre .2, c .before .before .before .before .before .pre .3)
 
 returns-2 : tie.Need-returns-2
 returns-2 c =

@@ -1,27 +1,138 @@
--- `judge::floor::below_floor` meets its contract.
-use mathlib.Core.Path.{_∙_}
+-- `judge::floor::below_floor` meets its contract: after m boundaries, the column sums of the jobs due by then, and the lowest interval that falls short of one of them.
+use mathlib.Core.Path.{sym, _∙_, ap, subst, _≡_}
+use mathlib.Core.List.{[], _∷_}
+use Prim.Native.Nat.{ℕ, suc, _-_, _≤_, _<_}
+use native.Mathlib.Numerals.{add-one}
 use native.Mathlib.Omega.{arith}
 use borrow.Author.Needs.{needs}
-use Rattle.judge.proofs.Passes.{nothing-short, short-at-lowest}
+use lib.ListN.{length, getD}
+use Rattle.plan.specs.Refusal.{belowFloorRule}
+use Rattle.plan.specs.Boundaries.{boundary, intervals}
+use Rattle.judge.specs.Constraints.{mostAtPlace}
+use Rattle.judge.specs.Verdict.{isHiDeadline}
+use Rattle.judge.proofs.Passes.{Lowest, ReadyFor, Summed, ready-from, summed-start, few-intervals, rows-fit, due-is, summed-next, column-fits, lowest-start, lowest-next, nothing-short, short-at-lowest}
 use Rattle.judge.proofs.floor.below_floor.Statement.{statement}
 use Rattle.judge.proofs.floor.below_floor.Tie as tie
 
-lowest-short-requires : tie.Need-lowest-short-requires
-lowest-short-requires c κs = search needs
+abbrev Inv-loop : tie.InvT-loop
+Inv-loop p table times spans deadlines sums₀ low₀ until₀ m₀ sums low until m =
+    (m ≤ suc spans) × Summed p table m sums × Lowest p table m low until
 
-returns : tie.Need-returns
-returns c =
-    let a = c .before .before .before .before .args in
-    nothing-short (a .p) (a .table .now) _ (c .before .lowest-short .ensures) (omega (arith, c .before .before .before .before .pre .1))
+abbrev μ-loop : tie.MeasureT-loop
+μ-loop p table times spans deadlines sums₀ low₀ until₀ m₀ sums low until m = suc spans - m
 
-short-from-requires : tie.Need-short-from-requires
-short-from-requires c κs = search needs
+hi-deadlines-of-requires : tie.Need-hi-deadlines-of-requires Inv-loop μ-loop
+hi-deadlines-of-requires c κs = search needs
 
-returns-2 : tie.Need-returns-2
-returns-2 c =
+loop-holds : tie.Need-loop-holds Inv-loop μ-loop
+loop-holds c =
+    let a = c .before .before .before .args in
+    (omega arith, summed-start (a .p) (a .table .now), rw (c .before .before .before .pre .1) (lowest-start (a .p) (a .table .now)))
+
+mul-time : tie.Need-mul-time Inv-loop μ-loop
+mul-time c = omega (arith, c .before .before .before .before .before .pre .2)
+
+shared-slice-read-time : tie.Need-shared-slice-read-time Inv-loop μ-loop
+shared-slice-read-time c = omega (arith, c .before .before .before .before .before .before .pre .2)
+
+slice-aggregate-add-rows : tie.Need-slice-aggregate-add-rows Inv-loop μ-loop
+slice-aggregate-add-rows c = sym (c .before .before .before .loop .inv .1 .room)
+
+slice-aggregate-add-rows-2 : tie.Need-slice-aggregate-add-rows-2 Inv-loop μ-loop
+slice-aggregate-add-rows-2 c = sym (c .before .before .before .before .before .hi-deadlines-of .ensures .0)
+
+-- What the pass reads, and what a place of the table can hold.
+ready : (c : tie.After-hi-deadlines-of Inv-loop μ-loop) → ReadyFor (c .before .before .before .args .p) (c .before .before .before .args .table .now) (c .before .before .before .args .times .now) (c .hi-deadlines-of .result) (c .before .before .before .args .spans)
+ready c =
+    let a = c .before .before .before .args in
+    ready-from (a .p) (a .table .now) (a .times .now) (c .hi-deadlines-of .result) (a .spans) (c .before .before .before .pre) (c .hi-deadlines-of .ensures)
+
+most : (c : tie.After-shared-slice-known Inv-loop μ-loop) → (q : ℕ) → getD (c .before .args .table .now) q 0 ≤ mostAtPlace
+most c q = omega (arith, c .shared-slice-known .given q)
+
+add-rows-requires : tie.Need-add-rows-requires Inv-loop μ-loop
+add-rows-requires c κs = rows-fit (ready (c .before .before .before .before .before)) (most (c .before .before .before .before .before .before .before)) (c .before .before .before .loop-test .taken) (c .before .before .before .before .loop .inv .1)
+
+-- After the rows of a boundary are added, the column sums are those of the jobs due by it.
+summed : (c : tie.After-add-rows Inv-loop μ-loop) → Summed (c .before .before .before .before .before .before .before .before .before .args .p) (c .before .before .before .before .before .before .before .before .before .args .table .now) (suc (c .before .before .before .before .before .loop .m)) (c .add-rows .last .0)
+summed c =
+    summed-next (ready (c .before .before .before .before .before .before)) (most (c .before .before .before .before .before .before .before .before)) (c .before .before .before .before .loop-test .taken) (c .add-rows .last .0) (c .before .before .before .before .before .loop .inv .1) (c .add-rows .ensures .1) (c .add-rows .ensures .2)
+
+due : (c : tie.After-add-rows Inv-loop μ-loop) → c .add-rows .result ≡ isHiDeadline (c .before .before .before .before .before .before .before .before .before .args .p) (boundary (c .before .before .before .before .before .before .before .before .before .args .p) (c .before .before .before .before .before .loop .m))
+due c = due-is (ready (c .before .before .before .before .before .before)) (most (c .before .before .before .before .before .before .before .before)) (c .before .before .before .before .loop-test .taken) (c .add-rows .ensures .0)
+
+slice-aggregate-lowered : tie.Need-slice-aggregate-lowered Inv-loop μ-loop
+slice-aggregate-lowered c = sym (summed (c .before .before .before) .room)
+
+lowered-requires : tie.Need-lowered-requires Inv-loop μ-loop
+lowered-requires c κs = column-fits (ready (c .before .before .before .before .before .before .before .before .before)) (most (c .before .before .before .before .before .before .before .before .before .before .before)) (c .before .before .before .before .before .before .before .loop-test .taken) (summed (c .before .before .before))
+
+pick-requires : tie.Need-pick-requires Inv-loop μ-loop
+pick-requires c κs = search needs
+
+add-m : tie.Need-add-m Inv-loop μ-loop
+add-m c = omega (arith, c .before .before .before .before .before .before .before .before .before .before .before .before .before .before .pre .1, few-intervals (c .before .before .before .before .before .before .before .before .before .before .before .before .before .before .args .p))
+
+loop-less : tie.Need-loop-less Inv-loop μ-loop
+loop-less c = omega arith
+
+loop-again : tie.Need-loop-again Inv-loop μ-loop
+loop-again c =
+    let a = c .before .before .before .before .before .before .before .before .before .before .before .before .before .before .args in
+    let m = c .before .before .before .before .before .before .before .before .before .before .loop .m in
+    let in-time : m ≤ intervals (a .p) = omega (arith, c .before .before .before .before .before .before .before .before .before .loop-test .taken, c .before .before .before .before .before .before .before .before .before .before .before .before .before .before .pre .1) in (
+      omega arith,
+      rw (add-one m) (summed (c .before .before .before .before .before)),
+      lowest-next (a .p) (a .table .now) (c .before .before .before .before .before .add-rows .last .0) (a .times .now) m (c .before .before .before .before .before .before .before .before .before .before .loop .low) (c .before .before .before .before .before .before .before .before .before .before .loop .until) (c .before .lowered .result) (c .pick .result) (c .before .before .before .before .before .add-rows .result) (c .before .before .before .before .before .before .before .before .before .before .before .before .before .before .pre .0) in-time (summed (c .before .before .before .before .before) .columns) (due (c .before .before .before .before .before)) (c .before .lowered .ensures) (c .pick .ensures) (c .before .before .before .before .before .before .before .before .before .before .loop .inv .2),
+    )
+
+-- After the last boundary the pass has looked at all of them.
+whole : (c : tie.After-loop Inv-loop μ-loop) → Lowest (c .before .before .before .before .before .args .p) (c .before .before .before .before .before .args .table .now) (suc (intervals (c .before .before .before .before .before .args .p))) (c .before .loop .low) (c .before .loop .until)
+whole c =
     let a = c .before .before .before .before .before .args in
-    c .short-from .ensures
-    ∙ short-at-lowest (a .p) (a .table .now) _ (c .before .before .lowest-short .ensures) (omega (arith, c .before .before .before .before .before .pre .1))
+    let end : c .before .loop .m ≡ suc (intervals (a .p)) = omega (arith, c .before .before .before .before .before .pre .1) in
+    subst (λ n. Lowest (a .p) (a .table .now) n (c .before .loop .low) (c .before .loop .until)) end (c .before .loop .inv .2)
+
+returns : tie.Need-returns Inv-loop μ-loop
+returns c =
+    let a = c .before .before .before .before .before .before .args in
+    nothing-short (a .p) (a .table .now) _ _ (whole (c .before)) (omega (arith, c .before .before .before .before .before .before .pre .1))
+
+in-times : (c : tie.Else1 Inv-loop μ-loop) → c .before .before .loop .until < length (c .before .before .before .before .before .before .args .times .now)
+in-times c = omega (arith, whole (c .before) .there (omega (arith, c .before .before .before .before .before .before .pre .1)) .0, c .before .before .before .before .before .before .pre .1, c .before .before .before .before .before .before .pre .2)
+
+mul-t26 : tie.Need-mul-t26 Inv-loop μ-loop
+mul-t26 c = omega (arith, in-times c)
+
+shared-slice-read-t28 : tie.Need-shared-slice-read-t28 Inv-loop μ-loop
+shared-slice-read-t28 c = in-times (c .before)
+
+returns-2 : tie.Need-returns-2 Inv-loop μ-loop
+returns-2 c =
+    let a = c .before .before .before .before .before .before .before .args in
+    ap (λ t. belowFloorRule ∷ c .before .before .before .loop .low ∷ getD t (c .before .before .before .loop .until) 0 ∷ []) (c .before .before .before .before .before .before .before .pre .0)
+    ∙ short-at-lowest (a .p) (a .table .now) _ _ (whole (c .before .before)) (omega (arith, c .before .before .before .before .before .before .before .pre .1))
 
 pub below-floor-spec : {M : Type 1} → statement M
-below-floor-spec = tie.close (tie.spec lowest-short-requires returns short-from-requires returns-2)
+below-floor-spec =
+    tie.close
+    (tie.spec
+    Inv-loop
+    μ-loop
+    hi-deadlines-of-requires
+    loop-holds
+    mul-time
+    shared-slice-read-time
+    slice-aggregate-add-rows
+    slice-aggregate-add-rows-2
+    add-rows-requires
+    slice-aggregate-lowered
+    lowered-requires
+    pick-requires
+    add-m
+    loop-less
+    loop-again
+    returns
+    mul-t26
+    shared-slice-read-t28
+    returns-2)

@@ -1,36 +1,114 @@
--- `judge::floor::lowered` meets its contract.
+-- `judge::floor::lowered` meets its contract: from interval l on, the sum and the lowest so far.
 use mathlib.Core.Path.{sym, _∙_, ap, _≡_}
 use mathlib.Core.Bool.{cond}
-use Prim.Native.Nat.{min}
+use Prim.Native.Nat.{_+_, _*_, _-_, _≤_, min}
 use native.Mathlib.Omega.{arith}
+use native.Mathlib.Nat.{mul-le-mul-right}
 use borrow.Author.Needs.{needs}
 use borrow.Author.Tests.{not-true, not-false}
-use Rattle.judge.specs.Slack.{least}
+use lib.Dec.{ltb}
+use lib.ListN.{getD}
+use Rattle.sums.specs.Sum.{sum}
+use Rattle.sums.proofs.Laws.{sum-start}
+use Rattle.plan.specs.Edition.{mostJobs, mostIntervals}
+use Rattle.judge.specs.Constraints.{mostAtPlace}
 use Rattle.judge.specs.Columns.{lowest, asksMore}
+use Rattle.judge.proofs.Columns.{lowest-end, column-next, lesser-is}
 use Rattle.judge.proofs.floor.lowered.Statement.{statement}
 use Rattle.judge.proofs.floor.lowered.Tie as tie
 
-returns : tie.Need-returns
+abbrev Inv-loop : tie.InvT-loop
+Inv-loop due d sums times m other time low₀ asked₀ l₀ low asked l =
+    (l ≤ m) × (asked .0 ≡ sum (λ k. getD sums (l + k) 0) (m - l)) × (asked .0 ≤ (m - l) * (mostJobs * mostAtPlace)) × (low ≡ lowest (asksMore (d .0) sums times m) other l (m - l))
+
+abbrev μ-loop : tie.MeasureT-loop
+μ-loop due d sums times m other time low₀ asked₀ l₀ low asked l = l
+
+returns : tie.Need-returns Inv-loop μ-loop
 returns c =
     let a = c .before .before .before .args in
-    sym (ap (λ b. cond b (min (a .low) (lowest (asksMore (a .d .0) (a .sums .now) (a .times .now) (a .m)) (a .low) 0 (a .m))) (a .low)) (not-true (a .due) (c .if1 .taken)))
+    sym (ap (λ b. cond b (min (a .other) (lowest (asksMore (a .d .0) (a .sums .now) (a .times .now) (a .m)) (a .other) 0 (a .m))) (a .other)) (not-true (a .due) (c .if1 .taken)))
 
-lowest-in-column-requires : tie.Need-lowest-in-column-requires
-lowest-in-column-requires c κs = search needs
+mul-time : tie.Need-mul-time Inv-loop μ-loop
+mul-time c = search needs
 
-returns-2 : tie.Need-returns-2
+shared-slice-read-time : tie.Need-shared-slice-read-time Inv-loop μ-loop
+shared-slice-read-time c = search needs
+
+loop-holds : tie.Need-loop-holds Inv-loop μ-loop
+loop-holds c =
+    (omega arith, sym (let e : c .before .before .before .before .args .m - c .before .before .before .before .args .m ≡ 0 = omega arith in ap (sum _) e ∙ sum-start _), omega arith, lowest-end _ _ _)
+
+sub-l : tie.Need-sub-l Inv-loop μ-loop
+sub-l c = omega arith
+
+mul-t17 : tie.Need-mul-t17 Inv-loop μ-loop
+mul-t17 c = omega arith
+
+shared-slice-read-t19 : tie.Need-shared-slice-read-t19 Inv-loop μ-loop
+shared-slice-read-t19 c = omega arith
+
+add-t20 : tie.Need-add-t20 Inv-loop μ-loop
+add-t20 c =
+    omega (arith, c .before .before .before .before .before .before .before .before .pre .3 (c .before .before .before .loop .l - 1) (omega arith), mul-le-mul-right {m = c .before .before .before .before .before .before .before .before .args .m - c .before .before .before .loop .l} {n = mostIntervals} (mostJobs * mostAtPlace) (omega arith))
+
+mul-carried : tie.Need-mul-carried Inv-loop μ-loop
+mul-carried c = search needs
+
+shared-slice-read-carried : tie.Need-shared-slice-read-carried Inv-loop μ-loop
+shared-slice-read-carried c = search needs
+
+carried-requires : tie.Need-carried-requires Inv-loop μ-loop
+carried-requires c κs = search needs
+
+pick-requires : tie.Need-pick-requires Inv-loop μ-loop
+pick-requires c κs = search needs
+
+loop-less : tie.Need-loop-less Inv-loop μ-loop
+loop-less c = search needs
+
+loop-again : tie.Need-loop-again Inv-loop μ-loop
+loop-again c =
+    let a = c .before .before .before .before .before .before .before .before .before .before .before .before .before .args in
+    let l = c .before .before .before .before .before .before .before .before .loop .l in
+    let asked = c .before .before .before .before .before .before .before .before .loop .asked .0 in
+    let low = c .before .before .before .before .before .before .before .before .loop .low in
+    let turn = column-next (a .d .0) (a .sums .now) (a .times .now) (a .m) (a .other) l asked low (c .pick .result) (omega arith) (omega arith) (c .before .before .before .before .before .before .before .before .loop .inv .1) (c .before .before .before .before .before .before .before .before .loop .inv .3)
+    (c .pick .ensures ∙ ap (λ n. cond (ltb n (asked + getD (a .sums .now) (l - 1) 0)) (l - 1) low) (c .before .before .before .carried .ensures .0)) in
+    let one-more : a .m - (l - 1) ≡ a .m - l + 1 = omega arith in
+    (omega arith, turn .0, omega (arith, c .before .before .before .before .before .before .before .before .before .before .before .before .before .pre .3 (l - 1) (omega arith), ap (λ n. n * (mostJobs * mostAtPlace)) one-more), turn .1)
+
+pick-requires-2 : tie.Need-pick-requires-2 Inv-loop μ-loop
+pick-requires-2 c κs = search needs
+
+returns-2 : tie.Need-returns-2 Inv-loop μ-loop
 returns-2 c =
-    let a = c .before .before .before .before .before .args in
-    let is = c .before .lowest-in-column .ensures in
-    let least : c .before .lowest-in-column .result ≡ min (a .low) (lowest (asksMore (a .d .0) (a .sums .now) (a .times .now) (a .m)) (a .low) 0 (a .m)) = omega arith in
-    least ∙ sym (ap (λ b. cond b (min (a .low) (lowest (asksMore (a .d .0) (a .sums .now) (a .times .now) (a .m)) (a .low) 0 (a .m))) (a .low)) (not-false (a .due) (c .before .before .if1 .left)))
-
-returns-3 : tie.Need-returns-3
-returns-3 c =
-    let a = c .before .before .before .before .before .args in
-    let is = c .before .lowest-in-column .ensures in
-    let least : a .low ≡ min (a .low) (lowest (asksMore (a .d .0) (a .sums .now) (a .times .now) (a .m)) (a .low) 0 (a .m)) = omega arith in
-    least ∙ sym (ap (λ b. cond b (min (a .low) (lowest (asksMore (a .d .0) (a .sums .now) (a .times .now) (a .m)) (a .low) 0 (a .m))) (a .low)) (not-false (a .due) (c .before .before .if1 .left)))
+    let a = c .before .before .before .before .before .before .before .args in
+    let end : c .before .before .loop .l ≡ 0 = omega arith in
+    let all : a .m - 0 ≡ a .m = omega arith in
+    c .pick2 .ensures ∙ lesser-is (c .before .before .loop .low) (a .other)
+    ∙ ap (min (a .other)) (rw (end, all) at (c .before .before .loop .inv .3))
+    ∙ sym (ap (λ b. cond b (min (a .other) (lowest (asksMore (a .d .0) (a .sums .now) (a .times .now) (a .m)) (a .other) 0 (a .m))) (a .other)) (not-false (a .due) (c .before .before .before .before .if1 .left)))
 
 pub lowered-spec : {M : Type 1} → statement M
-lowered-spec = tie.close (tie.spec returns lowest-in-column-requires returns-2 returns-3)
+lowered-spec =
+    tie.close
+    (tie.spec
+    Inv-loop
+    μ-loop
+    returns
+    mul-time
+    shared-slice-read-time
+    loop-holds
+    sub-l
+    mul-t17
+    shared-slice-read-t19
+    add-t20
+    mul-carried
+    shared-slice-read-carried
+    carried-requires
+    pick-requires
+    loop-less
+    loop-again
+    pick-requires-2
+    returns-2)

@@ -25,34 +25,33 @@ returns c =
 loop-holds : tie.Need-loop-holds Inv-loop μ-loop
 loop-holds c = (omega arith, added-start _ _)
 
-mul-so-far : tie.Need-mul-so-far Inv-loop μ-loop
-mul-so-far c = omega (arith, c .before .loop .inv .1 .long)
+mul-sums : tie.Need-mul-sums Inv-loop μ-loop
+mul-sums c = omega (arith, c .before .loop .inv .1 .long)
 
-slice-read-so-far : tie.Need-slice-read-so-far Inv-loop μ-loop
-slice-read-so-far c = omega (arith, c .before .before .loop .inv .1 .long)
+slice-read-sums : tie.Need-slice-read-sums Inv-loop μ-loop
+slice-read-sums c = omega (arith, c .before .before .loop .inv .1 .long)
 
 add-sums : tie.Need-add-sums Inv-loop μ-loop
 add-sums c = omega arith
 
-mul-sums : tie.Need-mul-sums Inv-loop μ-loop
-mul-sums c = omega arith
+mul-sums-2 : tie.Need-mul-sums-2 Inv-loop μ-loop
+mul-sums-2 c = omega arith
 
 shared-slice-read-sums : tie.Need-shared-slice-read-sums Inv-loop μ-loop
 shared-slice-read-sums c = omega arith
 
 cast-sums : tie.Need-cast-sums Inv-loop μ-loop
-cast-sums c =
-    omega (arith, c .shared-slice-known .given (c .before .before .before .before .before .args .start + c .before .before .before .loop .j))
+cast-sums c = omega (arith, c .shared-slice-known .given (c .before .before .before .before .before .args .start + c .before .before .before .loop .j))
 
 add-sums-2 : tie.Need-add-sums-2 Inv-loop μ-loop
 add-sums-2 c =
-    omega (arith, c .shared-slice-known .given (c .before .before .before .before .before .args .start + c .before .before .before .loop .j), c .before .before .before .loop .inv .1 .rest (c .before .before .before .loop .j) (omega arith), c .before .before .before .before .before .pre .2 (c .before .before .before .loop .j) (omega arith))
+    omega (arith, c .before .shared-slice-known .given (c .before .before .before .before .before .before .args .start + c .before .before .before .before .loop .j), c .before .before .before .before .loop .inv .1 .rest (c .before .before .before .before .loop .j) (omega arith), c .before .before .before .before .before .before .pre .2 (c .before .before .before .before .loop .j) (omega arith))
 
-mul-sums-2 : tie.Need-mul-sums-2 Inv-loop μ-loop
-mul-sums-2 c = omega (arith, c .before .before .before .loop .inv .1 .long)
+mul-sums-3 : tie.Need-mul-sums-3 Inv-loop μ-loop
+mul-sums-3 c = omega (arith, c .before .before .before .before .loop .inv .1 .long)
 
 slice-write-sums : tie.Need-slice-write-sums Inv-loop μ-loop
-slice-write-sums c = omega (arith, c .before .before .before .loop .inv .1 .long)
+slice-write-sums c = omega (arith, c .before .before .before .before .loop .inv .1 .long)
 
 add-j : tie.Need-add-j Inv-loop μ-loop
 add-j c = search needs
@@ -62,7 +61,7 @@ loop-less c = search needs
 
 loop-again : tie.Need-loop-again Inv-loop μ-loop
 loop-again c =
-    (omega arith, added-next _ _ _ (c .before .before .before .loop .j) _ (omega (arith, c .before .before .before .loop .inv .1 .long)) (c .before .before .before .loop .inv .1) refl)
+    (omega arith, added-next _ _ _ (c .before .before .before .before .loop .j) _ (omega (arith, c .before .before .before .before .loop .inv .1 .long)) (c .before .before .before .before .loop .inv .1) refl)
 
 same-length : tie.Need-same-length Inv-loop μ-loop
 same-length c = c .before .loop .inv .1 .long
@@ -82,14 +81,14 @@ add-row-spec =
     μ-loop
     returns
     loop-holds
-    mul-so-far
-    slice-read-so-far
-    add-sums
     mul-sums
+    slice-read-sums
+    add-sums
+    mul-sums-2
     shared-slice-read-sums
     cast-sums
     add-sums-2
-    mul-sums-2
+    mul-sums-3
     slice-write-sums
     add-j
     loop-less

@@ -1,57 +1,72 @@
 -- `judge::rows::add_rows` meets its contract: after i jobs, the rows of those among the first i are added.
 use mathlib.Core.Path.{refl, sym, _∙_, ap, _≡_}
-use mathlib.Core.Bool.{not, _&&_}
+use mathlib.Core.List.{List}
 use Prim.Native.Nat.{ℕ, _+_, _*_, _-_, _≤_, _<_}
 use native.Mathlib.Omega.{arith}
 use native.Mathlib.Nat.{add-zero}
+use borrow.Author.Needs.{needs}
+use borrow.Author.Tests.{not-true, not-false}
 use lib.Dec.{eqb}
 use lib.ListN.{length, getD}
 use Rattle.sums.specs.Sum.{sum, on}
 use Rattle.sums.proofs.Laws.{sum-start, sum-step, sum-bound}
 use Rattle.plan.specs.Edition.{mostIntervals}
-use Rattle.plan.specs.Below.{every}
-use Rattle.plan.specs.Rules.{hi}
-use Rattle.plan.proofs.Below.{every-start, every-next}
 use Rattle.judge.specs.Constraints.{mostAtPlace, units}
 use Rattle.judge.proofs.Running.{on-at-most}
+use Rattle.judge.proofs.Columns.{none-due}
 use Rattle.judge.proofs.rows.add_rows.Statement.{statement}
 use Rattle.judge.proofs.rows.add_rows.Tie as tie
 
+-- What job k has due at a time in interval j.
+abbrev dueOf : List ℕ → List ℕ → ℕ → ℕ → ℕ → ℕ
+dueOf table deadlines time j k = on (eqb (getD deadlines k 0) time) (units table k j)
+
 abbrev Inv-loop : tie.InvT-loop
-Inv-loop sums₀ table deadlines grades spans time absent₀ i₀ sums absent i =
-    (i ≤ length grades) × (absent ≡ every (λ k. not (eqb (getD grades k 0) hi && eqb (getD deadlines k 0) time)) i) × (length sums ≡ length sums₀) × ((j : ℕ) → j < spans → getD sums j 0 ≡ getD sums₀ j 0 + sum (λ k. on (eqb (getD grades k 0) hi && eqb (getD deadlines k 0) time) (units table k j)) i)
+Inv-loop sums₀ table deadlines spans time i₀ sums i =
+    (i ≤ length deadlines) × (length sums ≡ length sums₀) × ((j : ℕ) → j < spans → getD sums j 0 ≡ getD sums₀ j 0 + sum (dueOf table deadlines time j) i)
 
 abbrev μ-loop : tie.MeasureT-loop
-μ-loop sums₀ table deadlines grades spans time absent₀ i₀ sums absent i = length grades - i
+μ-loop sums₀ table deadlines spans time i₀ sums i = length deadlines - i
+
+is-due-requires : tie.Need-is-due-requires Inv-loop μ-loop
+is-due-requires c κs = search needs
+
+returns : tie.Need-returns Inv-loop μ-loop
+returns c =
+    let a = c .before .before .before .before .before .args in
+    let none = sym (c .before .is-due .ensures) ∙ not-true _ (c .if1 .taken) in (
+      sym none,
+      refl,
+      λ j l. sym (ap (λ s. getD (a .sums .now) j 0 + s) (none-due (a .deadlines .now) (a .time) (λ k. units (a .table .now) k j) none) ∙ add-zero _),
+    )
 
 loop-holds : tie.Need-loop-holds Inv-loop μ-loop
 loop-holds c =
-    (omega arith, sym (every-start _), refl, λ j l. sym (ap (λ s. getD (c .before .before .before .before .args .sums .now) j 0 + s) (sum-start _) ∙ add-zero _))
-
-shared-slice-read-wanted : tie.Need-shared-slice-read-wanted Inv-loop μ-loop
-shared-slice-read-wanted c = omega arith
+    (omega arith, refl, λ j l. sym (ap (λ s. getD (c .before .before .before .before .before .args .sums .now) j 0 + s) (sum-start _) ∙ add-zero _))
 
 mul-wanted : tie.Need-mul-wanted Inv-loop μ-loop
 mul-wanted c = omega arith
 
-shared-slice-read-wanted-2 : tie.Need-shared-slice-read-wanted-2 Inv-loop μ-loop
-shared-slice-read-wanted-2 c = omega arith
+shared-slice-read-wanted : tie.Need-shared-slice-read-wanted Inv-loop μ-loop
+shared-slice-read-wanted c = omega arith
 
 mul-add-row : tie.Need-mul-add-row Inv-loop μ-loop
 mul-add-row c = omega arith
 
 add-row-requires : tie.Need-add-row-requires Inv-loop μ-loop
-add-row-requires c κs = (
-  omega (arith, c .before .before .before .before .loop .inv .2),
-  omega (arith, c .before .before .before .before .before .before .before .before .before .pre),
-  λ j l. omega (
-    arith,
-    c .before .before .before .before .loop .inv .3 j l,
-    c .before .before .before .before .before .before .before .before .before .pre .5 j l,
-    sum-bound (λ k. on (eqb (getD (c .before .before .before .before .before .before .before .before .before .args .grades .now) k 0) hi && eqb (getD (c .before .before .before .before .before .before .before .before .before .args .deadlines .now) k 0) (c .before .before .before .before .before .before .before .before .before .args .time)) (units (c .before .before .before .before .before .before .before .before .before .args .table .now) k j)) mostAtPlace (c .before .before .before .before .loop .i)
-        (λ k b. on-at-most (eqb (getD (c .before .before .before .before .before .before .before .before .before .args .grades .now) k 0) hi && eqb (getD (c .before .before .before .before .before .before .before .before .before .args .deadlines .now) k 0) (c .before .before .before .before .before .before .before .before .before .args .time)) (units (c .before .before .before .before .before .before .before .before .before .args .table .now) k j) mostAtPlace (omega (arith, c .before .before .before .before .before .before .before .shared-slice-known .given (mostIntervals * k + j)))),
-  ),
-)
+add-row-requires c κs =
+    let a = c .before .before .before .before .before .before .before .before .before .args in
+    let i = c .before .before .before .loop .i in (
+      omega (arith, c .before .before .before .loop .inv .1),
+      omega (arith, c .before .before .before .before .before .before .before .before .before .pre),
+      λ j l. omega (
+        arith,
+        c .before .before .before .loop .inv .2 j l,
+        c .before .before .before .before .before .before .before .before .before .pre .4 j l,
+        sum-bound (dueOf (a .table .now) (a .deadlines .now) (a .time) j) mostAtPlace i
+            (λ k b. on-at-most (eqb (getD (a .deadlines .now) k 0) (a .time)) (units (a .table .now) k j) mostAtPlace (omega (arith, c .before .before .before .before .before .before .before .shared-slice-known .given (mostIntervals * k + j)))),
+      ),
+    )
 
 add-i : tie.Need-add-i Inv-loop μ-loop
 add-i c = omega arith
@@ -60,22 +75,23 @@ loop-less : tie.Need-loop-less Inv-loop μ-loop
 loop-less c = omega arith
 
 loop-again : tie.Need-loop-again Inv-loop μ-loop
-loop-again c = (
-  omega arith,
-  every-next _ (c .before .before .before .before .before .before .before .loop .i) (c .before .before .before .before .before .before .before .loop .inv .1) refl,
-  c .before .before .add-row .ensures .0 ∙ c .before .before .before .before .before .before .before .loop .inv .2,
-  λ j l. omega (arith, c .before .before .add-row .ensures .1 j l, c .before .before .before .before .before .before .before .loop .inv .3 j l, sum-step (λ k. on (eqb (getD (c .before .before .before .before .before .before .before .before .before .before .before .before .args .grades .now) k 0) hi && eqb (getD (c .before .before .before .before .before .before .before .before .before .before .before .before .args .deadlines .now) k 0) (c .before .before .before .before .before .before .before .before .before .before .before .before .args .time)) (units (c .before .before .before .before .before .before .before .before .before .before .before .before .args .table .now) k j)) (c .before .before .before .before .before .before .before .loop .i)),
-)
+loop-again c =
+    let a = c .before .before .before .before .before .before .before .before .before .before .before .before .args in (
+      omega arith,
+      c .before .before .add-row .ensures .0 ∙ c .before .before .before .before .before .before .loop .inv .1,
+      λ j l. omega (arith, c .before .before .add-row .ensures .1 j l, c .before .before .before .before .before .before .loop .inv .2 j l, sum-step (dueOf (a .table .now) (a .deadlines .now) (a .time) j) (c .before .before .before .before .before .before .loop .i)),
+    )
 
 same-length : tie.Need-same-length Inv-loop μ-loop
-same-length c = c .before .loop .inv .2
+same-length c = c .before .loop .inv .1
 
-returns : tie.Need-returns Inv-loop μ-loop
-returns c =
-    let end : c .before .loop .i ≡ length (c .before .before .before .before .before .before .args .grades .now) = omega arith in (
-      ap not (c .before .loop .inv .1 ∙ ap (every _) end),
-      c .before .loop .inv .2,
-      λ j l. c .before .loop .inv .3 j l ∙ ap (λ n. getD (c .before .before .before .before .before .before .args .sums .now) j 0 + sum (λ k. on (eqb (getD (c .before .before .before .before .before .before .args .grades .now) k 0) hi && eqb (getD (c .before .before .before .before .before .before .args .deadlines .now) k 0) (c .before .before .before .before .before .before .args .time)) (units (c .before .before .before .before .before .before .args .table .now) k j)) n) end,
+returns-2 : tie.Need-returns-2 Inv-loop μ-loop
+returns-2 c =
+    let a = c .before .before .before .before .before .before .before .args in
+    let end : c .before .loop .i ≡ length (a .deadlines .now) = omega arith in (
+      sym (not-false _ (c .before .before .if1 .left)) ∙ c .before .before .before .is-due .ensures,
+      c .before .loop .inv .1,
+      λ j l. c .before .loop .inv .2 j l ∙ ap (λ n. getD (a .sums .now) j 0 + sum (dueOf (a .table .now) (a .deadlines .now) (a .time) j) n) end,
     )
 
 pub add-rows-spec : {M : Type 1} → statement M
@@ -84,14 +100,15 @@ add-rows-spec =
     (tie.spec
     Inv-loop
     μ-loop
+    is-due-requires
+    returns
     loop-holds
-    shared-slice-read-wanted
     mul-wanted
-    shared-slice-read-wanted-2
+    shared-slice-read-wanted
     mul-add-row
     add-row-requires
     add-i
     loop-less
     loop-again
     same-length
-    returns)
+    returns-2)

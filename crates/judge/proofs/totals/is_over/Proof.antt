@@ -22,9 +22,9 @@ sum-of-requires c κs = search needs
 
 returns : tie.Need-returns
 returns c =
-    let a = c .before .before .before .before .args in
-    ap₂ ltb (c .before .before .carried .ensures .0)
-    (c .before .sum-of .ensures ∙ sum-ext _ _ (a .jobs) (λ k l. ap (λ q. getD (a .table .now) q 0) (add-comm (a .j) (mostIntervals * k))))
+    let a = c .before .before .before .before .before .args in
+    ap₂ ltb (c .before .before .before .carried .ensures .0)
+    (c .before .before .sum-of .ensures ∙ sum-ext _ _ (a .jobs) (λ k l. ap (λ q. getD (a .table .now) q 0) (add-comm (a .j) (mostIntervals * k))))
 
 pub is-over-spec : {M : Type 1} → statement M
 is-over-spec = tie.close (tie.spec carried-requires cast-sum-of sum-of-requires returns)

@@ -63,8 +63,8 @@ summed c =
 returns : tie.Need-returns Inv-loop μ-loop
 unfolding totalFault
 returns c =
-    found-here _ _ _ _ _ (c .before .before .before .before .before .before .loop .inv .1) (omega arith)
-    (ap (λ b. fault (not b) (wrongTotal ∷ c .before .before .before .before .before .before .loop .i ∷ [])) (ne-eqb _ _ (λ e. c .if1 .taken (summed (c .before .before) ∙ e))))
+    found-here _ _ _ _ _ (c .before .before .before .before .before .before .before .loop .inv .1) (omega arith)
+    (ap (λ b. fault (not b) (wrongTotal ∷ c .before .before .before .before .before .before .before .loop .i ∷ [])) (ne-eqb _ _ (λ e. c .if1 .taken (summed (c .before .before .before) ∙ e))))
 
 add-i : tie.Need-add-i Inv-loop μ-loop
 add-i c = search needs
@@ -75,8 +75,8 @@ loop-less c = search needs
 loop-again : tie.Need-loop-again Inv-loop μ-loop
 loop-again c = (
   omega arith,
-  first-next _ (c .before .before .before .before .before .before .loop .i) (c .before .before .before .before .before .before .loop .inv .1)
-      (ap (λ b. fault (not b) (wrongTotal ∷ c .before .before .before .before .before .before .loop .i ∷ [])) (eq-eqb _ _ (sym (summed (c .before .before)) ∙ c .if1 .left))),
+  first-next _ (c .before .before .before .before .before .before .before .loop .i) (c .before .before .before .before .before .before .before .loop .inv .1)
+      (ap (λ b. fault (not b) (wrongTotal ∷ c .before .before .before .before .before .before .before .loop .i ∷ [])) (eq-eqb _ _ (sym (summed (c .before .before .before)) ∙ c .if1 .left))),
 )
 
 returns-2 : tie.Need-returns-2 Inv-loop μ-loop

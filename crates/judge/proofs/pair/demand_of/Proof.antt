@@ -1,4 +1,4 @@
--- `judge::floor::demand_of` meets its contract: after i jobs, the sum over the first i.
+-- `judge::pair::demand_of` meets its contract: after i jobs, the sum over the first i.
 use mathlib.Core.Path.{sym, _∙_, ap, _≡_}
 use mathlib.Core.Bool.{_&&_}
 use Prim.Native.Nat.{_+_, _*_, _-_, _≤_}
@@ -11,12 +11,12 @@ use Rattle.sums.specs.Sum.{sum, on, strided}
 use Rattle.sums.proofs.Laws.{sum-start}
 use Rattle.judge.specs.Constraints.{mostAtPlace, total}
 use Rattle.judge.proofs.Running.{sum-next}
-use Rattle.judge.proofs.floor.demand_of.Statement.{statement}
-use Rattle.judge.proofs.floor.demand_of.Tie as tie
+use Rattle.judge.proofs.pair.demand_of.Statement.{statement}
+use Rattle.judge.proofs.pair.demand_of.Tie as tie
 
 abbrev Inv-loop : tie.InvT-loop
 Inv-loop table l count time p jobs total₀ i₀ total i =
-    (i ≤ jobs) × (total ≡ sum (λ k. on (isHi p k && leb (deadline p k) time) (sum (strided table (mostIntervals * k + l) 1) count)) i) × (total ≤ i * (mostIntervals * mostAtPlace))
+    (i ≤ jobs) × (total .0 ≡ sum (λ k. on (isHi p k && leb (deadline p k) time) (sum (strided table (mostIntervals * k + l) 1) count)) i) × (total .0 ≤ i * (mostIntervals * mostAtPlace))
 
 abbrev μ-loop : tie.MeasureT-loop
 μ-loop table l count time p jobs total₀ i₀ total i = jobs - i
@@ -42,8 +42,8 @@ add-wanted-sum c = omega arith
 wanted-sum-requires : tie.Need-wanted-sum-requires Inv-loop μ-loop
 wanted-sum-requires c κs = omega arith
 
-add-total : tie.Need-add-total Inv-loop μ-loop
-add-total c = omega (arith, c .wanted-sum .ensures)
+add-t22 : tie.Need-add-t22 Inv-loop μ-loop
+add-t22 c = omega (arith, c .before .before .wanted-sum .ensures)
 
 add-i : tie.Need-add-i Inv-loop μ-loop
 add-i c = search needs
@@ -53,7 +53,7 @@ loop-less c = search needs
 
 loop-again : tie.Need-loop-again Inv-loop μ-loop
 loop-again c =
-    (omega arith, sum-next _ (c .before .before .before .before .before .before .loop .i) (c .before .before .before .before .before .before .loop .inv .1) (c .wanted-sum .ensures .0), omega (arith, c .wanted-sum .ensures .1))
+    (omega arith, sum-next _ (c .before .before .before .before .before .before .before .before .loop .i) (c .before .before .before .before .before .before .before .before .loop .inv .1) (c .before .before .wanted-sum .ensures .0), omega (arith, c .before .before .wanted-sum .ensures .1))
 
 returns : tie.Need-returns Inv-loop μ-loop
 returns c =
@@ -73,7 +73,7 @@ demand-of-spec =
     mul-wanted-sum
     add-wanted-sum
     wanted-sum-requires
-    add-total
+    add-t22
     add-i
     loop-less
     loop-again

@@ -1,4 +1,4 @@
--- `judge::floor::wanted_sum` meets its contract.
+-- `judge::pair::wanted_sum` meets its contract.
 use mathlib.Core.Path.{refl}
 use Prim.Native.Nat.{_+_, _*_}
 use native.Mathlib.Omega.{arith}
@@ -8,8 +8,8 @@ use borrow.Author.Tests.{not-true, not-false}
 use Rattle.sums.specs.Sum.{strided}
 use Rattle.sums.proofs.Laws.{sum-bound}
 use Rattle.judge.specs.Constraints.{mostAtPlace}
-use Rattle.judge.proofs.floor.wanted_sum.Statement.{statement}
-use Rattle.judge.proofs.floor.wanted_sum.Tie as tie
+use Rattle.judge.proofs.pair.wanted_sum.Statement.{statement}
+use Rattle.judge.proofs.pair.wanted_sum.Tie as tie
 
 returns : tie.Need-returns
 returns c = (rw (not-true (c .before .before .args .wanted) (c .if1 .taken)) refl, omega arith)

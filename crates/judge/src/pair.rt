@@ -1,0 +1,45 @@
+// The demand on the floor from an interval to a time, for the slack of one pair.
+use plan::edition::Edition;
+use plan::kinds::HI;
+use plan::kinds::Plan;
+use plan::kinds::Units;
+use plan::rules::counted_of;
+use sums::sum_of;
+ghost use mathlib.Core.Path.{_≡_};
+ghost use mathlib.Core.Bool.{_&&_};
+ghost use Prim.Native.Nat.{_+_, _*_, _≤_};
+ghost use lib.Dec.{leb};
+ghost use Rattle.sums.specs.Sum.{sum, on, strided};
+ghost use Rattle.plan.specs.Edition.{mostIntervals};
+ghost use Rattle.plan.specs.Rules.{counted, deadline, isHi};
+ghost use Rattle.judge.specs.Constraints.{mostAtPlace};
+
+// The sum of some numbers of a table in a row, where they are wanted.
+fn wanted_sum(wanted: bool, table: &[u32], start: usize, count: u32) -> Units
+    requires { ⌜ count ≤ mostIntervals ⌝ }
+    ensures { λ r. ⌜ (r .0 ≡ on wanted (sum (strided (now (table .entry)) start 1) count)) × (r .0 ≤ mostIntervals * mostAtPlace) ⌝ }
+{
+    if !wanted {
+        return Units(0);
+    }
+    Units(sum_of(table, start, 1, count))
+}
+
+// The HI units of jobs with deadline at most a time, in some intervals from interval l on.
+pub(crate) fn demand_of(p: Plan, table: &[u32], l: usize, count: u32, time: u32) -> Units
+    requires { ⌜ (l ≤ mostIntervals) × (count ≤ mostIntervals) ⌝ }
+    ensures { λ r. ⌜ (r .0 ≡ sum (λ i. on (isHi p i && leb (deadline p i) time) (sum (strided (now (table .entry)) (mostIntervals * i + l) 1) count)) (counted p)) × (r .0 ≤ counted p * (mostIntervals * mostAtPlace)) ⌝ }
+{
+    let jobs = counted_of(p);
+    let mut total = Units(0);
+    let mut i = 0;
+    while i < jobs {
+        let job = p.jobs[i];
+        let deadline = job.deadline;
+        let wanted = (job.grade == HI) & (deadline.0 <= time);
+        let units = wanted_sum(wanted, table, Edition::MOST_INTERVALS * i + l, count);
+        total = Units(total.0 + units.0);
+        i += 1;
+    }
+    total
+}
