@@ -8,7 +8,7 @@ use native.Mathlib.Omega.{arith}
 use borrow.Author.Tests.{not-true, not-false}
 use Rattle.sums.proofs.Laws.{below-or-last}
 use Rattle.plan.specs.Below.{every}
-use Rattle.plan.proofs.Below.{every-ext}
+use Rattle.plan.proofs.Below.{every-next, every-ext}
 use Rattle.judge.specs.Verdict.{Report, orElse, fault, isNone, first}
 
 -- An empty report is none, and the other way round.
@@ -72,6 +72,14 @@ pub none-faults : (test : ℕ → Bool) (number : ℕ) (places : ℕ → Report)
 none-faults test number places n =
     none-first (λ k. fault (not (test k)) (number ∷ places k)) n
     ∙ every-ext _ _ n (λ k l. none-fault (test k) number (places k))
+
+pub faults-none : (test : ℕ → Bool) (number : ℕ) (places : ℕ → Report) (n : ℕ) → every test n ≡ true
+    → first (λ k. fault (not (test k)) (number ∷ places k)) n ≡ []
+faults-none test number places n h = none-empty _ (none-faults test number places n ∙ h)
+
+-- A test that holds below a length and not below the next fails at the last.
+pub last-fails : (test : ℕ → Bool) (n : ℕ) → every test n ≡ true → every test (n + 1) ≡ false → test n ≡ false
+last-fails test n h e = sym (ap (λ b. b && test n) h) ∙ every-next test n refl refl ∙ e
 
 -- The first report is the one of the first number that has one.
 pub first-found : (f : ℕ → Report) (k n : ℕ) → first f k ≡ [] → k < n → isNone (f k) ≡ false → first f n ≡ f k

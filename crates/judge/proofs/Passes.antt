@@ -365,7 +365,7 @@ module _ (p : Plan) (table : List ℕ) (low until : ℕ) (found : Lowest p table
   before-low : first row low ≡ []
   before-low = none-empty (first row low) (none-first row low ∙ every-all _ low (λ l b. cells-none l (suc (intervals p)) ∙ found .below l b))
 
-  pub nothing-short : intervals p ≤ low → [] ≡ floorFault p table
+  nothing-short : intervals p ≤ low → [] ≡ floorFault p table
   unfolding floorFault
   nothing-short h = let all : low ≡ intervals p = omega (arith, found .few) in sym (rw all at before-low)
 
@@ -376,6 +376,14 @@ module _ (p : Plan) (table : List ℕ) (low until : ℕ) (found : Lowest p table
       (none-empty (first (cell low) until) (cells-none low until ∙ w .2)) (w .0)
       (ap (λ b. fault b (belowFloorRule ∷ low ∷ boundary p until ∷ [])) (not-false (isPair p low until && fallsShort p table low until) (w .1)))
 
-  pub short-at-lowest : low < intervals p → belowFloorRule ∷ low ∷ boundary p until ∷ [] ≡ floorFault p table
+  short-at-lowest : low < intervals p → belowFloorRule ∷ low ∷ boundary p until ∷ [] ≡ floorFault p table
   unfolding floorFault
   short-at-lowest h = in-row h ∙ sym (first-found row low (intervals p) before-low h (ap isNone (sym (in-row h))))
+
+  pub place-is : fault (ltb low (intervals p)) (belowFloorRule ∷ low ∷ boundary p until ∷ []) ≡ floorFault p table
+  place-is = go (decLt low (intervals p))
+    where
+      go : Dec (low < intervals p) → fault (ltb low (intervals p)) (belowFloorRule ∷ low ∷ boundary p until ∷ []) ≡ floorFault p table
+      go (yes h) = ap (λ b. fault b (belowFloorRule ∷ low ∷ boundary p until ∷ [])) (lt-ltb low (intervals p) h) ∙ short-at-lowest h
+      go (no h) =
+          ap (λ b. fault b (belowFloorRule ∷ low ∷ boundary p until ∷ [])) (le-ltb low (intervals p) (omega arith)) ∙ nothing-short (omega arith)

@@ -4,11 +4,11 @@ use crate::answers::is_accepted;
 use crate::faults::constraints;
 use crate::faults::in_hand;
 use crate::pair::demand_of;
+use crate::pair::start_of;
 use crate::rows::add_rows;
 use crate::rows::hi_deadlines_of;
 use crate::totals::carried;
 use plan::boundaries::boundaries_of;
-use plan::boundaries::present_of;
 use plan::edition::Edition;
 use plan::kinds::Plan;
 use plan::kinds::Rate;
@@ -36,31 +36,15 @@ fn slack_from(carries: Units, asked: Units) -> i64
     carries.0 as i64 - asked.0 as i64
 }
 
-// The time at a place of some times, none past their end.
-fn time_at(times: &[u32], at: usize) -> u32
-    ensures { λ r. ⌜ r ≡ getD (now (times .entry)) at 0 ⌝ }
-{
-    if times.len() <= at {
-        return 0;
-    }
-    times[at]
-}
-
 // The slack of an interval and a deadline, for any plan, table, interval and time: what the floor carries from the interval's start
 // to the deadline, less the HI units between them of jobs with deadline at most that. No sum of 32 bits and no product here passes 62 bits.
 pub fn slack_of(p: Plan, table: &[u32], interval: usize, deadline: Slots) -> i64
     ensures { λ r. ⌜ MeasuresPair p (now (table .entry)) interval deadline r ⌝ }
 {
-    let b = boundaries_of(p);
-    let times = b.times;
-    let start = time_at(&times, interval);
+    let start = start_of(p, interval);
     let d = p.d;
-    let carries = carried(d, start, deadline.0);
-    let ended = present_of(p, deadline);
-    if ended <= interval {
-        return slack_from(carries, Units(0));
-    }
-    let asked = demand_of(p, table, interval, (ended - interval) as u32, deadline.0);
+    let carries = carried(d, start.0, deadline.0);
+    let asked = demand_of(p, table, interval, deadline);
     slack_from(carries, asked)
 }
 

@@ -10,13 +10,16 @@ use plan::kinds::Slots;
 use plan::kinds::Units;
 ghost use mathlib.Core.Path.{_≡_};
 ghost use mathlib.Core.Bool.{true, cond};
+ghost use mathlib.Core.List.{[], _∷_};
 ghost use Prim.Native.Nat.{ℕ, _*_, _≤_, _<_, min};
+ghost use lib.Dec.{ltb};
 ghost use lib.ListN.{length, getD};
 ghost use Rattle.plan.specs.Edition.{mostJobs, mostIntervals, places};
+ghost use Rattle.plan.specs.Refusal.{belowFloorRule};
 ghost use Rattle.plan.specs.Rules.{rulesHold};
 ghost use Rattle.plan.specs.Boundaries.{boundaries, intervals};
 ghost use Rattle.judge.specs.Constraints.{mostAtPlace};
-ghost use Rattle.judge.specs.Verdict.{floorFault};
+ghost use Rattle.judge.specs.Verdict.{fault, floorFault};
 ghost use Rattle.judge.specs.Columns.{asksMore, lowest};
 ghost use Rattle.judge.specs.Answers.{report};
 
@@ -49,6 +52,17 @@ fn lowered(due: bool, d: Rate, sums: &[u64], times: &[u32], m: usize, other: usi
     pick(low < other, low, other)
 }
 
+// The verdict on the interval that a pass found, with the boundary that it falls short of; none where it is past the last.
+fn found_at(times: &[u32], spans: usize, low: usize, until: usize) -> Verdict
+    requires { ⌜ (low < spans → until < length (now times)) ⌝ }
+    ensures { λ r. ⌜ report r ≡ fault (ltb low spans) (belowFloorRule ∷ low ∷ getD (now (times .entry)) until 0 ∷ []) ⌝ }
+{
+    if spans <= low {
+        return Verdict::Accepted;
+    }
+    Verdict::BelowFloor(low, Slots(times[until]))
+}
+
 // Rule 18 over all intervals: the lowest that falls short of a later HI deadline, with the first such deadline. One pass over the
 // boundaries: the column sums take in the rows of the HI jobs due at each, and each HI deadline is looked at from its last interval back.
 pub(crate) fn below_floor(p: Plan, table: &[u32], times: &[u32], spans: usize) -> Verdict
@@ -69,8 +83,5 @@ pub(crate) fn below_floor(p: Plan, table: &[u32], times: &[u32], spans: usize) -
         low = here;
         m += 1;
     }
-    if spans <= low {
-        return Verdict::Accepted;
-    }
-    Verdict::BelowFloor(low, Slots(times[until]))
+    found_at(times, spans, low, until)
 }

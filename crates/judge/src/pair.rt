@@ -1,32 +1,37 @@
-// The demand on the floor from an interval to a time, for the slack of one pair.
+// The two sides of one pair, for its slack: where an interval starts, and the demand on the floor from there to a time.
+use plan::boundaries::boundaries_of;
+use plan::boundaries::present_of;
 use plan::edition::Edition;
 use plan::kinds::HI;
 use plan::kinds::Plan;
+use plan::kinds::Slots;
 use plan::kinds::Units;
 use plan::rules::counted_of;
 use sums::sum_of;
 ghost use mathlib.Core.Path.{_≡_};
 ghost use mathlib.Core.Bool.{_&&_};
-ghost use Prim.Native.Nat.{_+_, _*_, _≤_};
+ghost use Prim.Native.Nat.{_+_, _*_, _≤_, _<_};
 ghost use lib.Dec.{leb};
 ghost use Rattle.sums.specs.Sum.{sum, on, strided};
 ghost use Rattle.plan.specs.Edition.{mostIntervals};
 ghost use Rattle.plan.specs.Rules.{counted, deadline, isHi};
-ghost use Rattle.judge.specs.Constraints.{mostAtPlace};
+ghost use Rattle.plan.specs.Boundaries.{boundary};
+ghost use Rattle.judge.specs.Constraints.{mostAtPlace, mostSide, demand};
 
 // The sum of some numbers of a table in a row, where they are wanted.
 fn wanted_sum(wanted: bool, table: &[u32], start: usize, count: u32) -> Units
     requires { ⌜ count ≤ mostIntervals ⌝ }
     ensures { λ r. ⌜ (r .0 ≡ on wanted (sum (strided (now (table .entry)) start 1) count)) × (r .0 ≤ mostIntervals * mostAtPlace) ⌝ }
 {
-    if !wanted {
-        return Units(0);
+    if wanted {
+        Units(sum_of(table, start, 1, count))
+    } else {
+        Units(0)
     }
-    Units(sum_of(table, start, 1, count))
 }
 
 // The HI units of jobs with deadline at most a time, in some intervals from interval l on.
-pub(crate) fn demand_of(p: Plan, table: &[u32], l: usize, count: u32, time: u32) -> Units
+fn hi_units(p: Plan, table: &[u32], l: usize, count: u32, time: u32) -> Units
     requires { ⌜ (l ≤ mostIntervals) × (count ≤ mostIntervals) ⌝ }
     ensures { λ r. ⌜ (r .0 ≡ sum (λ i. on (isHi p i && leb (deadline p i) time) (sum (strided (now (table .entry)) (mostIntervals * i + l) 1) count)) (counted p)) × (r .0 ≤ counted p * (mostIntervals * mostAtPlace)) ⌝ }
 {
@@ -42,4 +47,27 @@ pub(crate) fn demand_of(p: Plan, table: &[u32], l: usize, count: u32, time: u32)
         i += 1;
     }
     total
+}
+
+// The demand on the floor from an interval to a time: the HI units of jobs with deadline at most that, in the intervals that end by then.
+pub(crate) fn demand_of(p: Plan, table: &[u32], interval: usize, time: Slots) -> Units
+    ensures { λ r. ⌜ (r .0 ≡ demand p (now (table .entry)) interval (time .0)) × (r .0 < mostSide) ⌝ }
+{
+    let ended = present_of(p, time);
+    if ended <= interval {
+        return Units(0);
+    }
+    hi_units(p, table, interval, (ended - interval) as u32, time.0)
+}
+
+// The boundary at which an interval starts; 0 for one that the plan has not.
+pub(crate) fn start_of(p: Plan, interval: usize) -> Slots
+    ensures { λ r. ⌜ r .0 ≡ boundary p interval ⌝ }
+{
+    let b = boundaries_of(p);
+    let times = b.times;
+    if Edition::MOST_BOUNDARIES <= interval {
+        return Slots(0);
+    }
+    Slots(times[interval])
 }

@@ -45,7 +45,7 @@ fn row_inside(
     inside
 }
 
-// The first interval of job i's row with units outside a window.
+// The first interval of job i's row with units outside a window: the first up to which the row isn't inside.
 fn outside_in_row(
     table: &[u32],
     start: usize,
@@ -60,7 +60,7 @@ fn outside_in_row(
 {
     let mut j = 0;
     while j < spans {
-        let inside = place_inside(times[j], times[j + 1], table[start + j], release, deadline);
+        let inside = row_inside(table, start, times, j + 1, release, deadline);
         if !inside {
             return Verdict::OutsideWindow(i, j);
         }

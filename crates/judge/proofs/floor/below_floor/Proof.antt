@@ -1,16 +1,17 @@
 -- `judge::floor::below_floor` meets its contract: after m boundaries, the column sums of the jobs due by then, and the lowest interval that falls short of one of them.
-use mathlib.Core.Path.{sym, _∙_, ap, subst, _≡_}
+use mathlib.Core.Path.{sym, _∙_, ap₂, subst, _≡_}
 use mathlib.Core.List.{[], _∷_}
-use Prim.Native.Nat.{ℕ, suc, _-_, _≤_, _<_}
+use Prim.Native.Nat.{ℕ, suc, _-_, _≤_}
 use native.Mathlib.Numerals.{add-one}
 use native.Mathlib.Omega.{arith}
 use borrow.Author.Needs.{needs}
-use lib.ListN.{length, getD}
+use lib.Dec.{ltb}
+use lib.ListN.{getD}
 use Rattle.plan.specs.Refusal.{belowFloorRule}
 use Rattle.plan.specs.Boundaries.{boundary, intervals}
 use Rattle.judge.specs.Constraints.{mostAtPlace}
-use Rattle.judge.specs.Verdict.{isHiDeadline}
-use Rattle.judge.proofs.Passes.{Lowest, ReadyFor, Summed, ready-from, summed-start, few-intervals, rows-fit, due-is, summed-next, column-fits, lowest-start, lowest-next, nothing-short, short-at-lowest}
+use Rattle.judge.specs.Verdict.{fault, isHiDeadline}
+use Rattle.judge.proofs.Passes.{Lowest, ReadyFor, Summed, ready-from, summed-start, few-intervals, rows-fit, due-is, summed-next, column-fits, lowest-start, lowest-next, place-is}
 use Rattle.judge.proofs.floor.below_floor.Statement.{statement}
 use Rattle.judge.proofs.floor.below_floor.Tie as tie
 
@@ -93,25 +94,15 @@ whole c =
     let end : c .before .loop .m ≡ suc (intervals (a .p)) = omega (arith, c .before .before .before .before .before .pre .1) in
     subst (λ n. Lowest (a .p) (a .table .now) n (c .before .loop .low) (c .before .loop .until)) end (c .before .loop .inv .2)
 
+found-at-requires : tie.Need-found-at-requires Inv-loop μ-loop
+found-at-requires c κs h = omega (arith, whole c .there (omega (arith, c .before .before .before .before .before .pre .1)) .0, c .before .before .before .before .before .pre .1, c .before .before .before .before .before .pre .2)
+
 returns : tie.Need-returns Inv-loop μ-loop
 returns c =
     let a = c .before .before .before .before .before .before .args in
-    nothing-short (a .p) (a .table .now) _ _ (whole (c .before)) (omega (arith, c .before .before .before .before .before .before .pre .1))
-
-in-times : (c : tie.Else1 Inv-loop μ-loop) → c .before .before .loop .until < length (c .before .before .before .before .before .before .args .times .now)
-in-times c = omega (arith, whole (c .before) .there (omega (arith, c .before .before .before .before .before .before .pre .1)) .0, c .before .before .before .before .before .before .pre .1, c .before .before .before .before .before .before .pre .2)
-
-mul-t26 : tie.Need-mul-t26 Inv-loop μ-loop
-mul-t26 c = omega (arith, in-times c)
-
-shared-slice-read-t28 : tie.Need-shared-slice-read-t28 Inv-loop μ-loop
-shared-slice-read-t28 c = in-times (c .before)
-
-returns-2 : tie.Need-returns-2 Inv-loop μ-loop
-returns-2 c =
-    let a = c .before .before .before .before .before .before .before .args in
-    ap (λ t. belowFloorRule ∷ c .before .before .before .loop .low ∷ getD t (c .before .before .before .loop .until) 0 ∷ []) (c .before .before .before .before .before .before .before .pre .0)
-    ∙ short-at-lowest (a .p) (a .table .now) _ _ (whole (c .before .before)) (omega (arith, c .before .before .before .before .before .before .before .pre .1))
+    c .found-at .ensures
+    ∙ ap₂ (λ t n. fault (ltb (c .before .before .loop .low) n) (belowFloorRule ∷ c .before .before .loop .low ∷ getD t (c .before .before .loop .until) 0 ∷ [])) (c .before .before .before .before .before .before .pre .0) (c .before .before .before .before .before .before .pre .1)
+    ∙ place-is (a .p) (a .table .now) (c .before .before .loop .low) (c .before .before .loop .until) (whole (c .before))
 
 pub below-floor-spec : {M : Type 1} → statement M
 below-floor-spec =
@@ -132,7 +123,5 @@ below-floor-spec =
     add-m
     loop-less
     loop-again
-    returns
-    mul-t26
-    shared-slice-read-t28
-    returns-2)
+    found-at-requires
+    returns)

@@ -1,80 +1,68 @@
--- `judge::pair::demand_of` meets its contract: after i jobs, the sum over the first i.
-use mathlib.Core.Path.{sym, _∙_, ap, _≡_}
+-- `judge::pair::demand_of` meets its contract.
+use mathlib.Core.Path.{sym, _∙_, _≡_}
 use mathlib.Core.Bool.{_&&_}
 use Prim.Native.Nat.{_+_, _*_, _-_, _≤_}
 use native.Mathlib.Omega.{arith}
 use borrow.Author.Needs.{needs}
 use lib.Dec.{leb}
+use Rattle.sums.specs.Sum.{strided, sum, on}
 use Rattle.plan.specs.Edition.{mostIntervals}
 use Rattle.plan.specs.Rules.{counted, deadline, isHi}
-use Rattle.sums.specs.Sum.{sum, on, strided}
-use Rattle.sums.proofs.Laws.{sum-start}
-use Rattle.judge.specs.Constraints.{mostAtPlace, total}
-use Rattle.judge.proofs.Running.{sum-next}
+use Rattle.plan.specs.Boundaries.{boundaries}
+use Rattle.plan.proofs.Rising.{boundaries-few}
+use Rattle.plan.proofs.Come.{come-few}
+use Rattle.judge.specs.Constraints.{demand}
+use Rattle.judge.proofs.Running.{sum-of-none}
+use Rattle.judge.proofs.Demand.{demand-is, end-by-present}
 use Rattle.judge.proofs.pair.demand_of.Statement.{statement}
 use Rattle.judge.proofs.pair.demand_of.Tie as tie
 
-abbrev Inv-loop : tie.InvT-loop
-Inv-loop table l count time p jobs total₀ i₀ total i =
-    (i ≤ jobs) × (total .0 ≡ sum (λ k. on (isHi p k && leb (deadline p k) time) (sum (strided table (mostIntervals * k + l) 1) count)) i) × (total .0 ≤ i * (mostIntervals * mostAtPlace))
+present-of-requires : tie.Need-present-of-requires
+present-of-requires c κs = search needs
 
-abbrev μ-loop : tie.MeasureT-loop
-μ-loop table l count time p jobs total₀ i₀ total i = jobs - i
+-- The intervals that end by the time come before its present interval.
+few : (c : tie.After-present-of) → c .present-of .result ≤ mostIntervals
+few c =
+    let p = c .before .before .args .p in
+    omega (arith, c .present-of .ensures, come-few (c .before .before .args .time .0) (boundaries p), boundaries-few p (counted p))
 
-counted-of-requires : tie.Need-counted-of-requires Inv-loop μ-loop
-counted-of-requires c κs = search needs
+asked : (c : tie.After-present-of)
+    → sum (λ i. on (isHi (c .before .before .args .p) i && leb (deadline (c .before .before .args .p) i) (c .before .before .args .time .0))
+    (sum (strided (c .before .before .args .table .now) (mostIntervals * i + c .before .before .args .interval) 1) (c .present-of .result - c .before .before .args .interval)))
+    (counted (c .before .before .args .p))
+    ≡ demand (c .before .before .args .p) (c .before .before .args .table .now) (c .before .before .args .interval) (c .before .before .args .time .0)
+asked c =
+    let a = c .before .before .args in
+    demand-is (a .p) (a .table .now) (a .interval) (a .time .0) (c .present-of .result)
+    (rw (c .present-of .ensures) (end-by-present (a .p) (a .time .0)))
 
-loop-holds : tie.Need-loop-holds Inv-loop μ-loop
-loop-holds c = (omega arith, sym (sum-start _), omega arith)
-
-mul-job : tie.Need-mul-job Inv-loop μ-loop
-mul-job c = search needs
-
-element-copy-out-job : tie.Need-element-copy-out-job Inv-loop μ-loop
-element-copy-out-job c = search needs
-
-mul-wanted-sum : tie.Need-mul-wanted-sum Inv-loop μ-loop
-mul-wanted-sum c = omega arith
-
-add-wanted-sum : tie.Need-add-wanted-sum Inv-loop μ-loop
-add-wanted-sum c = omega arith
-
-wanted-sum-requires : tie.Need-wanted-sum-requires Inv-loop μ-loop
-wanted-sum-requires c κs = omega arith
-
-add-t22 : tie.Need-add-t22 Inv-loop μ-loop
-add-t22 c = omega (arith, c .before .before .wanted-sum .ensures)
-
-add-i : tie.Need-add-i Inv-loop μ-loop
-add-i c = search needs
-
-loop-less : tie.Need-loop-less Inv-loop μ-loop
-loop-less c = search needs
-
-loop-again : tie.Need-loop-again Inv-loop μ-loop
-loop-again c =
-    (omega arith, sum-next _ (c .before .before .before .before .before .before .before .before .loop .i) (c .before .before .before .before .before .before .before .before .loop .inv .1) (c .before .before .wanted-sum .ensures .0), omega (arith, c .before .before .wanted-sum .ensures .1))
-
-returns : tie.Need-returns Inv-loop μ-loop
+returns : tie.Need-returns
 returns c =
-    let end : c .before .loop .i ≡ counted (c .before .before .before .before .args .t1) = omega arith in
-    (c .before .loop .inv .1 ∙ ap (sum _) end, rw end at (c .before .loop .inv .2))
+    let a = c .before .before .before .args in
+    let none : c .before .present-of .result - a .interval ≡ 0 = omega arith in (
+      sym (sum-of-none (λ i. isHi (a .p) i && leb (deadline (a .p) i) (a .time .0)) (λ i. strided (a .table .now) (mostIntervals * i + a .interval) 1) _ (counted (a .p)) none) ∙ asked (c .before),
+      omega arith,
+    )
+
+sub-hi-units : tie.Need-sub-hi-units
+sub-hi-units c = search needs
+
+cast-hi-units : tie.Need-cast-hi-units
+cast-hi-units c = omega (arith, few (c .before))
+
+hi-units-requires : tie.Need-hi-units-requires
+hi-units-requires c κs = omega (arith, few (c .before))
+
+returns-2 : tie.Need-returns-2
+returns-2 c = (c .hi-units .ensures .0 ∙ asked (c .before .before), omega (arith, c .hi-units .ensures .1))
 
 pub demand-of-spec : {M : Type 1} → statement M
 demand-of-spec =
     tie.close
     (tie.spec
-    Inv-loop
-    μ-loop
-    counted-of-requires
-    loop-holds
-    mul-job
-    element-copy-out-job
-    mul-wanted-sum
-    add-wanted-sum
-    wanted-sum-requires
-    add-t22
-    add-i
-    loop-less
-    loop-again
-    returns)
+    present-of-requires
+    returns
+    sub-hi-units
+    cast-hi-units
+    hi-units-requires
+    returns-2)

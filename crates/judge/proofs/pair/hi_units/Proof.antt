@@ -1,0 +1,80 @@
+-- `judge::pair::hi_units` meets its contract: after i jobs, the sum over the first i.
+use mathlib.Core.Path.{sym, _∙_, ap, _≡_}
+use mathlib.Core.Bool.{_&&_}
+use Prim.Native.Nat.{_+_, _*_, _-_, _≤_}
+use native.Mathlib.Omega.{arith}
+use borrow.Author.Needs.{needs}
+use lib.Dec.{leb}
+use Rattle.plan.specs.Edition.{mostIntervals}
+use Rattle.plan.specs.Rules.{counted, deadline, isHi}
+use Rattle.sums.specs.Sum.{sum, on, strided}
+use Rattle.sums.proofs.Laws.{sum-start}
+use Rattle.judge.specs.Constraints.{mostAtPlace, total}
+use Rattle.judge.proofs.Running.{sum-next}
+use Rattle.judge.proofs.pair.hi_units.Statement.{statement}
+use Rattle.judge.proofs.pair.hi_units.Tie as tie
+
+abbrev Inv-loop : tie.InvT-loop
+Inv-loop table l count time p jobs total₀ i₀ total i =
+    (i ≤ jobs) × (total .0 ≡ sum (λ k. on (isHi p k && leb (deadline p k) time) (sum (strided table (mostIntervals * k + l) 1) count)) i) × (total .0 ≤ i * (mostIntervals * mostAtPlace))
+
+abbrev μ-loop : tie.MeasureT-loop
+μ-loop table l count time p jobs total₀ i₀ total i = jobs - i
+
+counted-of-requires : tie.Need-counted-of-requires Inv-loop μ-loop
+counted-of-requires c κs = search needs
+
+loop-holds : tie.Need-loop-holds Inv-loop μ-loop
+loop-holds c = (omega arith, sym (sum-start _), omega arith)
+
+mul-job : tie.Need-mul-job Inv-loop μ-loop
+mul-job c = search needs
+
+element-copy-out-job : tie.Need-element-copy-out-job Inv-loop μ-loop
+element-copy-out-job c = search needs
+
+mul-wanted-sum : tie.Need-mul-wanted-sum Inv-loop μ-loop
+mul-wanted-sum c = omega arith
+
+add-wanted-sum : tie.Need-add-wanted-sum Inv-loop μ-loop
+add-wanted-sum c = omega arith
+
+wanted-sum-requires : tie.Need-wanted-sum-requires Inv-loop μ-loop
+wanted-sum-requires c κs = omega arith
+
+add-t22 : tie.Need-add-t22 Inv-loop μ-loop
+add-t22 c = omega (arith, c .before .before .wanted-sum .ensures)
+
+add-i : tie.Need-add-i Inv-loop μ-loop
+add-i c = search needs
+
+loop-less : tie.Need-loop-less Inv-loop μ-loop
+loop-less c = search needs
+
+loop-again : tie.Need-loop-again Inv-loop μ-loop
+loop-again c =
+    (omega arith, sum-next _ (c .before .before .before .before .before .before .before .before .loop .i) (c .before .before .before .before .before .before .before .before .loop .inv .1) (c .before .before .wanted-sum .ensures .0), omega (arith, c .before .before .wanted-sum .ensures .1))
+
+returns : tie.Need-returns Inv-loop μ-loop
+returns c =
+    let end : c .before .loop .i ≡ counted (c .before .before .before .before .args .t1) = omega arith in
+    (c .before .loop .inv .1 ∙ ap (sum _) end, rw end at (c .before .loop .inv .2))
+
+pub hi-units-spec : {M : Type 1} → statement M
+hi-units-spec =
+    tie.close
+    (tie.spec
+    Inv-loop
+    μ-loop
+    counted-of-requires
+    loop-holds
+    mul-job
+    element-copy-out-job
+    mul-wanted-sum
+    add-wanted-sum
+    wanted-sum-requires
+    add-t22
+    add-i
+    loop-less
+    loop-again
+    returns)
