@@ -1,7 +1,6 @@
 // The night of an input, as `runplan` takes it from standard input: the plan file first, then two bytes for each slot.
 use lines::LONGEST_LINE;
 use lines::Printed;
-use night::HEAD_BYTES;
 use night::Night;
 use night::advance;
 use night::file_bytes;
@@ -60,7 +59,7 @@ pub fn show(name: &[u8], input: &[u8]) -> bool {
     let mut table = [0u32; Edition::PLACES];
     let mut line = [0u8; LONGEST_LINE];
     print_name(name);
-    let size = file_bytes(part(input, HEAD_BYTES));
+    let size = file_bytes(part(input, Edition::OPENING_BYTES));
     let begun = open(part(input, size), &mut table, &mut line);
     let printed = begun.printed;
     print_line(printed, &line);

@@ -3,14 +3,11 @@ use mathlib.Core.Path.{_≡_}
 use mathlib.Core.List.{List, _++_}
 use Prim.Native.Nat.{ℕ, _+_}
 use lib.ListN.{length, take}
+use Rattle.plan.specs.Edition.{nameBytes}
 
 -- The digits of a number of 32 bits.
 abbrev pub mostDigits : ℕ
 mostDigits = 10
-
--- The bytes of a name.
-abbrev pub nameBytes : ℕ
-nameBytes = 8
 
 -- A grant at its longest: a space, a name, the equals sign and a number.
 abbrev pub grantBytes : ℕ

@@ -3,7 +3,6 @@
 mod pieces;
 
 use crate::pieces::MOST_DIGITS;
-use crate::pieces::NAME_BYTES;
 use crate::pieces::add;
 use crate::pieces::add_grants;
 use crate::pieces::add_name;
@@ -26,7 +25,7 @@ ghost use Rattle.lines.specs.Lines.{slotHeader, outcomeHeader, strayLine
 // No line is longer: two numbers with a space each, the mode, a grant for every job, and the line feed.
 pub const LONGEST_LINE: usize = 2 * (MOST_DIGITS + 1)
     + 1
-    + Edition::MOST_JOBS * (1 + NAME_BYTES + 1 + MOST_DIGITS)
+    + Edition::MOST_JOBS * (1 + Edition::NAME_BYTES + 1 + MOST_DIGITS)
     + 1;
 
 // What a line's call answers: the line's length, or a refusal.

@@ -1,5 +1,6 @@
 // The pieces of a line: words, numbers in decimal, names as their bytes. Each is put behind what the line has so far, and answers
 // where the line then ends.
+use plan::edition::Edition;
 use plan::kinds::Name;
 use plan::kinds::Plan;
 use plan::kinds::Slots;
@@ -9,16 +10,14 @@ ghost use mathlib.Core.List.{_++_};
 ghost use Prim.Native.Nat.{_+_, _*_, _%_, _≤_};
 ghost use lib.ListN.{length, drop, getD};
 ghost use lib.Seq.{paste};
-ghost use Rattle.plan.specs.Edition.{mostJobs};
+ghost use Rattle.plan.specs.Edition.{nameBytes, mostJobs};
 ghost use Rattle.plan.specs.Rules.{counted};
 ghost use Rattle.lines.specs.Text.{text, decimal, nameText};
 ghost use Rattle.lines.specs.Lines.{modeText, grantText, grantsText, orDash};
-ghost use Rattle.lines.specs.Growth.{Grown, mostDigits, nameBytes, grantBytes};
+ghost use Rattle.lines.specs.Growth.{Grown, mostDigits, grantBytes};
 
-// The digits of a number of 32 bits, and the bytes of a name.
+// The digits of a number of 32 bits.
 pub(crate) const MOST_DIGITS: usize = 10;
-
-pub(crate) const NAME_BYTES: usize = 8;
 
 // Copies a text to a place.
 pub(crate) fn put(out: &mut [u8], at: usize, text: &[u8])
@@ -82,7 +81,7 @@ fn low_byte(x: u64) -> u8
 }
 
 // The eight bytes of a name.
-fn name_text(name: Name) -> [u8; NAME_BYTES]
+fn name_text(name: Name) -> [u8; Edition::NAME_BYTES]
     ensures { λ r. ⌜ r ≡ nameText (name .0) ⌝ }
 {
     let x = name.0;

@@ -4,9 +4,6 @@ ghost use mathlib.Core.Path.{_≡_};
 ghost use Prim.Native.Nat.{_<_};
 ghost use Rattle.night.specs.Output.{fileBytes};
 
-// Version and length.
-pub const HEAD_BYTES: usize = 5;
-
 fn wide(byte: u8) -> usize
     ensures { λ r. ⌜ (r ≡ byte) × (r < 256) ⌝ }
 {
@@ -17,15 +14,15 @@ fn wide(byte: u8) -> usize
 pub fn file_bytes(head: &[u8]) -> usize
     ensures { λ r. ⌜ r ≡ fileBytes (now (head .entry)) ⌝ }
 {
-    if head.len() < HEAD_BYTES {
+    if head.len() < Edition::OPENING_BYTES {
         return head.len();
     }
     let mut said = wide(head[1]);
     said = said * 256 + wide(head[2]);
     said = said * 256 + wide(head[3]);
     said = said * 256 + wide(head[4]);
-    if said < Edition::LARGEST_FILE - HEAD_BYTES {
-        HEAD_BYTES + said
+    if said < Edition::LARGEST_FILE - Edition::OPENING_BYTES {
+        Edition::OPENING_BYTES + said
     } else {
         Edition::LARGEST_FILE
     }

@@ -5,7 +5,6 @@ mod opening;
 mod turns;
 
 use dispatch::Run;
-pub use file::HEAD_BYTES;
 pub use file::file_bytes;
 use lines::Printed;
 pub use opening::open;

@@ -4,7 +4,7 @@ use mathlib.Core.List.{List}
 use Prim.Native.Nat.{ℕ, _+_}
 use lib.Dec.{leb, ltb, eqb}
 use lib.ListN.{length, getD, take, drop}
-use Rattle.plan.specs.Edition.{jobLength}
+use Rattle.plan.specs.Edition.{versionByte, jobLength}
 use Rattle.plan.specs.Refusal.{wrongVersion, wrongExtent, wrongRecordLength, wrongRates, wrongJobCount, wrongNameByte, nameTaken, wrongGrade, wrongJobBounds}
 use Rattle.plan.specs.Rules.{ratesAllowed, nameAllowed, isAbsent, gradeAllowed, windowAllowed, sizeAllowed}
 use Rattle.plan.specs.declared.kinds.Job.{Job}
@@ -55,7 +55,7 @@ checked w ok number = do
 
 -- The version byte: no first byte, or another one, is refused alike.
 unfoldable pub version : Reading ℕ
-version file at = cond (ltb at (length file) && eqb (getD file at 0) 1) (got 1 (at + 1)) (no wrongVersion)
+version file at = cond (ltb at (length file) && eqb (getD file at 0) versionByte) (got versionByte (at + 1)) (no wrongVersion)
 
 -- How many bytes follow: refused at once where this is not so.
 unfoldable pub extent : Reading ℕ

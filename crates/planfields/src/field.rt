@@ -1,4 +1,5 @@
 // Reading one field. Every byte of a plan file but the first is read here.
+use plan::edition::Edition;
 use plan::refusal::WRONG_EXTENT;
 use plan::refusal::WRONG_RECORD_LENGTH;
 ghost use mathlib.Core.Path.{_≡_};
@@ -70,7 +71,7 @@ pub fn read_named(file: &[u8], at: usize, length: u64) -> Field
     if says != length {
         return Field::Refused(WRONG_RECORD_LENGTH);
     }
-    read_field(file, next, 8)
+    read_field(file, next, Edition::NAME_BYTES)
 }
 
 // The end of the file, where no bytes may remain.

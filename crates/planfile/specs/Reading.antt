@@ -4,7 +4,7 @@ use mathlib.Core.List.{List, [], _∷_, _++_, map}
 use Prim.Native.Nat.{ℕ, zero, suc, _+_, _*_, _-_}
 use lib.Dec.{leb, ltb, eqb}
 use lib.ListN.{length, take, drop, set, replicate}
-use Rattle.plan.specs.Edition.{mostJobs, mostRows, mostIntervals, places, jobLength, rowLength}
+use Rattle.plan.specs.Edition.{headerBytes, mostJobs, mostRows, mostIntervals, places, jobLength, rowLength}
 use Rattle.plan.specs.Refusal.{tooManyRows, rowWithoutJob, rowWithoutInterval, rowWithoutUnits, rowOutOfOrder, bufferTooShort}
 use Rattle.plan.specs.Rules.{sameName, noJob}
 use Rattle.plan.specs.Boundaries.{intervals}
@@ -114,7 +114,7 @@ reader file table =
 
 -- Where the name of job k stands in a file.
 abbrev pub nameAt : ℕ → ℕ
-nameAt k = 10 + k * (1 + jobLength) + 1
+nameAt k = headerBytes + k * (1 + jobLength) + 1
 
 -- The part that a name lookup shows: the job's eight bytes inside the file, or an empty part.
 abbrev pub shownBy : Step Held → List ℕ → ℕ → List ℕ

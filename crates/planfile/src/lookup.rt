@@ -17,8 +17,6 @@ ghost use Rattle.planfile.specs.Reading.{allRows, readFile};
 ghost use Rattle.planfields.specs.Answers.{passedTold};
 ghost use Rattle.planfile.specs.Answers.{Distinct, onlyPassed, countOf, Shows};
 
-const NAME_BYTES: usize = 8;
-
 // Checks a count of rows as the reader does, and stores nothing.
 fn check_rows(file: &[u8], at: usize, rows: usize, names: &[u64], spans: usize) -> Passed
     requires { ⌜ Distinct (now names) × (length (now names) ≤ mostJobs) × (spans ≤ mostIntervals) ⌝ }
@@ -73,6 +71,6 @@ pub fn name_of(file: &[u8], position: usize) -> &[u8]
         return &file[0..0];
     }
     let from = Edition::HEADER_BYTES + position * (1 + Edition::JOB_LENGTH) + 1;
-    let to = from + NAME_BYTES;
+    let to = from + Edition::NAME_BYTES;
     &file[from..to]
 }

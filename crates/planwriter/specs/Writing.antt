@@ -4,7 +4,7 @@ use mathlib.Core.List.{List, [], _∷_, _++_}
 use Prim.Native.Nat.{ℕ, zero, suc, _/_, _%_}
 use lib.Dec.{ltb, eqb}
 use lib.ListN.{length, getD, take, drop}
-use Rattle.plan.specs.Edition.{mostIntervals, places, jobLength, rowLength}
+use Rattle.plan.specs.Edition.{versionByte, nameBytes, mostIntervals, places, jobLength, rowLength}
 use Rattle.plan.specs.Refusal.{unsound, bufferTooShort}
 use Rattle.plan.specs.Rules.{counted, names, jobOf}
 use Rattle.plan.specs.Table.{sound}
@@ -15,7 +15,7 @@ use Rattle.planfields.specs.Bytes.{bytes}
 -- The bytes of a job.
 abbrev pub jobBytes : Job → List ℕ
 jobBytes j =
-    bytes 1 jobLength ++ bytes 8 (j .name .0) ++ bytes 1 (j .grade) ++ bytes 4 (j .release .0) ++ bytes 4 (j .size .0)
+    bytes 1 jobLength ++ bytes nameBytes (j .name .0) ++ bytes 1 (j .grade) ++ bytes 4 (j .release .0) ++ bytes 4 (j .size .0)
     ++ bytes 4 (j .deadline .0)
 
 -- The bytes of the first n jobs.
@@ -25,7 +25,7 @@ jobsBytes p (suc n) = jobsBytes p n ++ jobBytes (jobOf p n)
 
 -- The bytes of a row: the job's name, the interval and the units.
 abbrev pub rowBytes : ℕ → ℕ → ℕ → List ℕ
-rowBytes name interval units = bytes 1 rowLength ++ bytes 8 name ++ bytes 2 interval ++ bytes 4 units
+rowBytes name interval units = bytes 1 rowLength ++ bytes nameBytes name ++ bytes 2 interval ++ bytes 4 units
 
 -- The bytes of what stands at place q of jobs with these names: a zero allotment has no row.
 abbrev pub rowAt : ℕ → List ℕ → ℕ → ℕ → List ℕ
@@ -49,7 +49,7 @@ body p table =
 
 -- The file of a plan and its table's own places.
 unfoldable pub written : Plan → List ℕ → List ℕ
-written p table = bytes 1 1 ++ bytes 4 (length (body p table)) ++ body p table
+written p table = bytes 1 versionByte ++ bytes 4 (length (body p table)) ++ body p table
 
 -- What the writer answers: the file's length, or a refusal number.
 pub data Answer : Type 0 where

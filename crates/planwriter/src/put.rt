@@ -33,7 +33,7 @@ pub(crate) fn put_job(out: &mut [u8], at: usize, job: Job) -> usize
     let size = job.size;
     let deadline = job.deadline;
     let after_length = put(out, at, 1, Edition::JOB_LENGTH as u64);
-    let after_name = put(out, after_length, 8, name.0);
+    let after_name = put(out, after_length, Edition::NAME_BYTES, name.0);
     let after_grade = put(out, after_name, 1, job.grade as u64);
     let after_release = put(out, after_grade, 4, release.0 as u64);
     let after_size = put(out, after_release, 4, size.0);
@@ -45,7 +45,7 @@ fn put_row(out: &mut [u8], at: usize, name: u64, interval: usize, units: u32) ->
     ensures { λ r. ⌜ (r ≡ at + (1 + rowLength)) × (now (out .exit) ≡ sets (now (out .entry)) at (rowBytes name interval units)) ⌝ }
 {
     let after_length = put(out, at, 1, Edition::ROW_LENGTH as u64);
-    let after_name = put(out, after_length, 8, name);
+    let after_name = put(out, after_length, Edition::NAME_BYTES, name);
     let after_interval = put(out, after_name, 2, interval as u64);
     put(out, after_interval, 4, units as u64)
 }

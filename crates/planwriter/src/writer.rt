@@ -19,10 +19,8 @@ ghost use Rattle.plan.specs.Rules.{size};
 ghost use Rattle.planwriter.specs.Writing.{jobsBytes, rowsBytes, rowCount, body, written};
 ghost use Rattle.planwriter.specs.Answers.{Writable, Writes};
 
-// The version byte and the length field; then both rates and the job count.
-const OPENING_BYTES: usize = 5;
-
-const BODY_HEAD_BYTES: usize = Edition::HEADER_BYTES - OPENING_BYTES;
+// Both rates and the job count.
+const BODY_HEAD_BYTES: usize = Edition::HEADER_BYTES - Edition::OPENING_BYTES;
 
 // The file's length, or the refusal.
 pub enum Written {
@@ -118,7 +116,7 @@ pub fn write(p: Plan, table: &[u32], out: &mut [u8]) -> Written
         + jobs
         + Edition::ROW_COUNT_BYTES
         + rows * (1 + Edition::ROW_LENGTH);
-    let length = OPENING_BYTES + follows;
+    let length = Edition::OPENING_BYTES + follows;
     if out.len() < length {
         return Written::Refused(BUFFER_TOO_SHORT);
     }

@@ -4,7 +4,6 @@ use libc::STDIN_FILENO;
 use libc::STDOUT_FILENO;
 use lines::LONGEST_LINE;
 use lines::Printed;
-use night::HEAD_BYTES;
 use night::Night;
 use night::advance;
 use night::file_bytes;
@@ -41,7 +40,7 @@ fn read_file(file: &mut [u8]) -> usize
     requires { ⌜ length (now file) ≡ largestFile ⌝ }
     ensures { λ r. ⌜ Counts r (now (file .exit)) ⌝ }
 {
-    let first = read_part(file, 0, HEAD_BYTES);
+    let first = read_part(file, 0, Edition::OPENING_BYTES);
     let size = file_bytes(&file[..first]);
     let rest = read_part(file, first, size);
     first + rest
