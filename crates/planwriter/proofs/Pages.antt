@@ -9,11 +9,12 @@ use native.Mathlib.Omega.{arith}
 use borrow.Author.Tests.{eq-eqb, ne-eqb}
 use lib.Dec.{eqb}
 use lib.ListN.{length, getD, take, drop, length-append, take-append-drop}
-use lib.Seq.{sets, take-suc, length-take-le}
+use lib.Seq.{sets, take-suc, take-all, length-take-le}
 use Rattle.plan.specs.Edition.{jobLength, rowLength}
 use Rattle.plan.specs.Rules.{jobOf}
 use Rattle.plan.specs.declared.kinds.Job.{Job}
 use Rattle.plan.specs.declared.kinds.Plan.{Plan}
+use Rattle.plan.proofs.Rising.{by-order}
 use Rattle.planfields.specs.Bytes.{bytes}
 use Rattle.planwriter.specs.Writing.{jobBytes, jobsBytes, rowBytes, rowAt, rowsBytes, rowCount}
 use Rattle.planfields.proofs.Digits.{length-bytes}
@@ -88,6 +89,28 @@ module _ (width : ℕ) (names table : List ℕ) (q : ℕ) (h : q < length table)
       ∙ length-append (rowsBytes width names 0 a) (rowsBytes width names (0 + length a) b) in
       let here = sym (length-append (rowsBytes width names 0 (take q table)) (rowAt width names q (getD table q 0))) ∙ ap length rows-next in
       omega (arith, whole, here)
+
+empty : (l : List ℕ) → length l ≡ 0 → l ≡ []
+empty [] e = refl
+empty (x ∷ l) e = absurd (omega (arith, e))
+
+-- Where the rows of the places passed are no shorter than all rows, they are all; and where they are shorter, a place is left.
+module _ (width : ℕ) (names table : List ℕ) (q : ℕ) where
+  pub rows-all : length (rowsBytes width names 0 table) ≤ length (rowsBytes width names 0 (take q table))
+      → rowsBytes width names 0 (take q table) ≡ rowsBytes width names 0 table
+  rows-all same =
+      let rest = rowsBytes width names (0 + length (take q table)) (drop q table) in
+      let whole : rowsBytes width names 0 table ≡ rowsBytes width names 0 (take q table) ++ rest
+      = ap (rowsBytes width names 0) (sym (take-append-drop q table)) ∙ rows-split width names 0 (take q table) (drop q table) in
+      let none : length rest ≡ 0 = omega (arith, same, ap length whole, length-append (rowsBytes width names 0 (take q table)) rest) in
+      sym (whole ∙ ap (λ l. rowsBytes width names 0 (take q table) ++ l) (empty rest none) ∙ append-nil (rowsBytes width names 0 (take q table)))
+
+  pub rows-left : length (rowsBytes width names 0 (take q table)) < length (rowsBytes width names 0 table) → q < length table
+  rows-left more =
+      by-order q (length table)
+      (λ e. absurd (omega (arith, more, ap (λ l. length (rowsBytes width names 0 l)) (take-all q table (omega arith)))))
+      (λ m. m)
+      (λ m. absurd (omega (arith, more, ap (λ l. length (rowsBytes width names 0 l)) (take-all q table (omega arith)))))
 
 -- The count of rows, the same way.
 pub count-split : (a b : List ℕ) → rowCount (a ++ b) ≡ rowCount a + rowCount b

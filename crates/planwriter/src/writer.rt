@@ -43,13 +43,15 @@ fn put_jobs(out: &mut [u8], at: usize, p: Plan) -> usize
     next
 }
 
-fn put_rows(out: &mut [u8], at: usize, names: &[u64], table: &[u32]) -> usize
-    requires { ⌜ (at + length (rowsBytes mostIntervals (now names) 0 (now table)) ≤ length (now out)) × (length (now table) ≤ mostIntervals * length (now names)) ⌝ }
+// Writes the rows of a table, of which there are so many; behind the last one no place is looked at.
+fn put_rows(out: &mut [u8], at: usize, names: &[u64], table: &[u32], rows: usize) -> usize
+    requires { ⌜ (at + length (rowsBytes mostIntervals (now names) 0 (now table)) ≤ length (now out)) × (length (now table) ≤ mostIntervals * length (now names)) × (rows ≡ rowCount (now table)) ⌝ }
     ensures { λ r. ⌜ now (out .exit) ≡ sets (now (out .entry)) at (rowsBytes mostIntervals (now (names .entry)) 0 (now (table .entry))) ⌝ }
 {
+    let end = at + rows * (1 + Edition::ROW_LENGTH);
     let mut next = at;
     let mut q = 0;
-    while q < table.len() {
+    while next < end {
         next = put_place(out, next, names, q, table[q]);
         q += 1;
     }
@@ -88,7 +90,7 @@ fn put_body(out: &mut [u8], at: usize, p: Plan, table: &[u32], rows: usize) -> u
     let after_jobs = put_jobs(out, after_count, p);
     let after_rows = put(out, after_jobs, 2, rows as u64);
     let names = names_of(p);
-    put_rows(out, after_rows, &names, table)
+    put_rows(out, after_rows, &names, table, rows)
 }
 
 fn put_file(out: &mut [u8], p: Plan, table: &[u32], rows: usize, follows: usize)
