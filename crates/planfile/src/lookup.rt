@@ -63,7 +63,7 @@ fn count_in(file: &[u8]) -> usize
     count
 }
 
-// The eight bytes of a job's name inside the file; an empty part for a refused file or a position not below the job count.
+// A job's name as the eight bytes where it stands in the file; an empty part if the reader would refuse the file or it has no such job.
 pub fn name_of(file: &[u8], position: usize) -> &[u8]
     ensures { λ r. ⌜ Shows (now (file .entry)) position (now r) ⌝ }
 {
