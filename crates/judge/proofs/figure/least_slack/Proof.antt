@@ -34,7 +34,7 @@ mul-time : tie.Need-mul-time Inv-loop μ-loop
 mul-time c = omega (arith, c .before .before .before .before .before .pre .2)
 
 shared-slice-read-time : tie.Need-shared-slice-read-time Inv-loop μ-loop
-shared-slice-read-time c = omega (arith, c .before .before .before .before .before .before .pre .2)
+shared-slice-read-time c = omega (arith, c .before .before .before .before .before .before .pre .2, c .before .loop-test .taken)
 
 slice-aggregate-add-rows : tie.Need-slice-aggregate-add-rows Inv-loop μ-loop
 slice-aggregate-add-rows c = sym (c .before .before .before .loop .inv .1 .room)
@@ -69,17 +69,17 @@ column-taken-in-requires : tie.Need-column-taken-in-requires Inv-loop μ-loop
 column-taken-in-requires c κs = column-fits (ready (c .before .before .before .before .before .before .before .before .before)) (most (c .before .before .before .before .before .before .before .before .before .before .before)) (c .before .before .before .before .before .before .before .loop-test .taken) (summed (c .before .before .before))
 
 add-m : tie.Need-add-m Inv-loop μ-loop
-add-m c = omega (arith, c .before .before .before .before .before .before .before .before .before .before .before .before .before .pre .1, few-intervals (c .before .before .before .before .before .before .before .before .before .before .before .before .before .args .p))
+add-m c = omega (arith, c .before .before .before .before .before .before .before .before .before .before .before .before .before .pre .1, few-intervals (c .before .before .before .before .before .before .before .before .before .before .before .before .before .args .p), c .before .before .before .before .before .before .before .before .loop-test .taken)
 
 loop-less : tie.Need-loop-less Inv-loop μ-loop
-loop-less c = omega arith
+loop-less c = omega (arith, c .before .before .before .before .before .before .before .before .loop-test .taken)
 
 loop-again : tie.Need-loop-again Inv-loop μ-loop
 loop-again c =
     let a = c .before .before .before .before .before .before .before .before .before .before .before .before .before .args in
     let m = c .before .before .before .before .before .before .before .before .before .loop .m in
     let in-time : m ≤ intervals (a .p) = omega (arith, c .before .before .before .before .before .before .before .before .loop-test .taken, c .before .before .before .before .before .before .before .before .before .before .before .before .before .pre .1) in (
-      omega arith,
+      omega (arith, c .before .before .before .before .before .before .before .before .loop-test .taken),
       rw (add-one m) (summed (c .before .before .before .before)),
       tightest-next (a .p) (a .table .now) (c .before .before .before .before .add-rows .last .0) (a .times .now) m (c .before .before .before .before .before .before .before .before .before .before .before .before .before .pre .0) in-time (summed (c .before .before .before .before)) (c .before .before .before .before .add-rows .result) (figure (c .before .before .before .before .before .before .before .before .before .loop .best)) (figure (c .column-taken-in .result)) (due (c .before .before .before .before)) (c .column-taken-in .ensures) (c .before .before .before .before .before .before .before .before .before .loop .inv .2),
     )
@@ -87,7 +87,7 @@ loop-again c =
 returns : tie.Need-returns Inv-loop μ-loop
 returns c =
     let a = c .before .before .before .before .before .args in
-    tightest-end (a .p) (a .table .now) (c .before .loop .m) (figure (c .before .loop .best)) (omega (arith, c .before .before .before .before .before .pre .1)) (c .before .loop .inv .2)
+    tightest-end (a .p) (a .table .now) (c .before .loop .m) (figure (c .before .loop .best)) (omega (arith, c .before .before .before .before .before .pre .1, c .loop-test .left, c .before .loop .inv .0)) (c .before .loop .inv .2)
 
 pub least-slack-spec : {M : Type 1} → statement M
 least-slack-spec =

@@ -34,7 +34,7 @@ mul-time : tie.Need-mul-time Inv-loop μ-loop
 mul-time c = omega (arith, c .before .before .before .before .before .pre .2)
 
 shared-slice-read-time : tie.Need-shared-slice-read-time Inv-loop μ-loop
-shared-slice-read-time c = omega (arith, c .before .before .before .before .before .before .pre .2)
+shared-slice-read-time c = omega (arith, c .before .before .before .before .before .before .pre .2, c .before .loop-test .taken)
 
 slice-aggregate-add-rows : tie.Need-slice-aggregate-add-rows Inv-loop μ-loop
 slice-aggregate-add-rows c = sym (c .before .before .before .loop .inv .1 .room)
@@ -72,17 +72,17 @@ pick-requires : tie.Need-pick-requires Inv-loop μ-loop
 pick-requires c κs = search needs
 
 add-m : tie.Need-add-m Inv-loop μ-loop
-add-m c = omega (arith, c .before .before .before .before .before .before .before .before .before .before .before .before .before .before .pre .1, few-intervals (c .before .before .before .before .before .before .before .before .before .before .before .before .before .before .args .p))
+add-m c = omega (arith, c .before .before .before .before .before .before .before .before .before .before .before .before .before .before .pre .1, few-intervals (c .before .before .before .before .before .before .before .before .before .before .before .before .before .before .args .p), c .before .before .before .before .before .before .before .before .before .loop-test .taken)
 
 loop-less : tie.Need-loop-less Inv-loop μ-loop
-loop-less c = omega arith
+loop-less c = omega (arith, c .before .before .before .before .before .before .before .before .before .loop-test .taken)
 
 loop-again : tie.Need-loop-again Inv-loop μ-loop
 loop-again c =
     let a = c .before .before .before .before .before .before .before .before .before .before .before .before .before .before .args in
     let m = c .before .before .before .before .before .before .before .before .before .before .loop .m in
     let in-time : m ≤ intervals (a .p) = omega (arith, c .before .before .before .before .before .before .before .before .before .loop-test .taken, c .before .before .before .before .before .before .before .before .before .before .before .before .before .before .pre .1) in (
-      omega arith,
+      omega (arith, c .before .before .before .before .before .before .before .before .before .loop-test .taken),
       rw (add-one m) (summed (c .before .before .before .before .before)),
       lowest-next (a .p) (a .table .now) (c .before .before .before .before .before .add-rows .last .0) (a .times .now) m (c .before .before .before .before .before .before .before .before .before .before .loop .low) (c .before .before .before .before .before .before .before .before .before .before .loop .until) (c .before .lowered .result) (c .pick .result) (c .before .before .before .before .before .add-rows .result) (c .before .before .before .before .before .before .before .before .before .before .before .before .before .before .pre .0) in-time (summed (c .before .before .before .before .before) .columns) (due (c .before .before .before .before .before)) (c .before .lowered .ensures) (c .pick .ensures) (c .before .before .before .before .before .before .before .before .before .before .loop .inv .2),
     )
@@ -91,7 +91,7 @@ loop-again c =
 whole : (c : tie.After-loop Inv-loop μ-loop) → Lowest (c .before .before .before .before .before .args .p) (c .before .before .before .before .before .args .table .now) (suc (intervals (c .before .before .before .before .before .args .p))) (c .before .loop .low) (c .before .loop .until)
 whole c =
     let a = c .before .before .before .before .before .args in
-    let end : c .before .loop .m ≡ suc (intervals (a .p)) = omega (arith, c .before .before .before .before .before .pre .1) in
+    let end : c .before .loop .m ≡ suc (intervals (a .p)) = omega (arith, c .before .before .before .before .before .pre .1, c .loop-test .left, c .before .loop .inv .0) in
     subst (λ n. Lowest (a .p) (a .table .now) n (c .before .loop .low) (c .before .loop .until)) end (c .before .loop .inv .2)
 
 found-at-requires : tie.Need-found-at-requires Inv-loop μ-loop

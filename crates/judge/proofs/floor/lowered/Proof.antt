@@ -40,23 +40,23 @@ loop-holds c =
     (omega arith, sym (let e : c .before .before .before .before .args .m - c .before .before .before .before .args .m ≡ 0 = omega arith in ap (sum _) e ∙ sum-start _), omega arith, lowest-end _ _ _)
 
 sub-l : tie.Need-sub-l Inv-loop μ-loop
-sub-l c = omega arith
+sub-l c = omega (arith, c .loop-test .taken)
 
 mul-t17 : tie.Need-mul-t17 Inv-loop μ-loop
-mul-t17 c = omega arith
+mul-t17 c = omega (arith, c .before .loop .inv .0, c .before .before .before .before .before .before .pre .2)
 
 shared-slice-read-t19 : tie.Need-shared-slice-read-t19 Inv-loop μ-loop
-shared-slice-read-t19 c = omega arith
+shared-slice-read-t19 c = omega (arith, c .before .loop-test .taken, c .before .before .loop .inv .0, c .before .before .before .before .before .before .before .pre .1)
 
 add-t20 : tie.Need-add-t20 Inv-loop μ-loop
 add-t20 c =
-    omega (arith, c .before .before .before .before .before .before .before .before .pre .3 (c .before .before .before .loop .l - 1) (omega arith), mul-le-mul-right {m = c .before .before .before .before .before .before .before .before .args .m - c .before .before .before .loop .l} {n = mostIntervals} (mostJobs * mostAtPlace) (omega arith))
+    omega (arith, c .before .before .before .before .before .before .before .before .pre .3 (c .before .before .before .loop .l - 1) (omega (arith, c .before .before .loop-test .taken, c .before .before .before .loop .inv .0)), mul-le-mul-right {m = c .before .before .before .before .before .before .before .before .args .m - c .before .before .before .loop .l} {n = mostIntervals} (mostJobs * mostAtPlace) (omega (arith, c .before .before .before .before .before .before .before .before .pre .2)), c .before .before .before .loop .inv .2)
 
 mul-carried : tie.Need-mul-carried Inv-loop μ-loop
-mul-carried c = search needs
+mul-carried c = omega (arith, c .before .before .before .loop .inv .0, c .before .before .before .before .before .before .before .before .pre .2)
 
 shared-slice-read-carried : tie.Need-shared-slice-read-carried Inv-loop μ-loop
-shared-slice-read-carried c = search needs
+shared-slice-read-carried c = omega (arith, c .before .before .before .loop-test .taken, c .before .before .before .before .loop .inv .0, c .before .before .before .before .before .before .before .before .before .pre .0)
 
 carried-requires : tie.Need-carried-requires Inv-loop μ-loop
 carried-requires c κs = search needs
@@ -65,7 +65,7 @@ pick-requires : tie.Need-pick-requires Inv-loop μ-loop
 pick-requires c κs = search needs
 
 loop-less : tie.Need-loop-less Inv-loop μ-loop
-loop-less c = search needs
+loop-less c = omega (arith, c .before .before .before .before .before .before .before .loop-test .taken)
 
 loop-again : tie.Need-loop-again Inv-loop μ-loop
 loop-again c =
@@ -73,10 +73,14 @@ loop-again c =
     let l = c .before .before .before .before .before .before .before .before .loop .l in
     let asked = c .before .before .before .before .before .before .before .before .loop .asked .0 in
     let low = c .before .before .before .before .before .before .before .before .loop .low in
-    let turn = column-next (a .d .0) (a .sums .now) (a .times .now) (a .m) (a .other) l asked low (c .pick .result) (omega arith) (omega arith) (c .before .before .before .before .before .before .before .before .loop .inv .1) (c .before .before .before .before .before .before .before .before .loop .inv .3)
+    let turn = column-next (a .d .0) (a .sums .now) (a .times .now) (a .m) (a .other) l asked low (c .pick .result) (c .before .before .before .before .before .before .before .loop-test .taken) (c .before .before .before .before .before .before .before .before .loop .inv .0) (c .before .before .before .before .before .before .before .before .loop .inv .1) (c .before .before .before .before .before .before .before .before .loop .inv .3)
     (c .pick .ensures ∙ ap (λ n. cond (ltb n (asked + getD (a .sums .now) (l - 1) 0)) (l - 1) low) (c .before .before .before .carried .ensures .0)) in
-    let one-more : a .m - (l - 1) ≡ a .m - l + 1 = omega arith in
-    (omega arith, turn .0, omega (arith, c .before .before .before .before .before .before .before .before .before .before .before .before .before .pre .3 (l - 1) (omega arith), ap (λ n. n * (mostJobs * mostAtPlace)) one-more), turn .1)
+    let one-more : a .m - (l - 1) ≡ a .m - l + 1 = omega (arith, c .before .before .before .before .before .before .before .loop-test .taken, c .before .before .before .before .before .before .before .before .loop .inv .0) in (
+      omega (arith, c .before .before .before .before .before .before .before .before .loop .inv .0),
+      turn .0,
+      omega (arith, c .before .before .before .before .before .before .before .before .before .before .before .before .before .pre .3 (l - 1) (omega (arith, c .before .before .before .before .before .before .before .loop-test .taken, c .before .before .before .before .before .before .before .before .loop .inv .0)), ap (λ n. n * (mostJobs * mostAtPlace)) one-more, c .before .before .before .before .before .before .before .before .loop .inv .2),
+      turn .1,
+    )
 
 pick-requires-2 : tie.Need-pick-requires-2 Inv-loop μ-loop
 pick-requires-2 c κs = search needs
@@ -84,7 +88,7 @@ pick-requires-2 c κs = search needs
 returns-2 : tie.Need-returns-2 Inv-loop μ-loop
 returns-2 c =
     let a = c .before .before .before .before .before .before .before .args in
-    let end : c .before .before .loop .l ≡ 0 = omega arith in
+    let end : c .before .before .loop .l ≡ 0 = omega (arith, c .before .loop-test .left) in
     let all : a .m - 0 ≡ a .m = omega arith in
     c .pick2 .ensures ∙ lesser-is (c .before .before .loop .low) (a .other)
     ∙ ap (min (a .other)) (rw (end, all) at (c .before .before .loop .inv .3))

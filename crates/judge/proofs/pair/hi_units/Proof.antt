@@ -34,30 +34,30 @@ element-copy-out-job : tie.Need-element-copy-out-job Inv-loop μ-loop
 element-copy-out-job c = search needs
 
 mul-wanted-sum : tie.Need-mul-wanted-sum Inv-loop μ-loop
-mul-wanted-sum c = omega arith
+mul-wanted-sum c = omega (arith, c .before .before .before .before .loop-test .taken, c .before .before .before .before .before .before .counted-of .ensures)
 
 add-wanted-sum : tie.Need-add-wanted-sum Inv-loop μ-loop
-add-wanted-sum c = omega arith
+add-wanted-sum c = omega (arith, c .before .before .before .before .loop-test .taken, c .before .before .before .before .before .before .counted-of .ensures, c .before .before .before .before .before .before .before .before .pre .0)
 
 wanted-sum-requires : tie.Need-wanted-sum-requires Inv-loop μ-loop
-wanted-sum-requires c κs = omega arith
+wanted-sum-requires c κs = c .before .before .before .before .before .before .before .before .pre .1
 
 add-t22 : tie.Need-add-t22 Inv-loop μ-loop
-add-t22 c = omega (arith, c .before .before .wanted-sum .ensures)
+add-t22 c = omega (arith, c .before .before .wanted-sum .ensures .1, c .before .before .before .before .before .before .before .before .loop .inv .2, c .before .before .before .before .before .before .before .loop-test .taken, c .before .before .before .before .before .before .before .before .before .counted-of .ensures)
 
 add-i : tie.Need-add-i Inv-loop μ-loop
 add-i c = search needs
 
 loop-less : tie.Need-loop-less Inv-loop μ-loop
-loop-less c = search needs
+loop-less c = omega (arith, c .before .before .before .before .before .before .before .loop-test .taken)
 
 loop-again : tie.Need-loop-again Inv-loop μ-loop
 loop-again c =
-    (omega arith, sum-next _ (c .before .before .before .before .before .before .before .before .loop .i) (c .before .before .before .before .before .before .before .before .loop .inv .1) (c .before .before .wanted-sum .ensures .0), omega (arith, c .before .before .wanted-sum .ensures .1))
+    (omega (arith, c .before .before .before .before .before .before .before .loop-test .taken), sum-next _ (c .before .before .before .before .before .before .before .before .loop .i) (c .before .before .before .before .before .before .before .before .loop .inv .1) (c .before .before .wanted-sum .ensures .0), omega (arith, c .before .before .wanted-sum .ensures .1, c .before .before .before .before .before .before .before .before .loop .inv .2))
 
 returns : tie.Need-returns Inv-loop μ-loop
 returns c =
-    let end : c .before .loop .i ≡ counted (c .before .before .before .before .args .t1) = omega arith in
+    let end : c .before .loop .i ≡ counted (c .before .before .before .before .args .t1) = omega (arith, c .loop-test .left, c .before .loop .inv .0, c .before .before .counted-of .ensures) in
     (c .before .loop .inv .1 ∙ ap (sum _) end, rw end at (c .before .loop .inv .2))
 
 pub hi-units-spec : {M : Type 1} → statement M

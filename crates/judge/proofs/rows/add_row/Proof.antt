@@ -29,7 +29,7 @@ mul-sums : tie.Need-mul-sums Inv-loop μ-loop
 mul-sums c = omega (arith, c .before .loop .inv .1 .long)
 
 slice-read-sums : tie.Need-slice-read-sums Inv-loop μ-loop
-slice-read-sums c = omega (arith, c .before .before .loop .inv .1 .long)
+slice-read-sums c = omega (arith, c .before .before .loop .inv .1 .long, c .before .loop-test .taken, c .before .before .before .before .pre .0)
 
 add-sums : tie.Need-add-sums Inv-loop μ-loop
 add-sums c = omega arith
@@ -38,30 +38,30 @@ mul-sums-2 : tie.Need-mul-sums-2 Inv-loop μ-loop
 mul-sums-2 c = omega arith
 
 shared-slice-read-sums : tie.Need-shared-slice-read-sums Inv-loop μ-loop
-shared-slice-read-sums c = omega arith
+shared-slice-read-sums c = omega (arith, c .before .before .loop-test .taken, c .before .before .before .before .before .pre .1)
 
 cast-sums : tie.Need-cast-sums Inv-loop μ-loop
 cast-sums c = omega (arith, c .shared-slice-known .given (c .before .before .before .before .before .args .start + c .before .before .before .loop .j))
 
 add-sums-2 : tie.Need-add-sums-2 Inv-loop μ-loop
 add-sums-2 c =
-    omega (arith, c .before .shared-slice-known .given (c .before .before .before .before .before .before .args .start + c .before .before .before .before .loop .j), c .before .before .before .before .loop .inv .1 .rest (c .before .before .before .before .loop .j) (omega arith), c .before .before .before .before .before .before .pre .2 (c .before .before .before .before .loop .j) (omega arith))
+    omega (arith, c .before .shared-slice-known .given (c .before .before .before .before .before .before .args .start + c .before .before .before .before .loop .j), c .before .before .before .before .loop .inv .1 .rest (c .before .before .before .before .loop .j) (omega arith), c .before .before .before .before .before .before .pre .2 (c .before .before .before .before .loop .j) (c .before .before .before .loop-test .taken))
 
 mul-sums-3 : tie.Need-mul-sums-3 Inv-loop μ-loop
 mul-sums-3 c = omega (arith, c .before .before .before .before .loop .inv .1 .long)
 
 slice-write-sums : tie.Need-slice-write-sums Inv-loop μ-loop
-slice-write-sums c = omega (arith, c .before .before .before .before .loop .inv .1 .long)
+slice-write-sums c = omega (arith, c .before .before .before .before .loop .inv .1 .long, c .before .before .before .loop-test .taken, c .before .before .before .before .before .before .pre .0)
 
 add-j : tie.Need-add-j Inv-loop μ-loop
 add-j c = search needs
 
 loop-less : tie.Need-loop-less Inv-loop μ-loop
-loop-less c = search needs
+loop-less c = omega (arith, c .before .before .before .loop-test .taken)
 
 loop-again : tie.Need-loop-again Inv-loop μ-loop
 loop-again c =
-    (omega arith, added-next _ _ _ (c .before .before .before .before .loop .j) _ (omega (arith, c .before .before .before .before .loop .inv .1 .long)) (c .before .before .before .before .loop .inv .1) refl)
+    (omega (arith, c .before .before .before .loop-test .taken), added-next _ _ _ (c .before .before .before .before .loop .j) _ (omega (arith, c .before .before .before .before .loop .inv .1 .long, c .before .before .before .loop-test .taken, c .before .before .before .before .before .before .pre .0)) (c .before .before .before .before .loop .inv .1) refl)
 
 same-length : tie.Need-same-length Inv-loop μ-loop
 same-length c = c .before .loop .inv .1 .long
@@ -70,7 +70,7 @@ returns-2 : tie.Need-returns-2 Inv-loop μ-loop
 returns-2 c =
     let a = c .before .before .before .args in (
       c .before .loop .inv .1 .long,
-      λ j l. c .before .loop .inv .1 .done j (omega arith) ∙ sym (ap (λ b. getD (a .sums .now) j 0 + on b (getD (a .table .now) (a .start + j) 0)) (not-false (a .wanted) (c .before .before .if1 .left))),
+      λ j l. c .before .loop .inv .1 .done j (omega (arith, c .loop-test .left)) ∙ sym (ap (λ b. getD (a .sums .now) j 0 + on b (getD (a .table .now) (a .start + j) 0)) (not-false (a .wanted) (c .before .before .if1 .left))),
     )
 
 pub add-row-spec : {M : Type 1} → statement M

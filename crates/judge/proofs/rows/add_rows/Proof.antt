@@ -45,39 +45,41 @@ loop-holds c =
     (omega arith, refl, λ j l. sym (ap (λ s. getD (c .before .before .before .before .before .args .sums .now) j 0 + s) (sum-start _) ∙ add-zero _))
 
 mul-wanted : tie.Need-mul-wanted Inv-loop μ-loop
-mul-wanted c = omega arith
+mul-wanted c = omega (arith, c .loop-test .taken, c .before .before .before .before .before .before .before .pre .1)
 
 shared-slice-read-wanted : tie.Need-shared-slice-read-wanted Inv-loop μ-loop
-shared-slice-read-wanted c = omega arith
+shared-slice-read-wanted c = c .before .loop-test .taken
 
 mul-add-row : tie.Need-mul-add-row Inv-loop μ-loop
-mul-add-row c = omega arith
+mul-add-row c = omega (arith, c .before .before .loop-test .taken, c .before .before .before .before .before .before .before .before .before .pre .1)
 
 add-row-requires : tie.Need-add-row-requires Inv-loop μ-loop
 add-row-requires c κs =
     let a = c .before .before .before .before .before .before .before .before .before .args in
     let i = c .before .before .before .loop .i in (
-      omega (arith, c .before .before .before .loop .inv .1),
-      omega (arith, c .before .before .before .before .before .before .before .before .before .pre),
+      omega (arith, c .before .before .before .loop .inv .1, c .before .before .before .before .before .before .before .before .before .pre .0),
+      omega (arith, c .before .before .loop-test .taken, c .before .before .before .before .before .before .before .before .before .pre .1, c .before .before .before .before .before .before .before .before .before .pre .2, c .before .before .before .before .before .before .before .before .before .pre .3),
       λ j l. omega (
         arith,
         c .before .before .before .loop .inv .2 j l,
         c .before .before .before .before .before .before .before .before .before .pre .4 j l,
+        c .before .before .loop-test .taken,
+        c .before .before .before .before .before .before .before .before .before .pre .1,
         sum-bound (dueOf (a .table .now) (a .deadlines .now) (a .time) j) mostAtPlace i
             (λ k b. on-at-most (eqb (getD (a .deadlines .now) k 0) (a .time)) (units (a .table .now) k j) mostAtPlace (omega (arith, c .before .before .before .before .before .before .before .shared-slice-known .given (mostIntervals * k + j)))),
       ),
     )
 
 add-i : tie.Need-add-i Inv-loop μ-loop
-add-i c = omega arith
+add-i c = omega (arith, c .before .before .before .before .before .loop-test .taken, c .before .before .before .before .before .before .before .before .before .before .before .before .pre .1)
 
 loop-less : tie.Need-loop-less Inv-loop μ-loop
-loop-less c = omega arith
+loop-less c = omega (arith, c .before .before .before .before .before .loop-test .taken)
 
 loop-again : tie.Need-loop-again Inv-loop μ-loop
 loop-again c =
     let a = c .before .before .before .before .before .before .before .before .before .before .before .before .args in (
-      omega arith,
+      omega (arith, c .before .before .before .before .before .loop-test .taken),
       c .before .before .add-row .ensures .0 ∙ c .before .before .before .before .before .before .loop .inv .1,
       λ j l. omega (arith, c .before .before .add-row .ensures .1 j l, c .before .before .before .before .before .before .loop .inv .2 j l, sum-step (dueOf (a .table .now) (a .deadlines .now) (a .time) j) (c .before .before .before .before .before .before .loop .i)),
     )
@@ -88,7 +90,7 @@ same-length c = c .before .loop .inv .1
 returns-2 : tie.Need-returns-2 Inv-loop μ-loop
 returns-2 c =
     let a = c .before .before .before .before .before .before .before .args in
-    let end : c .before .loop .i ≡ length (a .deadlines .now) = omega arith in (
+    let end : c .before .loop .i ≡ length (a .deadlines .now) = omega (arith, c .loop-test .left, c .before .loop .inv .0) in (
       sym (not-false _ (c .before .before .if1 .left)) ∙ c .before .before .before .is-due .ensures,
       c .before .loop .inv .1,
       λ j l. c .before .loop .inv .2 j l ∙ ap (λ n. getD (a .sums .now) j 0 + sum (dueOf (a .table .now) (a .deadlines .now) (a .time) j) n) end,

@@ -45,20 +45,20 @@ add-i : tie.Need-add-i Inv-loop μ-loop
 add-i c = search needs
 
 loop-less : tie.Need-loop-less Inv-loop μ-loop
-loop-less c = search needs
+loop-less c = omega (arith, c .before .before .before .before .loop-test .taken)
 
 loop-again : tie.Need-loop-again Inv-loop μ-loop
 loop-again c =
     let p = c .before .before .before .before .before .before .before .args .t1 in
     let i = c .before .before .before .before .before .loop .i in (
-      omega arith,
+      omega (arith, c .before .before .before .before .loop-test .taken),
       length-set (c .before .before .before .before .before .loop .row) i _ ∙ c .before .before .before .before .before .loop .inv .1,
-      stands-next (hiDeadline p) (c .before .before .before .before .before .loop .row) i _ (omega (arith, c .before .before .before .before .before .loop .inv .1)) (c .before .before .before .before .before .loop .inv .2)
+      stands-next (hiDeadline p) (c .before .before .before .before .before .loop .row) i _ (omega (arith, c .before .before .before .before .before .loop .inv .1, c .before .before .before .before .loop-test .taken)) (c .before .before .before .before .before .loop .inv .2)
           (c .deadline-if .ensures ∙ ap (λ n. cond (ltb i n && isHi p i) (deadline p i) never) (c .before .before .before .before .before .before .counted-of .ensures)),
     )
 
 returns : tie.Need-returns Inv-loop μ-loop
-returns c = (c .before .loop .inv .1, λ k l. c .before .loop .inv .2 k (omega arith))
+returns c = (c .before .loop .inv .1, λ k l. c .before .loop .inv .2 k (omega (arith, c .loop-test .left)))
 
 pub hi-deadlines-of-spec : {M : Type 1} → statement M
 hi-deadlines-of-spec =

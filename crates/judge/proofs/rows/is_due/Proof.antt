@@ -31,14 +31,14 @@ add-i : tie.Need-add-i Inv-loop μ-loop
 add-i c = search needs
 
 loop-less : tie.Need-loop-less Inv-loop μ-loop
-loop-less c = search needs
+loop-less c = omega (arith, c .before .loop-test .taken)
 
 loop-again : tie.Need-loop-again Inv-loop μ-loop
-loop-again c = (omega arith, every-next _ (c .before .before .loop .i) (c .before .before .loop .inv .1) refl)
+loop-again c = (omega (arith, c .before .loop-test .taken), every-next _ (c .before .before .loop .i) (c .before .before .loop .inv .1) refl)
 
 returns : tie.Need-returns Inv-loop μ-loop
 returns c =
-    let end : c .before .loop .i ≡ length (c .before .before .args .deadlines .now) = omega arith in
+    let end : c .before .loop .i ≡ length (c .before .before .args .deadlines .now) = omega (arith, c .loop-test .left, c .before .loop .inv .0) in
     ap not (c .before .loop .inv .1 ∙ ap (every _) end)
 
 pub is-due-spec : {M : Type 1} → statement M

@@ -29,7 +29,7 @@ mul-is-over : tie.Need-mul-is-over Inv-loop μ-loop
 mul-is-over c = search needs
 
 shared-slice-read-is-over : tie.Need-shared-slice-read-is-over Inv-loop μ-loop
-shared-slice-read-is-over c = search needs
+shared-slice-read-is-over c = omega (arith, c .before .loop-test .taken, c .before .before .before .before .before .pre .1)
 
 add-is-over : tie.Need-add-is-over Inv-loop μ-loop
 add-is-over c = search needs
@@ -38,32 +38,32 @@ mul-is-over-2 : tie.Need-mul-is-over-2 Inv-loop μ-loop
 mul-is-over-2 c = search needs
 
 shared-slice-read-is-over-2 : tie.Need-shared-slice-read-is-over-2 Inv-loop μ-loop
-shared-slice-read-is-over-2 c = search needs
+shared-slice-read-is-over-2 c = omega (arith, c .before .before .loop-test .taken, c .before .before .before .before .before .before .pre .1)
 
 is-over-requires : tie.Need-is-over-requires Inv-loop μ-loop
 is-over-requires c κs = search needs
 
 returns : tie.Need-returns Inv-loop μ-loop
 returns c =
-    found-here _ _ _ _ _ (c .before .before .before .before .before .loop .inv .1) (omega arith)
+    found-here _ _ _ _ _ (c .before .before .before .before .before .loop .inv .1) (c .before .before .before .before .loop-test .taken)
     (ap (λ b. fault b (overCapacity ∷ c .before .before .before .before .before .loop .j ∷ [])) (sym (rw add-one at (c .before .is-over .ensures)) ∙ c .if1 .taken))
 
 add-j : tie.Need-add-j Inv-loop μ-loop
 add-j c = search needs
 
 loop-less : tie.Need-loop-less Inv-loop μ-loop
-loop-less c = search needs
+loop-less c = omega (arith, c .before .before .before .before .loop-test .taken)
 
 loop-again : tie.Need-loop-again Inv-loop μ-loop
 loop-again c = (
-  omega arith,
+  omega (arith, c .before .before .before .before .loop-test .taken),
   first-next _ (c .before .before .before .before .before .loop .j) (c .before .before .before .before .before .loop .inv .1)
       (ap (λ b. fault b (overCapacity ∷ c .before .before .before .before .before .loop .j ∷ [])) (sym (rw add-one at (c .before .is-over .ensures)) ∙ c .if1 .left)),
 )
 
 returns-2 : tie.Need-returns-2 Inv-loop μ-loop
 returns-2 c =
-    let end : c .before .loop .j ≡ c .before .before .before .before .args .spans = omega arith in
+    let end : c .before .loop .j ≡ c .before .before .before .before .args .spans = omega (arith, c .loop-test .left, c .before .loop .inv .0) in
     sym (rw end at (c .before .loop .inv .1))
 
 pub over-capacity-spec : {M : Type 1} → statement M

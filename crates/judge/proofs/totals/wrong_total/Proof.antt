@@ -63,18 +63,18 @@ summed c =
 returns : tie.Need-returns Inv-loop μ-loop
 unfolding totalFault
 returns c =
-    found-here _ _ _ _ _ (c .before .before .before .before .before .before .before .loop .inv .1) (omega arith)
+    found-here _ _ _ _ _ (c .before .before .before .before .before .before .before .loop .inv .1) (omega (arith, c .before .before .before .before .before .before .loop-test .taken, c .before .before .before .before .before .before .before .before .counted-of .ensures))
     (ap (λ b. fault (not b) (wrongTotal ∷ c .before .before .before .before .before .before .before .loop .i ∷ [])) (ne-eqb _ _ (λ e. c .if1 .taken (summed (c .before .before .before) ∙ e))))
 
 add-i : tie.Need-add-i Inv-loop μ-loop
 add-i c = search needs
 
 loop-less : tie.Need-loop-less Inv-loop μ-loop
-loop-less c = search needs
+loop-less c = omega (arith, c .before .before .before .before .before .before .loop-test .taken)
 
 loop-again : tie.Need-loop-again Inv-loop μ-loop
 loop-again c = (
-  omega arith,
+  omega (arith, c .before .before .before .before .before .before .loop-test .taken),
   first-next _ (c .before .before .before .before .before .before .before .loop .i) (c .before .before .before .before .before .before .before .loop .inv .1)
       (ap (λ b. fault (not b) (wrongTotal ∷ c .before .before .before .before .before .before .before .loop .i ∷ [])) (eq-eqb _ _ (sym (summed (c .before .before .before)) ∙ c .if1 .left))),
 )
@@ -82,7 +82,7 @@ loop-again c = (
 returns-2 : tie.Need-returns-2 Inv-loop μ-loop
 unfolding totalFault
 returns-2 c =
-    let end : c .before .loop .i ≡ counted (c .before .before .before .before .args .t1) = omega arith in
+    let end : c .before .loop .i ≡ counted (c .before .before .before .before .args .t1) = omega (arith, c .loop-test .left, c .before .loop .inv .0, c .before .before .counted-of .ensures) in
     sym (rw end at (c .before .loop .inv .1))
 
 pub wrong-total-spec : {M : Type 1} → statement M

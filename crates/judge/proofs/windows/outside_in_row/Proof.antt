@@ -31,27 +31,27 @@ add-row-inside : tie.Need-add-row-inside Inv-loop μ-loop
 add-row-inside c = search needs
 
 row-inside-requires : tie.Need-row-inside-requires Inv-loop μ-loop
-row-inside-requires c κs = (omega arith, omega arith)
+row-inside-requires c κs = (omega (arith, c .loop-test .taken, c .before .before .before .before .pre .0), omega (arith, c .loop-test .taken, c .before .before .before .before .pre .1))
 
 returns : tie.Need-returns Inv-loop μ-loop
 returns c =
     let a = c .before .before .before .before .before .before .args in
     let j = c .before .before .before .loop .j in
-    found-here _ _ _ _ _ (faults-none _ outsideWindow (λ k. a .i ∷ k ∷ []) j (c .before .before .before .loop .inv .1)) (omega arith)
+    found-here _ _ _ _ _ (faults-none _ outsideWindow (λ k. a .i ∷ k ∷ []) j (c .before .before .before .loop .inv .1)) (c .before .before .loop-test .taken)
     (ap (λ b. fault (not b) (outsideWindow ∷ a .i ∷ j ∷ [])) (last-fails _ j (c .before .before .before .loop .inv .1) (sym (c .before .row-inside .ensures) ∙ not-true _ (c .if1 .taken))))
 
 add-j : tie.Need-add-j Inv-loop μ-loop
 add-j c = search needs
 
 loop-less : tie.Need-loop-less Inv-loop μ-loop
-loop-less c = search needs
+loop-less c = omega (arith, c .before .before .loop-test .taken)
 
 loop-again : tie.Need-loop-again Inv-loop μ-loop
-loop-again c = (omega arith, sym (c .before .row-inside .ensures) ∙ not-false _ (c .if1 .left))
+loop-again c = (omega (arith, c .before .before .loop-test .taken), sym (c .before .row-inside .ensures) ∙ not-false _ (c .if1 .left))
 
 returns-2 : tie.Need-returns-2 Inv-loop μ-loop
 returns-2 c =
-    let end : c .before .loop .j ≡ c .before .before .before .before .args .spans = omega arith in
+    let end : c .before .loop .j ≡ c .before .before .before .before .args .spans = omega (arith, c .loop-test .left, c .before .loop .inv .0) in
     sym (faults-none _ outsideWindow (λ k. c .before .before .before .before .args .i ∷ k ∷ []) (c .before .before .before .before .args .spans) (rw end at (c .before .loop .inv .1)))
 
 pub outside-in-row-spec : {M : Type 1} → statement M

@@ -50,11 +50,11 @@ mul-start c = search needs
 
 row-inside-requires : tie.Need-row-inside-requires Inv-loop μ-loop
 row-inside-requires c κs =
-    (c .before .before .before .before .before .before .before .before .pre .2, omega (arith, boundaries-few (c .before .before .before .before .before .before .before .before .args .t1) (counted (c .before .before .before .before .before .before .before .before .args .t1)), c .before .before .before .before .before .before .before .before .pre))
+    (c .before .before .before .before .before .before .before .before .pre .2, omega (arith, boundaries-few (c .before .before .before .before .before .before .before .before .args .t1) (counted (c .before .before .before .before .before .before .before .before .args .t1)), c .before .before .before .before .before .before .before .before .pre .1, c .before .before .before .before .before .before .before .before .pre .3, c .before .before .before .loop-test .taken, c .before .before .before .before .before .counted-of .ensures))
 
 outside-in-row-requires : tie.Need-outside-in-row-requires Inv-loop μ-loop
 outside-in-row-requires c κs =
-    (c .before .before .before .before .before .before .before .before .before .before .pre .2, omega (arith, boundaries-few (c .before .before .before .before .before .before .before .before .before .before .args .t1) (counted (c .before .before .before .before .before .before .before .before .before .before .args .t1)), c .before .before .before .before .before .before .before .before .before .before .pre))
+    (c .before .before .before .before .before .before .before .before .before .before .pre .2, omega (arith, boundaries-few (c .before .before .before .before .before .before .before .before .before .before .args .t1) (counted (c .before .before .before .before .before .before .before .before .before .before .args .t1)), c .before .before .before .before .before .before .before .before .before .before .pre .1, c .before .before .before .before .before .before .before .before .before .before .pre .3, c .before .before .before .before .before .loop-test .taken, c .before .before .before .before .before .before .before .counted-of .ensures))
 
 returns : tie.Need-returns Inv-loop μ-loop
 unfolding outsideFault
@@ -65,25 +65,25 @@ returns c =
     c .outside-in-row .ensures
     ∙ ap₂ (λ t n. first (λ j. fault (not (within t (release (a .t1) i) (deadline (a .t1) i) j || eqb (units (a .table .now) i j) 0)) (outsideWindow ∷ i ∷ j ∷ [])) n)
     (c .before .before .before .before .before .before .before .before .before .before .before .pre .0) (c .before .before .before .before .before .before .before .before .before .before .before .pre .1)
-    ∙ sym (first-found _ i _ (c .before .before .before .before .before .before .before .loop .inv .1) (omega arith) (row ∙ not-true _ (c .before .if1 .taken)))
+    ∙ sym (first-found _ i _ (c .before .before .before .before .before .before .before .loop .inv .1) (omega (arith, c .before .before .before .before .before .before .loop-test .taken, c .before .before .before .before .before .before .before .before .counted-of .ensures)) (row ∙ not-true _ (c .before .if1 .taken)))
 
 add-i : tie.Need-add-i Inv-loop μ-loop
 add-i c = search needs
 
 loop-less : tie.Need-loop-less Inv-loop μ-loop
-loop-less c = search needs
+loop-less c = omega (arith, c .before .before .before .before .before .loop-test .taken)
 
 loop-again : tie.Need-loop-again Inv-loop μ-loop
 loop-again c =
     let a = c .before .before .before .before .before .before .before .before .before .before .args in
     let i = c .before .before .before .before .before .before .loop .i in
     let row = row-none (a .t1) (a .table .now) (a .times .now) (a .spans) i (c .before .before .before .before .before .before .before .before .before .before .pre .0) (c .before .before .before .before .before .before .before .before .before .before .pre .1) (c .before .row-inside .ensures) in
-    (omega arith, first-next _ i (c .before .before .before .before .before .before .loop .inv .1) (none-empty _ (row ∙ not-false _ (c .if1 .left))))
+    (omega (arith, c .before .before .before .before .before .loop-test .taken), first-next _ i (c .before .before .before .before .before .before .loop .inv .1) (none-empty _ (row ∙ not-false _ (c .if1 .left))))
 
 returns-2 : tie.Need-returns-2 Inv-loop μ-loop
 unfolding outsideFault
 returns-2 c =
-    let end : c .before .loop .i ≡ counted (c .before .before .before .before .before .args .t1) = omega arith in
+    let end : c .before .loop .i ≡ counted (c .before .before .before .before .before .args .t1) = omega (arith, c .loop-test .left, c .before .loop .inv .0, c .before .before .counted-of .ensures) in
     sym (rw end at (c .before .loop .inv .1))
 
 pub outside-window-spec : {M : Type 1} → statement M

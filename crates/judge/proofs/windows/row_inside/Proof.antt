@@ -28,7 +28,7 @@ mul-place-inside : tie.Need-mul-place-inside Inv-loop μ-loop
 mul-place-inside c = search needs
 
 shared-slice-read-place-inside : tie.Need-shared-slice-read-place-inside Inv-loop μ-loop
-shared-slice-read-place-inside c = search needs
+shared-slice-read-place-inside c = omega (arith, c .before .loop-test .taken, c .before .before .before .before .before .pre .0)
 
 add-place-inside : tie.Need-add-place-inside Inv-loop μ-loop
 add-place-inside c = search needs
@@ -37,7 +37,7 @@ mul-place-inside-2 : tie.Need-mul-place-inside-2 Inv-loop μ-loop
 mul-place-inside-2 c = search needs
 
 shared-slice-read-place-inside-2 : tie.Need-shared-slice-read-place-inside-2 Inv-loop μ-loop
-shared-slice-read-place-inside-2 c = search needs
+shared-slice-read-place-inside-2 c = omega (arith, c .before .before .loop-test .taken, c .before .before .before .before .before .before .pre .0)
 
 add-place-inside-2 : tie.Need-add-place-inside-2 Inv-loop μ-loop
 add-place-inside-2 c = search needs
@@ -46,7 +46,7 @@ mul-place-inside-3 : tie.Need-mul-place-inside-3 Inv-loop μ-loop
 mul-place-inside-3 c = search needs
 
 shared-slice-read-place-inside-3 : tie.Need-shared-slice-read-place-inside-3 Inv-loop μ-loop
-shared-slice-read-place-inside-3 c = search needs
+shared-slice-read-place-inside-3 c = omega (arith, c .before .before .before .loop-test .taken, c .before .before .before .before .before .before .before .pre .1)
 
 place-inside-requires : tie.Need-place-inside-requires Inv-loop μ-loop
 place-inside-requires c κs = search needs
@@ -55,15 +55,15 @@ add-j : tie.Need-add-j Inv-loop μ-loop
 add-j c = search needs
 
 loop-less : tie.Need-loop-less Inv-loop μ-loop
-loop-less c = search needs
+loop-less c = omega (arith, c .before .before .before .before .loop-test .taken)
 
 loop-again : tie.Need-loop-again Inv-loop μ-loop
 loop-again c =
-    (omega arith, every-next _ (c .before .before .before .before .before .loop .j) (c .before .before .before .before .before .loop .inv .1) (rw add-one at (c .place-inside .ensures)))
+    (omega (arith, c .before .before .before .before .loop-test .taken), every-next _ (c .before .before .before .before .before .loop .j) (c .before .before .before .before .before .loop .inv .1) (rw add-one at (c .place-inside .ensures)))
 
 returns : tie.Need-returns Inv-loop μ-loop
 returns c =
-    let end : c .before .loop .j ≡ c .before .before .before .before .args .spans = omega arith in
+    let end : c .before .loop .j ≡ c .before .before .before .before .args .spans = omega (arith, c .loop-test .left, c .before .loop .inv .0) in
     c .before .loop .inv .1 ∙ ap (every _) end
 
 pub row-inside-spec : {M : Type 1} → statement M
