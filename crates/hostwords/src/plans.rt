@@ -71,24 +71,19 @@ fn no_job() -> Job
     }
 }
 
-fn no_plan() -> Plan
-    ensures { λ r. ⌜ r ≡ noPlan ⌝ }
-{
-    let jobs = [no_job(); Edition::MOST_JOBS];
-    Plan {
-        n: Rate(0),
-        d: Rate(0),
-        count: 0,
-        jobs,
-    }
-}
-
-// The plan that words mean, where there are enough of them.
-fn whole_plan(words: &[u64]) -> Plan
-    requires { ⌜ planWords ≤ length (now words) ⌝ }
-    ensures { λ r. ⌜ r ≡ planIn (now (words .entry)) ⌝ }
+// The plan that words mean; too few of them mean a plan of zeros.
+pub fn plan_of(words: &[u64]) -> Plan
+    ensures { λ r. ⌜ r ≡ planOf (now (words .entry)) ⌝ }
 {
     let mut jobs = [no_job(); Edition::MOST_JOBS];
+    if words.len() < Sizes::PLAN {
+        return Plan {
+            n: Rate(0),
+            d: Rate(0),
+            count: 0,
+            jobs,
+        };
+    }
     let mut i = 0;
     while i < Edition::MOST_JOBS {
         let job = job_at(words, Sizes::HEAD + Sizes::JOB * i);
@@ -103,16 +98,6 @@ fn whole_plan(words: &[u64]) -> Plan
         count: words[2] as usize,
         jobs,
     }
-}
-
-// The plan that words mean; too few of them mean a plan of zeros.
-pub fn plan_of(words: &[u64]) -> Plan
-    ensures { λ r. ⌜ r ≡ planOf (now (words .entry)) ⌝ }
-{
-    if words.len() < Sizes::PLAN {
-        return no_plan();
-    }
-    whole_plan(words)
 }
 
 // Puts a job's words at a place.
