@@ -4,7 +4,7 @@ use mathlib.Core.List.{List, [], _∷_, _++_}
 use Prim.Native.Nat.{ℕ, zero, suc, _+_, _*_, min}
 use lib.Dec.{ltb}
 use lib.ListN.{length, getD, take, drop, replicate}
-use Rattle.plan.specs.Edition.{mostJobs, mostRows, places, jobLength, rowLength}
+use Rattle.plan.specs.Edition.{mostJobs, mostRows, places, headerBytes, jobLength, rowLength}
 use Rattle.plan.specs.Rules.{counted, name}
 use Rattle.plan.specs.declared.kinds.Plan.{Plan}
 use Rattle.planfile.specs.Reading.{Left, reader}
@@ -17,11 +17,11 @@ use Rattle.lines.specs.Lines.{slotHeader, outcomeHeader, strayLine, refusedLine
 
 -- Version and length: what a file's size is read from.
 abbrev pub headBytes : ℕ
-headBytes = 5
+headBytes = 1 + 4
 
 -- The largest plan file.
 abbrev pub largestFile : ℕ
-largestFile = 10 + mostJobs * (1 + jobLength) + 2 + mostRows * (1 + rowLength)
+largestFile = headerBytes + mostJobs * (1 + jobLength) + 2 + mostRows * (1 + rowLength)
 
 -- What the length field says, the highest byte first.
 abbrev pub lengthSaid : List ℕ → ℕ

@@ -4,7 +4,7 @@ use mathlib.Core.List.{List}
 use Prim.Native.Nat.{ℕ, _+_}
 use lib.Dec.{leb, ltb, eqb}
 use lib.ListN.{length, getD, take, drop}
-use Rattle.plan.specs.Edition.{versionByte, jobLength}
+use Rattle.plan.specs.Edition.{versionByte, nameBytes, jobLength}
 use Rattle.plan.specs.Refusal.{wrongVersion, wrongExtent, wrongRecordLength, wrongRates, wrongJobCount, wrongNameByte, nameTaken, wrongGrade, wrongJobBounds}
 use Rattle.plan.specs.Rules.{ratesAllowed, nameAllowed, isAbsent, gradeAllowed, windowAllowed, sizeAllowed}
 use Rattle.plan.specs.declared.kinds.Job.{Job}
@@ -87,7 +87,7 @@ head most = do
 unfoldable pub named : ℕ → Reading ℕ
 named long = do
   checked 1 (λ x. eqb x long) wrongRecordLength
-  field 8
+  field nameBytes
 
 -- The name of a job, behind jobs with the given names.
 unfoldable pub jobName : List ℕ → Reading ℕ

@@ -8,6 +8,7 @@ use lib.IntN.{pos, negsuc}
 use lib.ListN.{replicate}
 use Rattle.sums.specs.Sum.{sum, on}
 use Rattle.plan.specs.Below
+use Rattle.plan.specs.Edition.{nameBytes}
 use Rattle.plan.specs.Refusal.{belowFloorRule, unsound}
 use Rattle.plan.specs.Rules.{counted, size, deadline, isHi, nameAllowed, namesHold, namesDiffer, gradesHold, boundsHold, rulesHold}
 use Rattle.plan.specs.Boundaries.{insert, boundariesTo, come, boundary, intervals, firstRelease}
@@ -175,12 +176,12 @@ abbrev allCapitals : ℕ
 allCapitals = 0x4D49_5252_4F52_2D41
 
 -- Folding case takes plan E's two names for one.
-pub folding-joins : folded 8 capitalMirror ≡ folded 8 smallMirror
+pub folding-joins : folded nameBytes capitalMirror ≡ folded nameBytes smallMirror
 unfolding folded
 folding-joins = refl
 
 -- It finds a job for a row named MIRROR-A.
-pub folding-finds : position (folded 8 capitalMirror ∷ folded 8 smallMirror ∷ []) (folded 8 allCapitals) ≡ 0
+pub folding-finds : position (folded nameBytes capitalMirror ∷ folded nameBytes smallMirror ∷ []) (folded nameBytes allCapitals) ≡ 0
 unfolding folded position
 folding-finds = refl
 
