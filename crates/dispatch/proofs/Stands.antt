@@ -7,15 +7,14 @@ use Prim.Native.Nat.{ℕ, suc}
 use lib.Dec.{ltb, eqb}
 use lib.ListN.{length}
 use Rattle.plan.specs.Edition.{places}
-use Rattle.plan.specs.Refusal.{clockAtEnd, speedAboveNormal, unsound, bufferTooShort}
 use Rattle.plan.specs.Rules.{counted}
 use Rattle.plan.specs.Boundaries.{lastDeadline, present}
 use Rattle.plan.specs.declared.kinds.Plan.{Plan}
-use Rattle.judge.specs.Verdict.{Report, orElse, fault, isNone}
+use Rattle.judge.specs.Verdict.{Report, isNone}
 use Rattle.dispatch.specs.declared.Run.{Run}
 use Rattle.dispatch.specs.declared.soundness.Standing.{Standing}
 use Rattle.dispatch.specs.declared.soundness.Standing.the-variants.{Unsound, Ended, Running}
-use Rattle.dispatch.specs.Step.{Slot, soundAt, slotSound, slotFault, slotBy}
+use Rattle.dispatch.specs.Step.{soundAt, refusedBy, slotSound, slotFault, slotBy}
 use Rattle.dispatch.specs.Standing.{standing, isSound, begun, faultBy}
 
 -- A standing, from whether it is sound and whether it has ended.
@@ -23,8 +22,7 @@ abbrev from : Bool → Bool → ℕ → Standing
 from sound ended spans = cond (not sound) Unsound (cond ended Ended (Running spans))
 
 fault-from : (b e : Bool) (spans : ℕ) (short fast : Bool)
-    → faultBy (from b e spans) short fast
-    ≡ orElse (fault (not b) (unsound ∷ [])) (orElse (fault short (bufferTooShort ∷ [])) (orElse (fault e (clockAtEnd ∷ [])) (fault fast (speedAboveNormal ∷ []))))
+    → faultBy (from b e spans) short fast ≡ refusedBy (not b) short e fast
 fault-from true true spans short fast = refl
 fault-from true false spans short fast = refl
 fault-from false e spans short fast = refl

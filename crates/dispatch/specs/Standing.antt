@@ -1,13 +1,12 @@
 -- How a plan and a run stand for a slot, and what a slot's call is refused by from there. (proofs/Stands: that is the slot's fault.)
 use mathlib.Core.Bool.{Bool, true, false, not, cond}
-use mathlib.Core.List.{List, [], _∷_}
+use mathlib.Core.List.{List}
 use Prim.Native.Nat.{ℕ, suc}
 use lib.Dec.{eqb}
-use Rattle.plan.specs.Refusal.{clockAtEnd, speedAboveNormal, unsound, bufferTooShort}
 use Rattle.plan.specs.Boundaries.{lastDeadline, present}
 use Rattle.plan.specs.declared.kinds.Plan.{Plan}
-use Rattle.judge.specs.Verdict.{Report, orElse, fault}
-use Rattle.dispatch.specs.Step.{soundAt}
+use Rattle.judge.specs.Verdict.{Report}
+use Rattle.dispatch.specs.Step.{soundAt, refusedBy}
 use Rattle.dispatch.specs.declared.soundness.Standing.{Standing}
 use Rattle.dispatch.specs.declared.soundness.Standing.the-variants.{Unsound, Ended, Running}
 
@@ -35,9 +34,6 @@ isEnded Unsound = false
 isEnded Ended = true
 isEnded (Running spans) = false
 
--- What a slot's call is refused by, from its standing, whether a buffer is too short, and whether the speed is above n: 21, 22, 19, 20.
+-- What a slot's call is refused by, from its standing, whether a buffer is too short, and whether the speed is above n.
 abbrev pub faultBy : Standing → Bool → Bool → Report
-faultBy s short fast =
-    orElse (fault (not (isSound s)) (unsound ∷ []))
-    (orElse (fault short (bufferTooShort ∷ []))
-    (orElse (fault (isEnded s) (clockAtEnd ∷ [])) (fault fast (speedAboveNormal ∷ []))))
+faultBy s short fast = refusedBy (not (isSound s)) short (isEnded s) fast

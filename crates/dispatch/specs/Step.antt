@@ -44,13 +44,17 @@ soundAt p t carried =
 unfoldable pub slotSound : Plan → Run → Bool
 slotSound p run = soundAt p (run .clock .0) (run .carried)
 
--- What a slot's call is refused by: 21, 22, 19, 20.
+-- The first of a slot's refusals that applies, in their order: 21, 22, 19, 20.
+abbrev pub refusedBy : Bool → Bool → Bool → Bool → Report
+refusedBy bad short ended fast =
+    orElse (fault bad (unsound ∷ []))
+    (orElse (fault short (bufferTooShort ∷ [])) (orElse (fault ended (clockAtEnd ∷ [])) (fault fast (speedAboveNormal ∷ []))))
+
+-- What a slot's call is refused by.
 unfoldable pub slotFault : Plan → List ℕ → Run → ℕ → List ℕ → Report
 slotFault p table run v grants =
-    orElse (fault (not (slotSound p run)) (unsound ∷ []))
-    (orElse (fault (ltb (length table) places || ltb (length grants) (counted p)) (bufferTooShort ∷ []))
-    (orElse (fault (eqb (run .clock .0) (lastDeadline p)) (clockAtEnd ∷ []))
-    (fault (ltb (p .n .0) v) (speedAboveNormal ∷ []))))
+    refusedBy (not (slotSound p run)) (ltb (length table) places || ltb (length grants) (counted p))
+    (eqb (run .clock .0) (lastDeadline p)) (ltb (p .n .0) v)
 
 -- A slot's grants: zeros for the jobs, each served in turn; places beyond the jobs stay.
 unfoldable pub granted : Plan → List ℕ → Run → ℕ → List ℕ → List ℕ
