@@ -13,8 +13,7 @@ ghost use lib.ListN.{length};
 ghost use lib.Seq.{sets};
 ghost use Rattle.plan.specs.Edition.{mostJobs};
 ghost use Rattle.plan.specs.Rules.{noJob};
-ghost use Rattle.planfile.specs.Reading.{noPlan};
-ghost use Rattle.hostwords.specs.Memory.{headWords, jobWords, planWords, most8, most16, most32, jobAt, planIn, planOf, jobOut, jobsOut, planOut};
+ghost use Rattle.hostwords.specs.Memory.{headWords, jobWords, planWords, most8, most16, most32, jobAt, planOf, jobOut, jobsOut, planOut};
 ghost use Rattle.hostwords.specs.Answers.{PutsPlan};
 
 // A word as a number of 8, 16 or 32 bits: what is beyond means the largest.
