@@ -7,16 +7,16 @@ use Prim.Native.Nat.{ℕ, zero, suc, _+_, _*_, _-_, _≤_, _<_, min}
 use native.Mathlib.Nat.{zero-add, add-zero}
 use native.Mathlib.Decide.{decLt}
 use native.Mathlib.Omega.{arith}
-use borrow.Author.Tests.{lt-ltb, le-ltb, not-true, not-false}
+use borrow.Author.Tests.{lt-ltb, le-ltb, not-true}
 use lib.Dec.{ltb, eqb}
 use lib.ListN.{length, getD, set, length-set}
 use lib.Seq.{getD-set-same, getD-set-other}
 use Rattle.sums.specs.Sum.{sum, on}
 use Rattle.sums.proofs.Laws.{sum-ext, sum-none, sum-split, sum-start, sum-step}
-use Rattle.plan.specs.Below.{every}
 use Rattle.plan.proofs.Below.{every-at}
 use Rattle.plan.proofs.Rising.{by-order}
-use Rattle.judge.specs.Columns.{isDueIn, lowest, asksMore}
+use Rattle.plan.specs.Rules.{isAbsent}
+use Rattle.judge.specs.Columns.{lowest, asksMore}
 
 -- Numbers were added to the first n of a list, and the rest stays.
 pub record Added (old : List ℕ) (add : ℕ → ℕ) (n : ℕ) (new : List ℕ) : Type 0 where
@@ -110,11 +110,12 @@ lesser-is x y = go (decLt x y)
     go (no h) = rw (le-ltb x y (omega arith)) (omega arith)
 
 -- Where a time is none of some deadlines, nothing is due at it.
-pub none-due : (deadlines : List ℕ) (time : ℕ) (f : ℕ → ℕ) → isDueIn deadlines time ≡ false
+pub none-due : (deadlines : List ℕ) (time : ℕ) (f : ℕ → ℕ) → isAbsent deadlines time ≡ true
     → sum (λ i. on (eqb (getD deadlines i 0) time) (f i)) (length deadlines) ≡ 0
+unfolding isAbsent
 none-due deadlines time f h =
     sum-none (λ i. on (eqb (getD deadlines i 0) time) (f i)) (length deadlines)
-    (λ i b. ap (λ t. on t (f i)) (not-true (eqb (getD deadlines i 0) time) (every-at (λ k. not (eqb (getD deadlines k 0) time)) (length deadlines) i (not-false (every (λ k. not (eqb (getD deadlines k 0) time)) (length deadlines)) h) b)))
+    (λ i b. ap (λ t. on t (f i)) (not-true (eqb (getD deadlines i 0) time) (every-at (λ k. not (eqb (getD deadlines k 0) time)) (length deadlines) i h b)))
 
 -- One number more of a row stands as it must.
 pub stands-next : (f : ℕ → ℕ) (row : List ℕ) (n x : ℕ) → n < length row → ((k : ℕ) → k < n → getD row k 0 ≡ f k) → x ≡ f n

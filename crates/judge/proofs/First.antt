@@ -27,6 +27,14 @@ or-some (number ∷ places) b h = refl
 pub or-none : (a b : Report) → a ≡ [] → orElse a b ≡ b
 or-none a b h = ap (λ r. orElse r b) h
 
+pub or-empty : (a b : Report) → orElse a b ≡ [] → a ≡ []
+or-empty [] b h = refl
+or-empty (number ∷ places) b h = h
+
+pub or-assoc : (a b c : Report) → orElse (orElse a b) c ≡ orElse a (orElse b c)
+or-assoc [] b c = refl
+or-assoc (number ∷ places) b c = refl
+
 -- A report that was asked for: it decides where it is one, and else the next does.
 pub stops : (v a b : Report) (t : Bool) → v ≡ a → t ≡ isNone v → not t ≡ true → v ≡ orElse a b
 stops v a b t e n h = e ∙ sym (or-some a b (ap isNone (sym e) ∙ sym n ∙ not-true t h))

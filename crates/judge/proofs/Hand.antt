@@ -1,8 +1,8 @@
 -- What a plan in hand has that is refused neither by 22 nor by 21: a long enough table, rules that hold, and boundaries.
 use mathlib.Core.Path.{_≡_, refl, sym, _∙_, ap₂}
-use mathlib.Core.Bool.{true, not, _&&_}
+use mathlib.Core.Bool.{Bool, true, false, not, _&&_}
 use mathlib.Core.List.{List, [], _∷_, _++_}
-use Prim.Native.Nat.{ℕ, zero, suc, _-_, _≤_}
+use Prim.Native.Nat.{ℕ, zero, suc, _-_, _≤_, _<_}
 use native.Mathlib.Omega.{arith}
 use borrow.Author.Tests.{ltb-false, le-ltb, leb-true, not-false}
 use lib.Dec.{leb, ltb}
@@ -10,13 +10,14 @@ use lib.ListN.{length, getD, take, replicate}
 use Rattle.plan.specs.Edition.{mostJobs, mostBoundaries, mostIntervals, places}
 use Rattle.plan.specs.Refusal.{unsound, bufferTooShort}
 use Rattle.plan.specs.Rules.{counted, countHolds, ratesHold, namesHold, namesDiffer, gradesHold, boundsHold, rulesHold, deadline}
-use Rattle.plan.specs.Boundaries.{insert, boundariesTo, intervals, inRoom}
+use Rattle.plan.specs.Boundaries.{insert, boundariesTo, boundaries, intervals, inRoom}
 use Rattle.plan.specs.Table.{sound, noStray}
 use Rattle.plan.specs.declared.kinds.Plan.{Plan}
-use Rattle.plan.proofs.Rising.{insert-grows, room-take}
+use Rattle.plan.specs.declared.boundaries.Boundaries.{Boundaries}
+use Rattle.plan.proofs.Rising.{insert-grows, boundaries-few, room-take, room-length}
 use Rattle.plan.proofs.Below.{both}
-use Rattle.judge.specs.Verdict.{orElse, fault, isNone, handFault}
-use Rattle.judge.proofs.First.{empty-none, none-or, fault-none}
+use Rattle.judge.specs.Verdict.{orElse, fault, isNone, handFault, constraintFault}
+use Rattle.judge.proofs.First.{empty-none, none-or, or-empty, fault-none}
 
 -- Neither 22 nor 21: the table is long enough, and the plan is sound.
 pub hand-none : (p : Plan) (table : List ℕ) → handFault p table ≡ [] → (places ≤ length table) × (sound p table ≡ true)
@@ -61,9 +62,30 @@ pub boundaries-some : (p : Plan) (n : ℕ) → 1 ≤ n → 1 ≤ length (boundar
 unfolding boundariesTo
 boundaries-some p (suc n) h = insert-some (deadline p n) _
 
--- The boundaries are what the room shows of its first places.
-pub shown : (times : List ℕ) (count : ℕ) (l : List ℕ) → times ≡ inRoom l → count ≡ length l → take count times ≡ l
-shown times count l t e = rw (t, e) (room-take l)
+-- A plan without boundaries is not sound.
+pub unbounded : (p : Plan) (table : List ℕ) → length (boundaries p) ≡ 0 → sound p table ≡ false
+unbounded p table none = go (sound p table) refl
+  where
+    go : (b : Bool) → sound p table ≡ b → b ≡ false
+    go true h = absurd (omega (arith, boundaries-some p (counted p) (rules-count p (sound-rules p table h))))
+    go false h = refl
+
+-- What the constraints and the passes need of a plan in hand.
+pub hand-ready : (p : Plan) (table : List ℕ) → handFault p table ≡ [] → (0 < length (boundaries p)) × (places ≤ length table) × (rulesHold p ≡ true)
+hand-ready p table h =
+    let rules = sound-rules p table (hand-none p table h .1) in
+    (boundaries-some p (counted p) (rules-count p rules), hand-none p table h .0, rules)
+
+pub refused-by-none : (p : Plan) (table : List ℕ) → orElse (handFault p table) (constraintFault p table) ≡ []
+    → (0 < length (boundaries p)) × (places ≤ length table) × (rulesHold p ≡ true)
+refused-by-none p table h = hand-ready p table (or-empty (handFault p table) (constraintFault p table) h)
+
+-- The boundaries are what their room shows of its first places.
+pub in-their-room : (p : Plan) (b : Boundaries) → b ≡ record { times = inRoom (boundaries p); count = length (boundaries p) }
+    → (take (b .count) (b .times) ≡ boundaries p) × (b .count ≤ length (b .times))
+in-their-room p b e =
+    let few : length (boundaries p) ≤ mostBoundaries = omega (arith, boundaries-few p (counted p)) in
+    rw e (room-take (boundaries p), omega (arith, room-length (boundaries p) few))
 
 -- A row of zeros has nothing anywhere.
 pub zeros-at : (n k : ℕ) → getD {A = ℕ} (replicate n 0) k 0 ≡ 0

@@ -15,7 +15,7 @@ use Rattle.sums.proofs.Laws.{sum-ext, sum-add, sum-swap, sum-none, sum-bound}
 use Rattle.plan.specs.Edition.{mostJobs, mostIntervals, mostDeadline, places}
 use Rattle.plan.specs.Refusal.{belowFloorRule}
 use Rattle.plan.specs.Below.{every}
-use Rattle.plan.specs.Rules.{counted, release, size, deadline, isHi, windowAllowed, sizeAllowed, boundsHold, rulesHold}
+use Rattle.plan.specs.Rules.{isAbsent, counted, release, size, deadline, isHi, windowAllowed, sizeAllowed, boundsHold, rulesHold}
 use Rattle.plan.specs.Boundaries.{boundaries, boundary, intervals}
 use Rattle.plan.specs.declared.kinds.Plan.{Plan}
 use Rattle.plan.proofs.Rising.{by-order, boundaries-few}
@@ -23,7 +23,7 @@ use Rattle.plan.proofs.Below.{every-start, every-next, every-ext, every-all, ev
 use Rattle.plan.proofs.Timeline.{deadline-is-boundary, last-boundary}
 use Rattle.judge.specs.Constraints.{mostAtPlace, units, demand}
 use Rattle.judge.specs.Verdict.{Report, fault, isNone, first, isHiDeadline, isPair, fallsShort, floorFault}
-use Rattle.judge.specs.Columns.{never, hiDeadline, isDueIn, asksMore, lowest}
+use Rattle.judge.specs.Columns.{never, hiDeadline, asksMore, lowest}
 use Rattle.judge.proofs.Hand.{zeros-at, rules-count, rules-bounds}
 use Rattle.judge.proofs.First.{none-empty, none-plain, none-first, first-found, found-here}
 use Rattle.judge.proofs.Running.{on-at-most}
@@ -316,8 +316,8 @@ module _ {p : Plan} {table times deadlines : List ℕ} {spans m : ℕ} (ready : 
     λ j b. omega (arith, so .columns j (omega (arith, ready .are-intervals)), column-bound p table m j most),
   )
 
-  pub due-is : {due : Bool} → due ≡ isDueIn deadlines (getD times m 0) → due ≡ isHiDeadline p (boundary p m)
-  unfolding isHiDeadline
+  pub due-is : {due : Bool} → due ≡ not (isAbsent deadlines (getD times m 0)) → due ≡ isHiDeadline p (boundary p m)
+  unfolding isHiDeadline isAbsent
   due-is e =
       e
       ∙ ap not (ap (every _) (ready .all-records)

@@ -1,13 +1,12 @@
 -- What the two passes over the boundaries keep: the floor rule's lowest interval that falls short, and the least slack.
-use mathlib.Core.Bool.{Bool, not, cond, _&&_, _||_}
+use mathlib.Core.Bool.{Bool, cond, _&&_, _||_}
 use mathlib.Core.List.{List}
 use Prim.Native.Nat.{ℕ, zero, suc, _+_, _*_, _-_}
-use lib.Dec.{ltb, eqb}
-use lib.ListN.{length, getD}
+use lib.Dec.{ltb}
+use lib.ListN.{getD}
 use lib.IntN.{ℤ, subℕ}
 use lib.Signed.{ltZ, leZ}
 use Rattle.sums.specs.Sum.{sum}
-use Rattle.plan.specs.Below.{every}
 use Rattle.plan.specs.Rules.{counted, deadline, isHi}
 use Rattle.plan.specs.declared.kinds.Plan.{Plan}
 use Rattle.judge.specs.Slack.{Figure, noneEssential, least, refused}
@@ -19,10 +18,6 @@ never = 4_294_967_295
 -- The deadline of record k, where it is that of a HI job.
 abbrev pub hiDeadline : Plan → ℕ → ℕ
 hiDeadline p k = cond (ltb k (counted p) && isHi p k) (deadline p k) never
-
--- A time is one of a row of deadlines.
-abbrev pub isDueIn : List ℕ → ℕ → Bool
-isDueIn deadlines time = not (every (λ i. not (eqb (getD deadlines i 0) time)) (length deadlines))
 
 -- Rule 18 on column sums: more stands in them from interval l to boundary m than a rate carries.
 abbrev pub asksMore : ℕ → List ℕ → List ℕ → ℕ → ℕ → Bool

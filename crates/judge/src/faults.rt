@@ -13,24 +13,28 @@ ghost use Prim.Native.Nat.{_<_, _≤_};
 ghost use lib.ListN.{length};
 ghost use Rattle.plan.specs.Edition.{places};
 ghost use Rattle.plan.specs.Boundaries.{boundaries, intervals};
-ghost use Rattle.judge.specs.Verdict.{handFault, constraintFault};
+ghost use Rattle.judge.specs.Verdict.{orElse, handFault, constraintFault};
 ghost use Rattle.judge.specs.Answers.{report};
 
-// What is refused before the constraints are looked at: 22, then 21.
-pub(crate) fn in_hand(p: Plan, table: &[u32]) -> Verdict
+// What is refused before the constraints are looked at: 22, then 21. There are so many boundaries.
+fn in_hand(p: Plan, table: &[u32], count: usize) -> Verdict
+    requires { ⌜ count ≡ length (boundaries p) ⌝ }
     ensures { λ r. ⌜ report r ≡ handFault p (now (table .entry)) ⌝ }
 {
     if table.len() < Edition::PLACES {
         return Verdict::BufferTooShort;
     }
-    if !sound_of(p, table) {
+    if count == 0 {
+        return Verdict::Unsound;
+    }
+    if !sound_of(p, table, count - 1) {
         return Verdict::Unsound;
     }
     Verdict::Accepted
 }
 
-// Rules 15 to 17, which judge and slack share.
-pub(crate) fn constraints(p: Plan, table: &[u32], times: &[u32], spans: usize) -> Verdict
+// Rules 15 to 17.
+fn constraints(p: Plan, table: &[u32], times: &[u32], spans: usize) -> Verdict
     requires { ⌜ (now times ≡ boundaries p) × (spans ≡ intervals p) × (spans < length (now times)) × (places ≤ length (now table)) ⌝ }
     ensures { λ r. ⌜ report r ≡ constraintFault p (now (table .entry)) ⌝ }
 {
@@ -43,4 +47,16 @@ pub(crate) fn constraints(p: Plan, table: &[u32], times: &[u32], spans: usize) -
         return wrong;
     }
     over_capacity(p.n, counted_of(p), table, times, spans)
+}
+
+// All that judge and slack refuse alike.
+pub(crate) fn refusal_of(p: Plan, table: &[u32], times: &[u32]) -> Verdict
+    requires { ⌜ now times ≡ boundaries p ⌝ }
+    ensures { λ r. ⌜ report r ≡ orElse (handFault p (now (table .entry))) (constraintFault p (now (table .entry))) ⌝ }
+{
+    let hand = in_hand(p, table, times.len());
+    if !is_accepted(hand) {
+        return hand;
+    }
+    constraints(p, table, times, times.len() - 1)
 }

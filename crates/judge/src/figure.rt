@@ -1,8 +1,7 @@
 // The slack of a pair, and the slack figure of a plan.
 use crate::answers::Slack;
 use crate::answers::is_accepted;
-use crate::faults::constraints;
-use crate::faults::in_hand;
+use crate::faults::refusal_of;
 use crate::pair::demand_of;
 use crate::pair::start_of;
 use crate::rows::add_rows;
@@ -23,8 +22,7 @@ ghost use Rattle.plan.specs.Edition.{mostJobs, mostIntervals, places};
 ghost use Rattle.plan.specs.Rules.{rulesHold};
 ghost use Rattle.plan.specs.Boundaries.{boundaries, intervals};
 ghost use Rattle.judge.specs.Constraints.{mostAtPlace, mostSide};
-ghost use Rattle.judge.specs.Verdict.{constraintFault};
-ghost use Rattle.judge.specs.Slack.{leastSlack, unless};
+ghost use Rattle.judge.specs.Slack.{leastSlack, slackFigure};
 ghost use Rattle.judge.specs.Columns.{sooner, columnTaken};
 ghost use Rattle.judge.specs.Answers.{figure, Measures, MeasuresPair};
 
@@ -107,27 +105,22 @@ fn least_slack(p: Plan, table: &[u32], times: &[u32], spans: usize) -> Slack
     best
 }
 
-// The slack figure of a plan in hand that is sound, with its boundaries.
+// The slack figure of a plan with its boundaries.
 fn slack_at(p: Plan, table: &[u32], times: &[u32]) -> Slack
-    requires { ⌜ (now times ≡ boundaries p) × (0 < length (now times)) × (places ≤ length (now table)) × (rulesHold p ≡ true) ⌝ }
-    ensures { λ r. ⌜ figure r ≡ unless (constraintFault p (now (table .entry))) (leastSlack p (now (table .entry))) ⌝ }
+    requires { ⌜ now times ≡ boundaries p ⌝ }
+    ensures { λ r. ⌜ figure r ≡ slackFigure p (now (table .entry)) ⌝ }
 {
-    let spans = times.len() - 1;
-    let fault = constraints(p, table, times, spans);
-    if !is_accepted(fault) {
-        return Slack::Refused(fault);
+    let refusal = refusal_of(p, table, times);
+    if !is_accepted(refusal) {
+        return Slack::Refused(refusal);
     }
-    least_slack(p, table, times, spans)
+    least_slack(p, table, times, times.len() - 1)
 }
 
 // The slack figure of a plan and its table.
 pub fn slack(p: Plan, table: &[u32]) -> Slack
     ensures { λ r. ⌜ Measures p (now (table .entry)) r ⌝ }
 {
-    let hand = in_hand(p, table);
-    if !is_accepted(hand) {
-        return Slack::Refused(hand);
-    }
     let b = boundaries_of(p);
     let times = b.times;
     let count = b.count;

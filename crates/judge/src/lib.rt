@@ -10,42 +10,31 @@ mod windows;
 
 use crate::answers::Verdict;
 use crate::answers::is_accepted;
-use crate::faults::constraints;
-use crate::faults::in_hand;
+use crate::faults::refusal_of;
 use crate::floor::below_floor;
 use plan::boundaries::boundaries_of;
 use plan::kinds::Plan;
 ghost use mathlib.Core.Path.{_≡_};
-ghost use mathlib.Core.Bool.{true};
-ghost use Prim.Native.Nat.{_<_, _≤_};
-ghost use lib.ListN.{length};
-ghost use Rattle.plan.specs.Edition.{places};
-ghost use Rattle.plan.specs.Rules.{rulesHold};
 ghost use Rattle.plan.specs.Boundaries.{boundaries};
-ghost use Rattle.judge.specs.Verdict.{orElse, constraintFault, floorFault};
+ghost use Rattle.judge.specs.Verdict.{judged};
 ghost use Rattle.judge.specs.Answers.{report, Judges};
 
-// The verdict on a plan in hand that is sound, with its boundaries.
+// The verdict on a plan with its boundaries.
 fn judge_at(p: Plan, table: &[u32], times: &[u32]) -> Verdict
-    requires { ⌜ (now times ≡ boundaries p) × (0 < length (now times)) × (places ≤ length (now table)) × (rulesHold p ≡ true) ⌝ }
-    ensures { λ r. ⌜ report r ≡ orElse (constraintFault p (now (table .entry))) (floorFault p (now (table .entry))) ⌝ }
+    requires { ⌜ now times ≡ boundaries p ⌝ }
+    ensures { λ r. ⌜ report r ≡ judged p (now (table .entry)) ⌝ }
 {
-    let spans = times.len() - 1;
-    let fault = constraints(p, table, times, spans);
-    if !is_accepted(fault) {
-        return fault;
+    let refusal = refusal_of(p, table, times);
+    if !is_accepted(refusal) {
+        return refusal;
     }
-    below_floor(p, table, times, spans)
+    below_floor(p, table, times, times.len() - 1)
 }
 
 // The verdict on a plan and its table.
 pub fn judge(p: Plan, table: &[u32]) -> Verdict
     ensures { λ r. ⌜ Judges p (now (table .entry)) r ⌝ }
 {
-    let hand = in_hand(p, table);
-    if !is_accepted(hand) {
-        return hand;
-    }
     let b = boundaries_of(p);
     let times = b.times;
     let count = b.count;

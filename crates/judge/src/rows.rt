@@ -1,18 +1,20 @@
 // What the passes over the boundaries share: the HI jobs' deadlines in a row, and rows of the table added to column sums.
+use plan::boundaries::is_new;
 use plan::edition::Edition;
 use plan::kinds::HI;
 use plan::kinds::Plan;
 use plan::kinds::Units;
 use plan::rules::counted_of;
 ghost use mathlib.Core.Path.{_≡_};
-ghost use mathlib.Core.Bool.{cond};
+ghost use mathlib.Core.Bool.{not, cond};
 ghost use Prim.Native.Nat.{ℕ, _+_, _*_, _≤_, _<_};
 ghost use lib.Dec.{eqb};
 ghost use lib.ListN.{length, getD};
 ghost use Rattle.sums.specs.Sum.{sum, on};
 ghost use Rattle.plan.specs.Edition.{mostJobs, mostIntervals, places};
+ghost use Rattle.plan.specs.Rules.{isAbsent};
 ghost use Rattle.judge.specs.Constraints.{mostAtPlace, mostSide, units};
-ghost use Rattle.judge.specs.Columns.{never, hiDeadline, isDueIn};
+ghost use Rattle.judge.specs.Columns.{never, hiDeadline};
 
 // Adds a row's numbers to column sums, where they are wanted.
 fn add_row(sums: &mut [u64], wanted: bool, table: &[u32], start: usize, spans: usize)
@@ -30,19 +32,6 @@ fn add_row(sums: &mut [u64], wanted: bool, table: &[u32], start: usize, spans: u
     }
 }
 
-// Whether a time is one of some deadlines. It looks at all of them, which is faster than to stop early.
-fn is_due(deadlines: &[u32], time: u32) -> bool
-    ensures { λ r. ⌜ r ≡ isDueIn (now (deadlines .entry)) time ⌝ }
-{
-    let mut absent = true;
-    let mut i = 0;
-    while i < deadlines.len() {
-        absent = absent & (deadlines[i] != time);
-        i += 1;
-    }
-    !absent
-}
-
 // Adds the rows of all jobs with a deadline to column sums; whether there are any.
 pub(crate) fn add_rows(
     sums: &mut [u64],
@@ -52,9 +41,9 @@ pub(crate) fn add_rows(
     time: u32,
 ) -> bool
     requires { ⌜ (spans ≤ length (now sums)) × (length (now deadlines) ≤ mostJobs) × (spans ≤ mostIntervals) × (places ≤ length (now table)) × ((j : ℕ) → j < spans → getD (now sums) j 0 ≤ mostJobs * mostAtPlace) ⌝ }
-    ensures { λ r. ⌜ (r ≡ isDueIn (now (deadlines .entry)) time) × (length (now (sums .exit)) ≡ length (now (sums .entry))) × ((j : ℕ) → j < spans → getD (now (sums .exit)) j 0 ≡ getD (now (sums .entry)) j 0 + sum (λ i. on (eqb (getD (now (deadlines .entry)) i 0) time) (units (now (table .entry)) i j)) (length (now (deadlines .entry)))) ⌝ }
+    ensures { λ r. ⌜ (r ≡ not (isAbsent (now (deadlines .entry)) time)) × (length (now (sums .exit)) ≡ length (now (sums .entry))) × ((j : ℕ) → j < spans → getD (now (sums .exit)) j 0 ≡ getD (now (sums .entry)) j 0 + sum (λ i. on (eqb (getD (now (deadlines .entry)) i 0) time) (units (now (table .entry)) i j)) (length (now (deadlines .entry)))) ⌝ }
 {
-    if !is_due(deadlines, time) {
+    if is_new(deadlines, time) {
         return false;
     }
     let mut i = 0;

@@ -1,18 +1,21 @@
--- The laws of stray places: row by row they are noStray over the whole table, and a clear row is one whose stray places sum to 0.
+-- The laws of stray places: behind the intervals of each row and behind the rows of all jobs, they are noStray over the whole table.
 use mathlib.Core.Path.{_≡_, refl, sym, _∙_, ap, ap₂}
-use mathlib.Core.Bool.{Bool, true, false, cond, _&&_, _||_, and-true, and-assoc, or-false, or-true}
+use mathlib.Core.Bool.{Bool, true, _&&_, _||_, and-true, and-assoc, or-false, or-true}
 use mathlib.Core.List.{List, [], _∷_}
-use Prim.Native.Nat.{ℕ, zero, suc, _+_, _*_, _-_, _/_, _%_, _≤_, _<_}
+use Prim.Native.Nat.{ℕ, zero, suc, _+_, _*_, _-_, _/_, _%_, _≤_, _<_, min}
 use native.Mathlib.Nat.{zero-add, add-zero, add-suc, mul-zero, mul-suc, mul-add-div, mul-add-mod-self-left, div-eq-of-lt, mod-eq-of-lt}
 use native.Mathlib.Omega.{arith}
-use borrow.Author.Tests.{lt-ltb, le-ltb, ne-eqb}
+use borrow.Author.Tests.{lt-ltb, le-ltb}
 use lib.Dec.{ltb, eqb}
-use lib.ListN.{getD, take}
-use Rattle.sums.specs.Sum.{sum, strided}
-use Rattle.sums.proofs.Laws.{sum-ext}
+use lib.ListN.{length, getD, take, List·getD-eq-default}
 use Rattle.plan.specs.Below.{every}
-use Rattle.plan.specs.Table.{allotment, noStray, rowClear}
+use Rattle.plan.specs.Edition.{mostIntervals}
+use Rattle.plan.specs.Rules.{counted}
+use Rattle.plan.specs.Boundaries.{intervals}
+use Rattle.plan.specs.Table.{noStray, soundWithin, sound}
+use Rattle.plan.specs.declared.kinds.Plan.{Plan}
 use Rattle.plan.proofs.Below.{every-ext, every-shift}
+use Rattle.plan.proofs.Rising.{boundaries-few}
 
 -- A test that always holds, holds below every length.
 every-true : (test : ℕ → Bool) (n : ℕ) → ((k : ℕ) → k < n → test k ≡ true) → every test n ≡ true
@@ -48,61 +51,64 @@ stray-places width jobs spans q (suc n) (u ∷ l) =
     ∙ every-ext _ _ n (λ k h. ap (λ a. eqb (getD l k 0) 0 || ltb (a / width) jobs && ltb (a % width) spans) (omega arith)))
     ∙ sym (every-shift (λ k. eqb (getD (u ∷ l) k 0) 0 || ltb ((q + k) / width) jobs && ltb ((q + k) % width) spans) n)
 
--- No stray place: every row is clear.
-pub stray-rows : (width jobs spans rows : ℕ) (l : List ℕ) → 0 < width
-    → every (rowClear width jobs spans l) rows ≡ noStray width jobs spans 0 (take (width * rows) l)
-unfolding rowClear
-stray-rows width jobs spans rows l h =
-    every-ext _ _ rows
-    (λ i m. every-ext _ _ width
-    (λ j b. ap₂ (λ x y. eqb (getD l (width * i + j) 0) 0 || ltb x jobs && ltb y spans)
-    (sym (mul-add-div h i j ∙ ap (λ x. i + x) (div-eq-of-lt b) ∙ add-zero i))
-    (sym (mul-add-mod-self-left width i j ∙ mod-eq-of-lt b))))
-    ∙ sym (every-rows (λ q. eqb (getD l q 0) 0 || ltb (q / width) jobs && ltb (q % width) spans) width rows)
-    ∙ every-ext _ _ (width * rows)
-    (λ k b. ap (λ q. eqb (getD l k 0) 0 || ltb (q / width) jobs && ltb (q % width) spans) (sym (zero-add k)))
-    ∙ sym (stray-places width jobs spans 0 (width * rows) l)
+-- Numbers that may be anything below a length are 0 elsewhere exactly when those from there on are.
+zero-from : (f : ℕ → ℕ) (free rest : ℕ) → every (λ j. eqb (f j) 0 || ltb j free) (free + rest) ≡ every (λ k. eqb (f (free + k)) 0) rest
+zero-from f free rest =
+    every-split (λ j. eqb (f j) 0 || ltb j free) free rest
+    ∙ ap₂ _&&_
+    (every-true _ free (λ k l. ap (λ b. eqb (f k) 0 || b) (lt-ltb k free l) ∙ or-true (eqb (f k) 0)))
+    (every-ext _ _ rest (λ k l. ap (λ b. eqb (f (free + k)) 0 || b) (le-ltb (free + k) free (omega arith)) ∙ or-false (eqb (f (free + k)) 0)))
 
--- A sum is 0 exactly when every term is.
-sum-zero : (f : ℕ → ℕ) (n : ℕ) → eqb (sum f n) 0 ≡ every (λ k. eqb (f k) 0) n
-unfolding sum every
-sum-zero f zero = refl
-sum-zero f (suc n) = both-zero (sum f n) (f n) ∙ ap (λ b. b && eqb (f n) 0) (sum-zero f n)
+-- A place of a table that is 0, or inside the first jobs and the first intervals.
+abbrev allowed : ℕ → ℕ → ℕ → List ℕ → ℕ → Bool
+allowed width jobs spans l q = eqb (getD l q 0) 0 || ltb (q / width) jobs && ltb (q % width) spans
+
+-- In a job's row it is so when the row is clear behind the intervals.
+row-allowed : (width jobs spans rest i : ℕ) (l : List ℕ) → 0 < width → spans + rest ≡ width → i < jobs
+    → every (λ k. eqb (getD l (width * i + spans + k) 0) 0) rest ≡ every (λ j. allowed width jobs spans l (width * i + j)) width
+row-allowed width jobs spans rest i l h whole m =
+    every-ext _ _ rest (λ k b. ap (λ q. eqb (getD l q 0) 0) (omega arith))
+    ∙ sym (zero-from (λ j. getD l (width * i + j) 0) spans rest)
+    ∙ ap (every _) whole
+    ∙ every-ext _ _ width
+    (λ j b. ap (λ t. eqb (getD l (width * i + j) 0) 0 || t)
+    (sym (ap₂ (λ x y. ltb x jobs && ltb y spans) (mul-add-div h i j ∙ ap (λ x. i + x) (div-eq-of-lt b) ∙ add-zero i) (mul-add-mod-self-left width i j ∙ mod-eq-of-lt b)
+    ∙ ap (λ t. t && ltb j spans) (lt-ltb i jobs m))))
+
+-- Behind the jobs' rows it is so where there is a 0.
+behind-allowed : (width jobs spans k : ℕ) (l : List ℕ) → 0 < width → eqb (getD l (width * jobs + k) 0) 0 ≡ allowed width jobs spans l (width * jobs + k)
+behind-allowed width jobs spans k l h =
+    sym (ap (λ x. eqb (getD l (width * jobs + k) 0) 0 || x && ltb ((width * jobs + k) % width) spans)
+    (ap (λ x. ltb x jobs) (mul-add-div h jobs k) ∙ le-ltb (jobs + k / width) jobs (omega arith))
+    ∙ or-false (eqb (getD l (width * jobs + k) 0) 0))
+
+-- No stray place: each job's row is clear behind the intervals, and all rows behind the jobs are.
+pub stray-parts : (width jobs more spans rest : ℕ) (l : List ℕ) → 0 < width → spans + rest ≡ width
+    → (every (λ i. every (λ k. eqb (getD l (width * i + spans + k) 0) 0) rest) jobs && every (λ k. eqb (getD l (width * jobs + k) 0) 0) (width * more))
+    ≡ noStray width jobs spans 0 (take (width * jobs + width * more) l)
+stray-parts width jobs more spans rest l h whole =
+    ap₂ _&&_
+    (every-ext _ _ jobs (λ i m. row-allowed width jobs spans rest i l h whole m) ∙ sym (every-rows (allowed width jobs spans l) width jobs))
+    (every-ext _ _ (width * more) (λ k b. behind-allowed width jobs spans k l h))
+    ∙ sym (every-split (allowed width jobs spans l) (width * jobs) (width * more))
+    ∙ every-ext _ _ (width * jobs + width * more) (λ k b. ap (λ q. eqb (getD l k 0) 0 || ltb (q / width) jobs && ltb (q % width) spans) (sym (zero-add k)))
+    ∙ sym (stray-places width jobs spans 0 (width * jobs + width * more) l)
+
+-- Past a list's end every number is 0.
+pub zero-past : (l : List ℕ) (start m n : ℕ) → m ≤ n → ((k : ℕ) → m ≤ k → k < n → length l ≤ start + k)
+    → every (λ k. eqb (getD l (start + k) 0) 0) m ≡ every (λ k. eqb (getD l (start + k) 0) 0) n
+zero-past l start m n h past =
+    let e : m + (n - m) ≡ n = omega arith in
+    sym (ap (every f) (sym e) ∙ every-split f m (n - m)
+    ∙ ap (λ b. every f m && b) (every-true _ (n - m) (λ k b. ap (λ x. eqb x 0) (List·getD-eq-default l 0 (past (m + k) (omega arith) (omega arith)))))
+    ∙ and-true (every f m))
   where
-    both-zero : (a b : ℕ) → eqb (a + b) 0 ≡ (eqb a 0 && eqb b 0)
-    both-zero zero b = ap (λ x. eqb x 0) (zero-add b)
-    both-zero (suc a) b = ne-eqb (suc a + b) 0 (λ e. omega arith) ∙ ap (λ x. x && eqb b 0) (sym (ne-eqb (suc a) 0 (λ e. omega arith)))
+    f : ℕ → Bool
+    f k = eqb (getD l (start + k) 0) 0
 
--- Numbers that may be anything before a place are 0 elsewhere exactly when those from there on sum to 0.
-zero-from : (f : ℕ → ℕ) (free : ℕ → Bool) (from rest : ℕ) → ((j : ℕ) → j < from → free j ≡ true) → ((j : ℕ) → from ≤ j → free j ≡ false)
-    → eqb (sum (λ k. f (from + k)) rest) 0 ≡ every (λ j. eqb (f j) 0 || free j) (from + rest)
-zero-from f free from rest before after =
-    sum-zero (λ k. f (from + k)) rest
-    ∙ every-ext _ _ rest (λ k l. sym (ap (λ b. eqb (f (from + k)) 0 || b) (after (from + k) (omega arith)) ∙ or-false (eqb (f (from + k)) 0)))
-    ∙ ap (λ b. b && every (λ k. eqb (f (from + k)) 0 || free (from + k)) rest)
-    (sym (every-true _ from (λ k l. ap (λ b. eqb (f k) 0 || b) (before k l) ∙ or-true (eqb (f k) 0))))
-    ∙ sym (every-split (λ j. eqb (f j) 0 || free j) from rest)
-
--- A row is clear exactly when its stray places sum to 0.
-pub clear-by-sum : (width jobs spans i from rest : ℕ) (table : List ℕ) → spans ≤ width → from ≡ cond (ltb i jobs) spans 0 → rest ≡ width - from
-    → eqb (sum (strided table (width * i + from) 1) rest) 0 ≡ rowClear width jobs spans table i
-unfolding rowClear
-clear-by-sum width jobs spans i from rest table h e r =
-    ap (λ x. eqb x 0) (sum-ext _ _ rest (λ k l. ap (λ q. getD table q 0) (place-of k)))
-    ∙ zero-from (allotment width table i) (λ j. ltb i jobs && ltb j spans) from rest (free (ltb i jobs) e) (bound (ltb i jobs) e)
-    ∙ ap (every (λ j. eqb (allotment width table i j) 0 || ltb i jobs && ltb j spans)) (whole (ltb i jobs) e)
-  where
-    place-of : (k : ℕ) → width * i + from + 1 * k ≡ width * i + (from + k)
-    place-of k = omega arith
-
-    free : (b : Bool) → from ≡ cond b spans 0 → (j : ℕ) → j < from → (b && ltb j spans) ≡ true
-    free true e j l = lt-ltb j spans (omega arith)
-    free false e j l = absurd (omega arith)
-
-    bound : (b : Bool) → from ≡ cond b spans 0 → (j : ℕ) → from ≤ j → (b && ltb j spans) ≡ false
-    bound true e j l = le-ltb j spans (omega arith)
-    bound false e j l = refl
-
-    whole : (b : Bool) → from ≡ cond b spans 0 → from + rest ≡ width
-    whole true e = omega arith
-    whole false e = omega arith
+-- Told the plan's own number of intervals, a plan is sound within them.
+pub sound-told : (p : Plan) (table : List ℕ) (spans : ℕ) → spans ≡ intervals p → soundWithin (min spans mostIntervals) p table ≡ sound p table
+unfolding sound
+sound-told p table spans e =
+    let held : min spans mostIntervals ≡ intervals p = omega (arith, boundaries-few p (counted p)) in
+    ap (λ n. soundWithin n p table) held

@@ -6,7 +6,6 @@ use lib.Dec.{ltb, eqb}
 use lib.ListN.{getD, take}
 use Rattle.sums.specs.Sum.{on}
 use Rattle.plan.specs.Edition.{mostIntervals, places}
-use Rattle.plan.specs.Below.{every}
 use Rattle.plan.specs.Rules.{rulesHold, counted}
 use Rattle.plan.specs.Boundaries.{intervals}
 use Rattle.plan.specs.declared.kinds.Plan.{Plan}
@@ -33,11 +32,10 @@ noStray width jobs spans q [] = true
 noStray width jobs spans q (u ∷ l) =
     (eqb u 0 || ltb (q / width) jobs && ltb (q % width) spans) && noStray width jobs spans (suc q) l
 
--- Nothing stands in row i outside the first jobs and the first intervals. (proofs/Stray: the rows together are noStray.)
-unfoldable pub rowClear : ℕ → ℕ → ℕ → List ℕ → ℕ → Bool
-rowClear width jobs spans table i =
-    every (λ j. eqb (allotment width table i j) 0 || ltb i jobs && ltb j spans) width
+-- Rules 4 to 9 hold, and no place of the table outside the jobs and so many intervals is used.
+abbrev pub soundWithin : ℕ → Plan → List ℕ → Bool
+soundWithin spans p table = rulesHold p && noStray mostIntervals (counted p) spans 0 (take places table)
 
--- A plan and its table are sound for judge and writer: rules 4 to 9 hold, and no place of the table outside jobs and intervals is used.
+-- A plan and its table are sound for judge and writer: within the plan's own intervals.
 unfoldable pub sound : Plan → List ℕ → Bool
-sound p table = rulesHold p && noStray mostIntervals (counted p) (intervals p) 0 (take places table)
+sound p table = soundWithin (intervals p) p table

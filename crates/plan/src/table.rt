@@ -1,18 +1,16 @@
 // The places of the table, what stands there, and whether a plan and its table are sound.
-use crate::boundaries::intervals_of;
 use crate::edition::Edition;
 use crate::kinds::Plan;
 use crate::kinds::Units;
 use crate::rules::counted_of;
 use crate::rules::rules_hold;
-use sums::sum_of;
 ghost use mathlib.Core.Path.{_≡_};
-ghost use mathlib.Core.Bool.{cond};
-ghost use Prim.Native.Nat.{_≤_, _<_};
-ghost use lib.Dec.{ltb};
-ghost use lib.ListN.{take};
+ghost use Prim.Native.Nat.{_+_, _≤_, min};
+ghost use lib.Dec.{eqb};
+ghost use lib.ListN.{getD, take};
 ghost use Rattle.plan.specs.Edition.{mostJobs, mostIntervals, places};
-ghost use Rattle.plan.specs.Table.{placeIn, allotmentIn, rowClear, noStray, sound};
+ghost use Rattle.plan.specs.Below.{every};
+ghost use Rattle.plan.specs.Table.{placeIn, allotmentIn, noStray, soundWithin};
 
 // The place of job i in interval j; the first place past the table for a job or an interval that it has no room for.
 pub fn place(i: usize, j: usize) -> usize
@@ -44,40 +42,47 @@ pub fn allotment(table: &[u32], i: usize, j: usize) -> Units
     Units(table[at] as u64)
 }
 
-// The first stray interval of row i: after the first intervals for one of the jobs, and at once for any other row.
-fn stray_from(jobs: usize, spans: usize, i: usize) -> usize
-    ensures { λ r. ⌜ (r ≡ cond (ltb i jobs) spans 0) × (r ≤ spans) ⌝ }
+fn at_most(n: usize, most: usize) -> usize
+    ensures { λ r. ⌜ r ≡ min n most ⌝ }
 {
-    if i < jobs { spans } else { 0 }
+    if n <= most { n } else { most }
 }
 
-// Whether nothing stands in row i outside the first jobs and the first intervals: such places sum to 0.
-fn row_clear(table: &[u32], jobs: usize, spans: usize, i: usize) -> bool
-    requires { ⌜ (spans ≤ mostIntervals) × (i < mostJobs) ⌝ }
-    ensures { λ r. ⌜ r ≡ rowClear mostIntervals jobs spans (now (table .entry)) i ⌝ }
+// Whether a count of numbers from a start on are 0; past the end there are none. It looks at all of them, which is faster than to stop early.
+fn all_zero(table: &[u32], start: usize, count: usize) -> bool
+    requires { ⌜ start + count ≤ places ⌝ }
+    ensures { λ r. ⌜ r ≡ every (λ k. eqb (getD (now (table .entry)) (start + k) 0) 0) count ⌝ }
 {
-    let from = stray_from(jobs, spans, i);
-    let rest = Edition::MOST_INTERVALS - from;
-    sum_of(table, Edition::MOST_INTERVALS * i + from, 1, rest as u32) == 0
+    let end = at_most(start + count, table.len());
+    let mut zero = true;
+    let mut q = start;
+    while q < end {
+        zero = zero & (table[q] == 0);
+        q += 1;
+    }
+    zero
 }
 
 // Whether nothing stands in the table's own places outside the first jobs and the first intervals.
 fn no_stray(table: &[u32], jobs: usize, spans: usize) -> bool
-    requires { ⌜ spans ≤ mostIntervals ⌝ }
+    requires { ⌜ (jobs ≤ mostJobs) × (spans ≤ mostIntervals) ⌝ }
     ensures { λ r. ⌜ r ≡ noStray mostIntervals jobs spans 0 (take places (now (table .entry))) ⌝ }
 {
+    let rest = Edition::MOST_INTERVALS - spans;
     let mut clear = true;
     let mut i = 0;
-    while i < Edition::MOST_JOBS {
-        clear = clear & row_clear(table, jobs, spans, i);
+    while i < jobs {
+        clear = clear & all_zero(table, Edition::MOST_INTERVALS * i + spans, rest);
         i += 1;
     }
-    clear
+    let used = Edition::MOST_INTERVALS * jobs;
+    clear & all_zero(table, used, Edition::PLACES - used)
 }
 
-// Whether a plan and its table are sound for judge and writer.
-pub fn sound_of(p: Plan, table: &[u32]) -> bool
-    ensures { λ r. ⌜ r ≡ sound p (now (table .entry)) ⌝ }
+// Whether a plan and its table are sound for judge and writer, told how many intervals the plan has.
+pub fn sound_of(p: Plan, table: &[u32], spans: usize) -> bool
+    ensures { λ r. ⌜ r ≡ soundWithin (min spans mostIntervals) p (now (table .entry)) ⌝ }
 {
-    rules_hold(p) & no_stray(table, counted_of(p), intervals_of(p))
+    let held = at_most(spans, Edition::MOST_INTERVALS);
+    rules_hold(p) & no_stray(table, counted_of(p), held)
 }

@@ -1,43 +1,71 @@
 -- `judge::judge_at` meets its contract.
-use mathlib.Core.Path.{sym, _∙_, ap}
-use Prim.Native.Nat.{_-_}
+use mathlib.Core.Path.{sym, _∙_, ap, _≡_}
+use mathlib.Core.Bool.{true}
+use mathlib.Core.List.{List, []}
+use Prim.Native.Nat.{ℕ, _-_, _≤_, _<_}
 use native.Mathlib.Omega.{arith}
 use borrow.Author.Needs.{needs}
 use lib.ListN.{length}
-use Rattle.judge.proofs.First.{or-none}
-use Rattle.judge.proofs.First.{stops, passes}
+use Rattle.plan.specs.Edition.{places}
+use Rattle.plan.specs.Rules.{rulesHold}
+use Rattle.plan.specs.Boundaries.{boundaries}
+use Rattle.plan.specs.declared.kinds.Plan.{Plan}
+use Rattle.judge.specs.Verdict.{handFault, constraintFault, floorFault, orElse, judged}
+use Rattle.judge.proofs.First.{or-none, or-assoc, stops, passes}
+use Rattle.judge.proofs.Hand.{refused-by-none}
 use Rattle.judge.proofs.judge_at.Statement.{statement}
 use Rattle.judge.proofs.judge_at.Tie as tie
 
-sub-spans : tie.Need-sub-spans
-sub-spans c = search needs
-
-constraints-requires : tie.Need-constraints-requires
-constraints-requires c κs =
-    let a = c .before .before .args in
-    (c .before .before .pre .0, ap (λ t. length t - 1) (c .before .before .pre .0), omega arith, c .before .before .pre .2)
+refusal-of-requires : tie.Need-refusal-of-requires
+refusal-of-requires c κs = search needs
 
 is-accepted-requires : tie.Need-is-accepted-requires
 is-accepted-requires c κs = search needs
 
 returns : tie.Need-returns
+unfolding judged
 returns c =
-    stops _ _ _ _ (c .before .before .constraints .ensures) (c .before .is-accepted .ensures) (c .if1 .taken)
+    let p = c .before .before .before .before .before .args .p in
+    let table = c .before .before .before .before .before .args .table .now in
+    stops _ _ (floorFault p table) _ (c .before .before .refusal-of .ensures) (c .before .is-accepted .ensures) (c .if1 .taken)
+    ∙ or-assoc (handFault p table) (constraintFault p table) (floorFault p table)
+
+-- Where nothing is refused so far.
+module _ (c : tie.Else1) where
+  abbrev p : Plan
+  p = c .before .before .before .before .before .args .p
+
+  abbrev table : List ℕ
+  table = c .before .before .before .before .before .args .table .now
+
+  none : orElse (handFault p table) (constraintFault p table) ≡ []
+  none = passes _ _ _ (c .before .before .refusal-of .ensures) (c .before .is-accepted .ensures) (c .if1 .left)
+
+  ready : (0 < length (boundaries p)) × (places ≤ length table) × (rulesHold p ≡ true)
+  ready = refused-by-none p table none
+
+sub-below-floor : tie.Need-sub-below-floor
+sub-below-floor c = omega (arith, ap length (c .before .before .before .before .before .pre), ready c .0)
 
 below-floor-requires : tie.Need-below-floor-requires
-below-floor-requires c κs = (c .before .before .before .before .before .pre .0, ap (λ t. length t - 1) (c .before .before .before .before .before .pre .0), omega arith, c .before .before .before .before .before .pre .2, c .before .before .before .before .before .pre .3)
+below-floor-requires c κs =
+    let times = c .before .before .before .before .before .pre in
+    (times, ap (λ t. length t - 1) times, omega (arith, ap length times, ready c .0), ready c .1, ready c .2)
 
 returns-2 : tie.Need-returns-2
+unfolding judged
 returns-2 c =
-    c .below-floor .ensures ∙ sym (or-none _ _ (passes _ _ _ (c .before .before .before .constraints .ensures) (c .before .before .is-accepted .ensures) (c .before .if1 .left)))
+    let p = c .before .before .before .before .before .before .args .p in
+    let table = c .before .before .before .before .before .before .args .table .now in
+    c .below-floor .ensures ∙ sym (or-none _ _ (none (c .before))) ∙ or-assoc (handFault p table) (constraintFault p table) (floorFault p table)
 
 pub judge-at-spec : {M : Type 1} → statement M
 judge-at-spec =
     tie.close
     (tie.spec
-    sub-spans
-    constraints-requires
+    refusal-of-requires
     is-accepted-requires
     returns
+    sub-below-floor
     below-floor-requires
     returns-2)

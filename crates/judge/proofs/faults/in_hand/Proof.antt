@@ -1,12 +1,16 @@
 -- `judge::faults::in_hand` meets its contract.
-use mathlib.Core.Path.{sym, _∙_, ap, ap₂}
+use mathlib.Core.Path.{_≡_, sym, _∙_, ap, ap₂}
 use mathlib.Core.Bool.{not}
 use mathlib.Core.List.{[], _∷_}
+use Prim.Native.Nat.{_-_}
+use native.Mathlib.Omega.{arith}
 use borrow.Author.Needs.{needs}
 use borrow.Author.Tests.{lt-ltb, le-ltb}
 use Rattle.plan.specs.Refusal.{unsound, bufferTooShort}
 use Rattle.plan.specs.Table.{sound}
+use Rattle.plan.proofs.Stray.{sound-told}
 use Rattle.judge.specs.Verdict.{fault, orElse}
+use Rattle.judge.proofs.Hand.{unbounded}
 use Rattle.judge.proofs.faults.in_hand.Statement.{statement}
 use Rattle.judge.proofs.faults.in_hand.Tie as tie
 
@@ -15,20 +19,34 @@ returns c =
     let a = c .before .before .args in
     ap (λ b. orElse (fault b (bufferTooShort ∷ [])) (fault (not (sound (a .p) (a .table .now))) (unsound ∷ []))) (sym (lt-ltb _ _ (c .if1 .taken)))
 
+returns-2 : tie.Need-returns-2
+returns-2 c =
+    let a = c .before .before .before .args in
+    ap₂ (λ x y. orElse (fault x (bufferTooShort ∷ [])) (fault y (unsound ∷ []))) (sym (le-ltb _ _ (c .before .if1 .left)))
+    (sym (ap not (unbounded (a .p) (a .table .now) (omega (arith, c .before .before .before .pre, c .if2 .taken)))))
+
+sub-sound-of : tie.Need-sub-sound-of
+sub-sound-of c = search needs
+
 sound-of-requires : tie.Need-sound-of-requires
 sound-of-requires c κs = search needs
 
-returns-2 : tie.Need-returns-2
-returns-2 c =
+-- What the soundness test told is whether the plan is sound.
+tested : (c : tie.After-sound-of) → c .sound-of .result ≡ sound (c .before .before .before .before .args .p) (c .before .before .before .before .args .table .now)
+tested c =
     let a = c .before .before .before .before .args in
-    ap₂ (λ x y. orElse (fault x (bufferTooShort ∷ [])) (fault y (unsound ∷ []))) (sym (le-ltb _ _ (c .before .before .if1 .left)))
-    (sym (ap not (sym (c .before .sound-of .ensures)) ∙ c .if2 .taken))
+    c .sound-of .ensures ∙ sound-told (a .p) (a .table .now) (a .count - 1) (ap (λ n. n - 1) (c .before .before .before .before .pre))
 
 returns-3 : tie.Need-returns-3
 returns-3 c =
-    let a = c .before .before .before .before .args in
-    ap₂ (λ x y. orElse (fault x (bufferTooShort ∷ [])) (fault y (unsound ∷ []))) (sym (le-ltb _ _ (c .before .before .if1 .left)))
-    (sym (ap not (sym (c .before .sound-of .ensures)) ∙ c .if2 .left))
+    ap₂ (λ x y. orElse (fault x (bufferTooShort ∷ [])) (fault y (unsound ∷ []))) (sym (le-ltb _ _ (c .before .before .before .if1 .left)))
+    (sym (ap not (sym (tested (c .before))) ∙ c .if3 .taken))
+
+returns-4 : tie.Need-returns-4
+returns-4 c =
+    ap₂ (λ x y. orElse (fault x (bufferTooShort ∷ [])) (fault y (unsound ∷ []))) (sym (le-ltb _ _ (c .before .before .before .if1 .left)))
+    (sym (ap not (sym (tested (c .before))) ∙ c .if3 .left))
 
 pub in-hand-spec : {M : Type 1} → statement M
-in-hand-spec = tie.close (tie.spec returns sound-of-requires returns-2 returns-3)
+in-hand-spec =
+    tie.close (tie.spec returns returns-2 sub-sound-of sound-of-requires returns-3 returns-4)

@@ -1,81 +1,32 @@
 -- `judge::figure::slack` meets its contract.
-use mathlib.Core.Path.{sym, _∙_, ap, _≡_}
-use Prim.Native.Nat.{_≤_}
-use native.Mathlib.Omega.{arith}
+use mathlib.Core.Path.{sym}
 use borrow.Author.Needs.{needs}
 use lib.Seq.{length-take-le}
-use lib.ListN.{length, take}
-use Rattle.plan.specs.Rules.{counted}
-use Rattle.plan.specs.Edition.{mostBoundaries}
-use Rattle.plan.specs.Boundaries.{boundaries}
-use Rattle.plan.proofs.Rising.{boundaries-few, room-length}
-use Rattle.plan.specs.declared.boundaries.Boundaries.{Boundaries}
-use Rattle.judge.specs.Verdict.{constraintFault}
-use Rattle.judge.specs.Slack.{leastSlack, slackFigure, unless}
-use Rattle.judge.proofs.First.{or-none, stops, passes}
-use Rattle.judge.proofs.Hand.{hand-none, sound-rules, rules-count, boundaries-some, shown}
-use Rattle.judge.proofs.Unless.{refuses}
+use Rattle.judge.proofs.Hand.{in-their-room}
 use Rattle.judge.proofs.figure.slack.Statement.{statement}
 use Rattle.judge.proofs.figure.slack.Tie as tie
-
-in-hand-requires : tie.Need-in-hand-requires
-in-hand-requires c κs = search needs
-
-is-accepted-requires : tie.Need-is-accepted-requires
-is-accepted-requires c κs = search needs
-
-returns : tie.Need-returns
-unfolding slackFigure
-returns c =
-    refuses _ _ _ _ (stops _ _ (constraintFault (c .before .before .before .before .args .p) (c .before .before .before .before .args .table .now)) _ (c .before .before .in-hand .ensures) (c .before .is-accepted .ensures) (c .if1 .taken)) (c .before .is-accepted .ensures) (c .if1 .taken)
 
 boundaries-of-requires : tie.Need-boundaries-of-requires
 boundaries-of-requires c κs = search needs
 
--- The boundaries stand in their room, from its start.
-are-boundaries : (c : tie.After-boundaries-of)
-    → take (c .boundaries-of .result .count) (c .boundaries-of .result .times) ≡ boundaries (c .before .before .before .before .before .args .p)
-are-boundaries c =
-    let b = c .boundaries-of .ensures in
-    shown _ _ _ (ap (λ (r : Boundaries). r .times) b) (ap (λ (r : Boundaries). r .count) b)
-
-in-room : (c : tie.After-boundaries-of) → c .boundaries-of .result .count ≤ length (c .boundaries-of .result .times)
-in-room c =
-    let b = c .boundaries-of .ensures in
-    let p = c .before .before .before .before .before .args .p in
-    let few : length (boundaries p) ≤ mostBoundaries = omega (arith, boundaries-few p (counted p)) in
-    let room : length (c .boundaries-of .result .times) ≡ mostBoundaries
-    = ap (λ (r : Boundaries). length (r .times)) b ∙ room-length (boundaries p) few in
-    omega (arith, ap (λ (r : Boundaries). r .count) b)
-
 array-share-prefix-times : tie.Need-array-share-prefix-times
-array-share-prefix-times c = in-room (c .before)
+array-share-prefix-times c = in-their-room _ _ (c .before .boundaries-of .ensures) .1
 
 slice-aggregate-slack-at : tie.Need-slice-aggregate-slack-at
-slice-aggregate-slack-at c = sym (length-take-le _ _ (in-room (c .before .before)))
+slice-aggregate-slack-at c = sym (length-take-le _ _ (in-their-room _ _ (c .before .before .boundaries-of .ensures) .1))
 
 slack-at-requires : tie.Need-slack-at-requires
-slack-at-requires c κs =
-    let p = c .before .before .before .before .before .before .before .args .p in
-    let hand = hand-none p (c .before .before .before .before .before .before .before .args .table .now) (passes _ _ _ (c .before .before .before .before .before .in-hand .ensures) (c .before .before .before .before .is-accepted .ensures) (c .before .before .before .if1 .left)) in
-    let rules = sound-rules p (c .before .before .before .before .before .before .before .args .table .now) (hand .1) in
-    (are-boundaries (c .before .before), rw (are-boundaries (c .before .before)) (boundaries-some p (counted p) (rules-count p rules)), hand .0, rules)
+slack-at-requires c κs = in-their-room _ _ (c .before .before .boundaries-of .ensures) .0
 
-returns-2 : tie.Need-returns-2
-unfolding slackFigure
-returns-2 c =
-    c .slack-at .ensures
-    ∙ sym (ap (λ r. unless r (leastSlack (c .before .before .before .before .before .before .before .before .args .p) (c .before .before .before .before .before .before .before .before .args .table .now))) (or-none _ _ (passes _ _ _ (c .before .before .before .before .before .before .in-hand .ensures) (c .before .before .before .before .before .is-accepted .ensures) (c .before .before .before .before .if1 .left))))
+returns : tie.Need-returns
+returns c = search needs
 
 pub slack-spec : {M : Type 1} → statement M
 slack-spec =
     tie.close
     (tie.spec
-    in-hand-requires
-    is-accepted-requires
-    returns
     boundaries-of-requires
     array-share-prefix-times
     slice-aggregate-slack-at
     slack-at-requires
-    returns-2)
+    returns)

@@ -1,43 +1,67 @@
 -- `judge::figure::slack_at` meets its contract.
-use mathlib.Core.Path.{_∙_, ap}
-use Prim.Native.Nat.{_-_}
+use mathlib.Core.Path.{_∙_, ap, _≡_}
+use mathlib.Core.Bool.{true}
+use mathlib.Core.List.{List, []}
+use Prim.Native.Nat.{ℕ, _-_, _≤_, _<_}
 use native.Mathlib.Omega.{arith}
 use borrow.Author.Needs.{needs}
 use lib.ListN.{length}
+use Rattle.plan.specs.Edition.{places}
+use Rattle.plan.specs.Rules.{rulesHold}
+use Rattle.plan.specs.Boundaries.{boundaries}
+use Rattle.plan.specs.declared.kinds.Plan.{Plan}
+use Rattle.judge.specs.Verdict.{handFault, constraintFault, orElse}
+use Rattle.judge.specs.Slack.{slackFigure}
 use Rattle.judge.proofs.First.{passes}
 use Rattle.judge.proofs.Unless.{refuses, unless-none}
+use Rattle.judge.proofs.Hand.{refused-by-none}
 use Rattle.judge.proofs.figure.slack_at.Statement.{statement}
 use Rattle.judge.proofs.figure.slack_at.Tie as tie
 
-sub-spans : tie.Need-sub-spans
-sub-spans c = search needs
-
-constraints-requires : tie.Need-constraints-requires
-constraints-requires c κs =
-    (c .before .before .pre .0, ap (λ t. length t - 1) (c .before .before .pre .0), omega arith, c .before .before .pre .2)
+refusal-of-requires : tie.Need-refusal-of-requires
+refusal-of-requires c κs = search needs
 
 is-accepted-requires : tie.Need-is-accepted-requires
 is-accepted-requires c κs = search needs
 
 returns : tie.Need-returns
+unfolding slackFigure
 returns c =
-    refuses _ _ _ _ (c .before .before .constraints .ensures) (c .before .is-accepted .ensures) (c .if1 .taken)
+    refuses _ _ _ _ (c .before .before .refusal-of .ensures) (c .before .is-accepted .ensures) (c .if1 .taken)
+
+-- Where nothing is refused so far.
+module _ (c : tie.Else1) where
+  abbrev p : Plan
+  p = c .before .before .before .before .before .args .p
+
+  abbrev table : List ℕ
+  table = c .before .before .before .before .before .args .table .now
+
+  none : orElse (handFault p table) (constraintFault p table) ≡ []
+  none = passes _ _ _ (c .before .before .refusal-of .ensures) (c .before .is-accepted .ensures) (c .if1 .left)
+
+  ready : (0 < length (boundaries p)) × (places ≤ length table) × (rulesHold p ≡ true)
+  ready = refused-by-none p table none
+
+sub-least-slack : tie.Need-sub-least-slack
+sub-least-slack c = omega (arith, ap length (c .before .before .before .before .before .pre), ready c .0)
 
 least-slack-requires : tie.Need-least-slack-requires
 least-slack-requires c κs =
-    (c .before .before .before .before .before .pre .0, ap (λ t. length t - 1) (c .before .before .before .before .before .pre .0), omega (arith, c .before .before .before .before .before .pre .1), c .before .before .before .before .before .pre .2, c .before .before .before .before .before .pre .3)
+    let times = c .before .before .before .before .before .pre in
+    (times, ap (λ t. length t - 1) times, omega (arith, ap length times, ready c .0), ready c .1, ready c .2)
 
 returns-2 : tie.Need-returns-2
-returns-2 c =
-    c .least-slack .ensures ∙ unless-none _ _ (passes _ _ _ (c .before .before .before .constraints .ensures) (c .before .before .is-accepted .ensures) (c .before .if1 .left))
+unfolding slackFigure
+returns-2 c = c .least-slack .ensures ∙ unless-none _ _ (none (c .before))
 
 pub slack-at-spec : {M : Type 1} → statement M
 slack-at-spec =
     tie.close
     (tie.spec
-    sub-spans
-    constraints-requires
+    refusal-of-requires
     is-accepted-requires
     returns
+    sub-least-slack
     least-slack-requires
     returns-2)

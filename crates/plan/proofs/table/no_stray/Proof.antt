@@ -1,28 +1,40 @@
--- `plan::table::no_stray` meets its contract: after i rows, the first i are clear.
-use mathlib.Core.Path.{_≡_, sym, _∙_, ap}
-use Prim.Native.Nat.{_-_, _≤_}
+-- `plan::table::no_stray` meets its contract: after i jobs, the first i rows are clear behind the intervals.
+use mathlib.Core.Path.{_≡_, sym, _∙_, ap, ap₂}
+use mathlib.Core.Bool.{_&&_}
+use Prim.Native.Nat.{_+_, _*_, _-_, _≤_}
 use native.Mathlib.Omega.{arith}
 use borrow.Author.Needs.{needs}
-use lib.Dec.{lit<}
-use Rattle.plan.specs.Edition.{mostJobs, mostIntervals}
+use lib.Dec.{lit<, eqb}
+use lib.ListN.{getD, take}
+use Rattle.plan.specs.Edition.{mostJobs, mostIntervals, places}
 use Rattle.plan.specs.Below.{every}
-use Rattle.plan.specs.Table.{rowClear}
+use Rattle.plan.specs.Table.{noStray}
 use Rattle.plan.proofs.Below.{every-start, every-next}
-use Rattle.plan.proofs.Stray.{stray-rows}
+use Rattle.plan.proofs.Stray.{stray-parts}
 use Rattle.plan.proofs.table.no_stray.Statement.{statement}
 use Rattle.plan.proofs.table.no_stray.Tie as tie
 
 abbrev Inv-loop : tie.InvT-loop
-Inv-loop table jobs spans clear₀ i₀ clear i = (i ≤ mostJobs) × (clear ≡ every (rowClear mostIntervals jobs spans table) i)
+Inv-loop table jobs spans rest clear₀ i₀ clear i =
+    (i ≤ jobs) × (clear ≡ every (λ i. every (λ k. eqb (getD table (mostIntervals * i + spans + k) 0) 0) rest) i)
 
 abbrev μ-loop : tie.MeasureT-loop
-μ-loop table jobs spans clear₀ i₀ clear i = mostJobs - i
+μ-loop table jobs spans rest clear₀ i₀ clear i = jobs - i
+
+sub-rest : tie.Need-sub-rest Inv-loop μ-loop
+sub-rest c = search needs
 
 loop-holds : tie.Need-loop-holds Inv-loop μ-loop
 loop-holds c = (omega arith, sym (every-start _))
 
-row-clear-requires : tie.Need-row-clear-requires Inv-loop μ-loop
-row-clear-requires c κs = search needs
+mul-all-zero : tie.Need-mul-all-zero Inv-loop μ-loop
+mul-all-zero c = search needs
+
+add-all-zero : tie.Need-add-all-zero Inv-loop μ-loop
+add-all-zero c = search needs
+
+all-zero-requires : tie.Need-all-zero-requires Inv-loop μ-loop
+all-zero-requires c κs = search needs
 
 add-i : tie.Need-add-i Inv-loop μ-loop
 add-i c = search needs
@@ -32,15 +44,44 @@ loop-less c = search needs
 
 loop-again : tie.Need-loop-again Inv-loop μ-loop
 loop-again c =
-    (omega arith, every-next _ (c .before .before .loop .i) (c .before .before .loop .inv .1) (c .row-clear .ensures))
+    let l = c .before .before .loop in
+    (omega arith, every-next _ (l .i) (l .inv .1) (c .all-zero .ensures))
+
+mul-used : tie.Need-mul-used Inv-loop μ-loop
+mul-used c = search needs
+
+sub-all-zero : tie.Need-sub-all-zero Inv-loop μ-loop
+sub-all-zero c = search needs
+
+all-zero-requires-2 : tie.Need-all-zero-requires-2 Inv-loop μ-loop
+all-zero-requires-2 c κs = search needs
 
 returns : tie.Need-returns Inv-loop μ-loop
 returns c =
-    let a = c .before .before .before .args in
-    let whole : c .before .loop .i ≡ mostJobs = omega arith in
-    c .before .loop .inv .1 ∙ ap (every _) whole ∙ stray-rows mostIntervals (a .jobs) (a .spans) mostJobs (a .table .now) (lit< tt)
+    let a = c .before .before .before .before .args in
+    let l = c .before .before .loop in
+    let whole : l .i ≡ a .jobs = omega (arith, l .inv .0) in
+    let behind : places - mostIntervals * a .jobs ≡ mostIntervals * (mostJobs - a .jobs) = omega arith in
+    let all : mostIntervals * a .jobs + mostIntervals * (mostJobs - a .jobs) ≡ places = omega arith in
+    ap₂ _&&_ (l .inv .1 ∙ ap (every _) whole) (c .all-zero2 .ensures ∙ ap (every _) behind)
+    ∙ stray-parts mostIntervals (a .jobs) (mostJobs - a .jobs) (a .spans) _ (a .table .now) (lit< tt) (omega arith)
+    ∙ ap (λ n. noStray mostIntervals (a .jobs) (a .spans) 0 (take n (a .table .now))) all
 
 pub no-stray-spec : {M : Type 1} → statement M
 no-stray-spec =
     tie.close
-    (tie.spec Inv-loop μ-loop loop-holds row-clear-requires add-i loop-less loop-again returns)
+    (tie.spec
+    Inv-loop
+    μ-loop
+    sub-rest
+    loop-holds
+    mul-all-zero
+    add-all-zero
+    all-zero-requires
+    add-i
+    loop-less
+    loop-again
+    mul-used
+    sub-all-zero
+    all-zero-requires-2
+    returns)
