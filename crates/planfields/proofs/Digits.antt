@@ -6,36 +6,9 @@ use native.Mathlib.Nat.{pow-suc, pow-succ', pow-le-pow-right, one-le-pow, mod-lt
 use native.Mathlib.Omega.{arith}
 use lib.Arith.{digits-lt, digits-div, digits-mod, mod-mul}
 use lib.Dec.{lit<}
-use lib.ListN.{length, getD, take, drop}
-use lib.Seq.{take-suc, drop-at}
+use lib.ListN.{length, getD, take, drop, length-drop}
+use lib.Seq.{length-take-le, drop-cons, drop-at}
 use Rattle.planfields.specs.Bytes.{bytes, value}
-
--- One more byte behind the others, as a loop reads it.
-pub value-snoc : (a : ℕ) (l : List ℕ) (b : ℕ) → value a (l ++ (b ∷ [])) ≡ value a l * 256 + b
-unfolding value
-value-snoc a [] b = refl
-value-snoc a (x ∷ l) b = value-snoc (a * 256 + x) l b
-
-pub value-next : (l : List ℕ) (k : ℕ) {so-far : ℕ} → k < length l → so-far ≡ value 0 (take k l)
-    → so-far * 256 + getD l k 0 ≡ value 0 (take (suc k) l)
-value-next l k h e = rw (take-suc l k 0 h, value-snoc 0 (take k l) (getD l k 0), e)
-
-pub value-start : (l : List ℕ) → 0 ≡ value 0 (take 0 l)
-unfolding value
-value-start l = refl
-
--- A byte more keeps within a byte more.
-pub within : {v b : ℕ} (k : ℕ) → v < 256 ^ k → b < 256 → v * 256 + b < 256 ^ suc k
-within {v} {b} k h l = rw (pow-suc 256 k) (digits-lt h l)
-
-pub width-eight : (k : ℕ) → k ≤ 8 → 256 ^ k ≤ 256 ^ 8
-width-eight k h = pow-le-pow-right (lit< tt) h
-
--- While fewer than eight bytes are read, a byte more fits a word.
-pub room : {v : ℕ} (k : ℕ) → v < 256 ^ k → k < 8 → v * 256 + 255 < 2 ^ 64
-room k h l =
-    let more : 256 ^ suc k ≤ 256 ^ 8 = width-eight (suc k) l in
-    omega (arith, within k h (lit< {m = 255} tt), more)
 
 pub length-bytes : (w x : ℕ) → length (bytes w x) ≡ w
 unfolding bytes
@@ -99,6 +72,34 @@ bytes-value (b ∷ l) h =
     rw is
     (ap₂ (λ (q : ℕ) (r : List ℕ). q ∷ r) (digits-div b low)
     (ap (bytes (length l)) (digits-mod b low) ∙ bytes-value l (λ k. h (suc k))))
+
+-- Of no bytes, the value is 0.
+pub value-start : (l : List ℕ) → 0 ≡ value 0 (take 0 l)
+unfolding value
+value-start l = refl
+
+-- A byte before those whose value is in hand, as a loop reads it.
+pub value-turn : (file : List ℕ) (at n : ℕ) {v : ℕ} → at + n < length file → v ≡ value 0 (take n (drop (suc at) file))
+    → v + getD file at 0 * 256 ^ n ≡ value 0 (take (suc n) (drop at file))
+unfolding value
+value-turn file at n {v} h e =
+    let b = getD file at 0 in
+    let l = take n (drop (suc at) file) in
+    let long : length l ≡ n = length-take-le n (drop (suc at) file) (rw length-drop (omega arith)) in
+    let whole : value 0 (take (suc n) (drop at file)) ≡ b * 256 ^ n + value 0 l
+    = ap (λ r. value 0 (take (suc n) r)) (drop-cons file at 0 (omega arith)) ∙ value-on l (0 * 256 + b)
+    ∙ ap₂ (λ (c m : ℕ). c * 256 ^ m + value 0 l) (omega arith) long in
+    omega (arith, whole, e)
+
+-- A byte more keeps within a byte more.
+pub within : {v b : ℕ} (n : ℕ) → v < 256 ^ n → b < 256 → v + b * 256 ^ n < 256 ^ suc n
+within {v} {b} n h l = rw (pow-succ' 256 n) (omega (arith, digits-lt l h))
+
+-- While fewer than eight bytes are read, a byte more fits a word.
+pub room : {v b : ℕ} (n : ℕ) → v < 256 ^ n → b < 256 → n < 8 → v + b * 256 ^ n < 2 ^ 64
+room n h l few =
+    let more : 256 ^ suc n ≤ 256 ^ 8 = pow-le-pow-right (lit< tt) few in
+    omega (arith, within n h l, more)
 
 -- A byte written before the bytes behind it.
 pub bytes-turn : (w x rest k : ℕ) → rest < 256 ^ suc k → bytes (suc k) rest ++ drop (suc k) (bytes w x) ≡ bytes w x

@@ -51,11 +51,16 @@ pub(crate) fn read_field(file: &[u8], at: usize, w: usize) -> Field
     if file.len() - at < w {
         return Field::Refused(WRONG_EXTENT);
     }
+    // From the lowest byte on, which compiles to a single load also for eight bytes.
     let mut value: u64 = 0;
-    let mut k = 0;
-    while k < w {
-        value = value * 256 + file[at + k] as u64;
-        k += 1;
+    let mut scale: u64 = 1;
+    let mut k = w;
+    while k > 0 {
+        k -= 1;
+        value = value + file[at + k] as u64 * scale;
+        if k > 0 {
+            scale = scale * 256;
+        }
     }
     Field::Value(value, at + w)
 }
