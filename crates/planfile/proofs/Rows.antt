@@ -13,7 +13,6 @@ use Rattle.plan.specs.Refusal.{rowWithoutJob, rowWithoutInterval, rowWithoutUni
 use Rattle.plan.specs.Table.{place}
 use Rattle.planfields.specs.Fields.{Step, got, no, onward, checked, named}
 use Rattle.planfile.specs.Reading.{position, Row, oneRow, allRows}
-use Rattle.planfile.specs.Answers.{onlyPassed}
 use Rattle.planfields.proofs.Steps.{through, past, checked-is, same-value}
 
 -- One row, field by field: the first fault decides.
@@ -77,6 +76,11 @@ rows-stop n width names spans low table file at e = rw e
 pub rows-done : (width : ℕ) (names : List ℕ) (spans low : ℕ) (table file : List ℕ) (at : ℕ) → allRows zero width names spans low table file at ≡ got table at
 unfolding allRows
 rows-done width names spans low table file at = refl
+
+-- A reading without what it yields: that it goes on, and where.
+abbrev pub onlyPassed : {A : Type 0} → Step A → Step (Unit {0})
+onlyPassed (got a next) = got tt next
+onlyPassed (no number) = no number
 
 -- Whether rows pass does not depend on the table.
 pub rows-only : (n width : ℕ) (names : List ℕ) (spans low : ℕ) (t u file : List ℕ) (at : ℕ)

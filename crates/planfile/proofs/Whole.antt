@@ -13,12 +13,13 @@ use Rattle.plan.specs.declared.kinds.Plan.{Plan}
 use Rattle.planfields.specs.Fields.{Step, got, no, ended}
 use Rattle.planfile.specs.Reading.{Front, front, allRows, Held, planFile, readFile, Left, noPlan, leaves, reader, nameAt, shownBy}
 use Rattle.planfields.specs.Answers.{passedTold}
-use Rattle.planfile.specs.Answers.{Distinct, RowsAnswer, FillAnswer, onlyPassed, answerTold, readTold, countOf}
+use Rattle.planfile.specs.Answers.{Distinct, RowsAnswer, FillAnswer, answerTold, readTold, countOf}
 use Rattle.planfields.specs.declared.field.Passed.{Passed}
 use Rattle.planfields.specs.declared.field.Passed.the-variants as passed
 use Rattle.planfile.specs.declared.reader.Answer.the-variants as answer
 use Rattle.planfile.specs.declared.reader.Reading.{Reading}
 use Rattle.planfile.proofs.Fronts.{front-fine}
+use Rattle.planfile.proofs.Rows.{onlyPassed}
 
 -- What the answer of the rows tells of their reading.
 module _ (r : Passed) (left : List ℕ) where
@@ -29,6 +30,10 @@ module _ (r : Passed) (left : List ℕ) where
   pub rows-got : (s : Step (List ℕ)) {next : ℕ} → RowsAnswer s r left → r ≡ passed.Next next → s ≡ got left next
   rows-got (got t next) a e = cc (a .0, a .1)
   rows-got (no number) a e = absurd (let z : _≡_ {A = ℕ} 0 1 = cc in omega arith)
+
+  pub rows-passed : (s : Step (List ℕ)) → RowsAnswer s r left → passedTold r ≡ onlyPassed s
+  rows-passed (got t next) a = ap passedTold (a .0)
+  rows-passed (no number) a = ap passedTold a
 
 -- The same without a table.
 pub only-refused : (s : Step (List ℕ)) {r : Passed} {k : ℕ} → passedTold r ≡ onlyPassed s → r ≡ passed.Refused k → s ≡ no k

@@ -54,11 +54,6 @@ abbrev pub FillAnswer : Step rule.Held → Reading → List ℕ → Type 0
 FillAnswer (got held next) r left = (r .answer ≡ answer.Read) × (r .plan ≡ held .plan) × (left ≡ held .table)
 FillAnswer (no number) r left = r .answer ≡ answer.Refused number
 
--- A reading without what it yields: that it goes on, and where.
-abbrev pub onlyPassed : {A : Type 0} → Step A → Step (Unit {0})
-onlyPassed (got a next) = got tt next
-onlyPassed (no number) = no number
-
 -- The job count of what a file holds; a refused file has none.
 abbrev pub countOf : Step rule.Held → ℕ
 countOf (got held next) = held .plan .count

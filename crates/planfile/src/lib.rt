@@ -3,3 +3,4 @@ mod front;
 pub mod lookup;
 pub mod reader;
 mod row;
+mod store;

@@ -1,43 +1,14 @@
 // The name of a job, as the part of the caller's file in which it stands.
 use crate::front::read_front;
-use crate::row::RowRead;
-use crate::row::read_row;
-use crate::row::row_refusal;
+use crate::store::store_rows;
 use plan::boundaries::intervals_of;
 use plan::edition::Edition;
 use planfields::field::Field;
 use planfields::field::Passed;
 use planfields::field::read_end;
 ghost use mathlib.Core.Path.{_≡_};
-ghost use mathlib.Core.List.{List};
-ghost use Prim.Native.Nat.{ℕ, _≤_};
-ghost use lib.ListN.{length};
-ghost use Rattle.plan.specs.Edition.{mostJobs, mostIntervals};
-ghost use Rattle.planfile.specs.Reading.{allRows, readFile};
-ghost use Rattle.planfields.specs.Answers.{passedTold};
-ghost use Rattle.planfile.specs.Answers.{Distinct, onlyPassed, countOf, Shows};
-
-// Checks a count of rows as the reader does, and stores nothing.
-fn check_rows(file: &[u8], at: usize, rows: usize, names: &[u64], spans: usize) -> Passed
-    requires { ⌜ Distinct (now names) × (length (now names) ≤ mostJobs) × (spans ≤ mostIntervals) ⌝ }
-    ensures { λ r. ⌜ ((table : List ℕ) → passedTold r ≡ onlyPassed (allRows rows mostIntervals (now (names .entry)) spans 0 table (now (file .entry)) at)) ⌝ }
-{
-    let mut next = at;
-    let mut low = 0;
-    let mut job = 0;
-    let mut k = 0;
-    while k < rows {
-        let read = read_row(file, next, names, spans, low, job);
-        let RowRead::Row(row, after) = read else {
-            return Passed::Refused(row_refusal(read));
-        };
-        low = row.at + 1;
-        job = row.job;
-        next = after;
-        k += 1;
-    }
-    Passed::Next(next)
-}
+ghost use Rattle.planfile.specs.Reading.{readFile};
+ghost use Rattle.planfile.specs.Answers.{countOf, Shows};
 
 // The job count of a file that the reader would take, and 0 for a refused one.
 fn count_in(file: &[u8]) -> usize
@@ -52,7 +23,16 @@ fn count_in(file: &[u8]) -> usize
     };
     let count = plan.count;
     let spans = intervals_of(plan);
-    let checked = check_rows(file, at, rows as usize, &names[..count], spans);
+    // A table without places: the rows are checked, and none is stored.
+    let mut none = [0u32; 1];
+    let checked = store_rows(
+        file,
+        at,
+        rows as usize,
+        &names[..count],
+        spans,
+        &mut none[..0],
+    );
     let Passed::Next(last) = checked else {
         return 0;
     };

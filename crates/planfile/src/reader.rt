@@ -1,9 +1,7 @@
 // The reader of plan files.
 use crate::front::no_plan;
 use crate::front::read_front;
-use crate::row::RowRead;
-use crate::row::read_row;
-use crate::row::row_refusal;
+use crate::store::store_rows;
 use plan::boundaries::intervals_of;
 use plan::edition::Edition;
 use plan::kinds::Plan;
@@ -15,11 +13,10 @@ use planfields::field::passed_refusal;
 use planfields::field::read_end;
 ghost use mathlib.Core.Path.{_≡_};
 ghost use mathlib.Core.List.{[]};
-ghost use Prim.Native.Nat.{_≤_};
 ghost use lib.ListN.{length, replicate};
-ghost use Rattle.plan.specs.Edition.{mostJobs, mostIntervals, places};
-ghost use Rattle.planfile.specs.Reading.{allRows, readFile, leaves};
-ghost use Rattle.planfile.specs.Answers.{Distinct, RowsAnswer, FillAnswer, readTold, Reads};
+ghost use Rattle.plan.specs.Edition.{places};
+ghost use Rattle.planfile.specs.Reading.{readFile, leaves};
+ghost use Rattle.planfile.specs.Answers.{FillAnswer, readTold, Reads};
 
 pub enum Answer {
     Read,
@@ -30,37 +27,6 @@ pub enum Answer {
 pub struct Reading {
     pub answer: Answer,
     pub plan: Plan,
-}
-
-// Stores a count of rows in a table that is as long as its own places.
-fn store_rows(
-    file: &[u8],
-    at: usize,
-    rows: usize,
-    names: &[u64],
-    spans: usize,
-    table: &mut [u32],
-) -> Passed
-    requires { ⌜ Distinct (now names) × (length (now names) ≤ mostJobs) × (spans ≤ mostIntervals) × (length (now table) ≡ places) ⌝ }
-    ensures { λ r. ⌜ RowsAnswer (allRows rows mostIntervals (now (names .entry)) spans 0 (now (table .entry)) (now (file .entry)) at) r (now (table .exit)) ⌝ }
-{
-    let mut next = at;
-    let mut low = 0;
-    let mut job = 0;
-    let mut k = 0;
-    while k < rows {
-        let read = read_row(file, next, names, spans, low, job);
-        let RowRead::Row(row, after) = read else {
-            return Passed::Refused(row_refusal(read));
-        };
-        let place = row.at;
-        table[place] = row.units;
-        low = place + 1;
-        job = row.job;
-        next = after;
-        k += 1;
-    }
-    Passed::Next(next)
 }
 
 fn clear(table: &mut [u32])

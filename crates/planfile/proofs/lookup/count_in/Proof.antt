@@ -1,6 +1,6 @@
 -- `planfile::lookup::count_in` meets its contract: front, rows and end, each reached only through the one before.
 use mathlib.Core.Path.{_≡_, refl, sym, _∙_, ap}
-use mathlib.Core.List.{_++_}
+use mathlib.Core.List.{[], _++_}
 use borrow.Author.Needs.{needs}
 use lib.ListN.{drop, replicate}
 use Rattle.plan.specs.Edition.{mostJobs, mostIntervals, places}
@@ -8,10 +8,10 @@ use Rattle.plan.specs.Boundaries.{intervals}
 use Rattle.planfields.specs.Fields.{got}
 use Rattle.planfile.specs.Reading.{Front, front, allRows}
 use Rattle.planfields.specs.Answers.{passedTold}
-use Rattle.planfile.specs.Answers.{onlyPassed}
 use Rattle.planfields.proofs.Steps.{so}
 use Rattle.planfile.proofs.Fronts.{front-refused, front-got}
-use Rattle.planfile.proofs.Whole.{only-refused, only-got, file-frontless, file-rowless, file-endless, file-whole, taken-length, count-within, rows-asked, rows-same}
+use Rattle.planfile.proofs.Rows.{onlyPassed, rows-only}
+use Rattle.planfile.proofs.Whole.{rows-passed, only-refused, only-got, file-frontless, file-rowless, file-endless, file-whole, taken-length, count-within, rows-asked, rows-same}
 use Rattle.plan.specs.declared.kinds.Plan.{Plan}
 use Rattle.planfile.proofs.lookup.count_in.Statement.{statement}
 use Rattle.planfile.proofs.lookup.count_in.Tie as tie
@@ -25,15 +25,18 @@ front-here c =
     front-got (replicate mostJobs 0) (c .before .before .before .before .before .read-front .result) (c .before .before .before .before .before .read-front .last .1 .0)
     (front (c .before .before .before .before .before .before .before .before .args .file .now) 0) (c .before .before .before .before .before .read-front .ensures) (c .before .counted .given .1)
 
--- The rows are those of the front.
-rows-here : (c : tie.After-check-rows)
-    → passedTold (c .check-rows .result) ≡ onlyPassed
-    (allRows (front-here (c .before .before .before) .0 .rows) mostIntervals (front-here (c .before .before .before) .0 .names) (intervals (front-here (c .before .before .before) .0 .plan)) 0 (replicate places 0)
-    (c .before .before .before .before .before .before .before .before .before .before .before .args .file .now) (c .before .before .before .before .counted .given .0 .1 .0))
+-- The rows are those of the front, whatever the table.
+rows-here : (c : tie.After-store-rows)
+    → passedTold (c .store-rows .result) ≡ onlyPassed
+    (allRows (front-here (c .before .before .before .before) .0 .rows) mostIntervals (front-here (c .before .before .before .before) .0 .names) (intervals (front-here (c .before .before .before .before) .0 .plan)) 0 (replicate places 0)
+    (c .before .before .before .before .before .before .before .before .before .before .before .before .args .file .now) (c .before .before .before .before .before .counted .given .0 .1 .0))
 rows-here c =
-    let g = front-here (c .before .before .before) in
-    let same = rows-same (c .before .before .before .before .before .before .before .before .before .before .before .args .file .now) (g .1) (g .2) (g .3) (replicate mostJobs 0) (g .4) (c .before .before .intervals-of .result) (c .before .before .intervals-of .ensures) (replicate places 0) in
-    c .check-rows .ensures (replicate places 0) ∙ ap onlyPassed same
+    let g = front-here (c .before .before .before .before) in
+    let file = c .before .before .before .before .before .before .before .before .before .before .before .before .args .file .now in
+    let same = rows-same file (g .1) (g .2) (g .3) (replicate mostJobs 0) (g .4) (c .before .before .before .intervals-of .result) (c .before .before .before .intervals-of .ensures) [] in
+    let rows = allRows (g .0 .rows) mostIntervals (g .0 .names) (intervals (g .0 .plan)) 0 [] file (c .before .before .before .before .before .counted .given .0 .1 .0) in
+    rows-passed (c .store-rows .result) (c .store-rows .last .1 .1 .1 .1 .1 .0) rows (rw same at (c .store-rows .ensures))
+    ∙ rows-only (g .0 .rows) mostIntervals (g .0 .names) (intervals (g .0 .plan)) 0 [] (replicate places 0) file (c .before .before .before .before .before .counted .given .0 .1 .0)
 
 slice-aggregate-read-front : tie.Need-slice-aggregate-read-front
 slice-aggregate-read-front c = search needs
@@ -61,15 +64,21 @@ array-share-prefix-names c =
     let g = front-here (c .before) in
     count-within (c .before .before .before .before .before .before .before .before .before .args .file .now) (g .1) (g .2) (g .3) (replicate mostJobs 0) (g .4)
 
-slice-aggregate-check-rows : tie.Need-slice-aggregate-check-rows
-slice-aggregate-check-rows c =
+slice-aggregate-store-rows : tie.Need-slice-aggregate-store-rows
+slice-aggregate-store-rows c =
     let g = front-here (c .before .before) in
     sym (taken-length (c .before .before .before .before .before .before .before .before .before .before .args .file .now) (g .1) (g .2) (g .3) (replicate mostJobs 0) (g .4))
 
-check-rows-requires : tie.Need-check-rows-requires
-check-rows-requires c κs =
-    let g = front-here (c .before .before) in
-    rows-asked (c .before .before .before .before .before .before .before .before .before .before .args .file .now) (g .1) (g .2) (g .3) (replicate mostJobs 0) (g .4) (c .before .intervals-of .result) (c .before .intervals-of .ensures)
+array-borrow-prefix-none : tie.Need-array-borrow-prefix-none
+array-borrow-prefix-none c = search needs
+
+slice-aggregate-store-rows-2 : tie.Need-slice-aggregate-store-rows-2
+slice-aggregate-store-rows-2 c = search needs
+
+store-rows-requires : tie.Need-store-rows-requires
+store-rows-requires c κs =
+    let g = front-here (c .before .before .before) in
+    rows-asked (c .before .before .before .before .before .before .before .before .before .before .before .args .file .now) (g .1) (g .2) (g .3) (replicate mostJobs 0) (g .4) (c .before .before .intervals-of .result) (c .before .before .intervals-of .ensures)
 
 enum-known-checked : tie.Need-enum-known-checked
 enum-known-checked c = search needs
@@ -79,8 +88,8 @@ enum-told-2 c = search needs
 
 returns-2 : tie.Need-returns-2
 returns-2 c =
-    let g = front-here (c .before .before .before .before .before) in
-    rw (file-rowless (c .before .before .before .before .before .before .before .before .before .before .before .before .before .args .file .now) (g .1) (only-refused _ (rows-here (c .before .before)) (c .enum-told2 .given .1))) refl
+    let g = front-here (c .before .before .before .before .before .before .before) in
+    rw (file-rowless (c .before .before .before .before .before .before .before .before .before .before .before .before .before .before .before .args .file .now) (g .1) (only-refused _ (rows-here (c .before .before .before)) (c .enum-told2 .given .1))) refl
 
 read-end-requires : tie.Need-read-end-requires
 read-end-requires c κs = search needs
@@ -93,15 +102,15 @@ enum-told-4 c = search needs
 
 returns-3 : tie.Need-returns-3
 returns-3 c =
-    let g = front-here (c .before .before .before .before .before .before .before .before .before) in
-    let t = only-got _ (rows-here (c .before .before .before .before .before .before)) (c .before .before .before .before .checked .given .1) in
-    rw (file-endless (c .before .before .before .before .before .before .before .before .before .before .before .before .before .before .before .before .before .args .file .now) (g .1) (t .1) (so passedTold (c .before .before .read-end .ensures) (c .enum-told4 .given .1))) refl
+    let g = front-here (c .before .before .before .before .before .before .before .before .before .before .before) in
+    let t = only-got _ (rows-here (c .before .before .before .before .before .before .before)) (c .before .before .before .before .checked .given .1) in
+    rw (file-endless (c .before .before .before .before .before .before .before .before .before .before .before .before .before .before .before .before .before .before .before .args .file .now) (g .1) (t .1) (so passedTold (c .before .before .read-end .ensures) (c .enum-told4 .given .1))) refl
 
 returns-4 : tie.Need-returns-4
 returns-4 c =
-    let g = front-here (c .before .before .before .before .before .before .before .before .before) in
-    let t = only-got _ (rows-here (c .before .before .before .before .before .before)) (c .before .before .before .before .checked .given .1) in
-    rw (file-whole (c .before .before .before .before .before .before .before .before .before .before .before .before .before .before .before .before .before .args .file .now) (g .1) (t .1) (so passedTold (c .before .before .read-end .ensures) (c .enum-told3 .given .1)))
+    let g = front-here (c .before .before .before .before .before .before .before .before .before .before .before) in
+    let t = only-got _ (rows-here (c .before .before .before .before .before .before .before)) (c .before .before .before .before .checked .given .1) in
+    rw (file-whole (c .before .before .before .before .before .before .before .before .before .before .before .before .before .before .before .before .before .before .before .args .file .now) (g .1) (t .1) (so passedTold (c .before .before .read-end .ensures) (c .enum-told3 .given .1)))
     (ap (λ (p : Plan). p .count) (g .3))
 
 pub count-in-spec : {M : Type 1} → statement M
@@ -115,8 +124,10 @@ count-in-spec =
     returns
     intervals-of-requires
     array-share-prefix-names
-    slice-aggregate-check-rows
-    check-rows-requires
+    slice-aggregate-store-rows
+    array-borrow-prefix-none
+    slice-aggregate-store-rows-2
+    store-rows-requires
     enum-known-checked
     enum-told-2
     returns-2

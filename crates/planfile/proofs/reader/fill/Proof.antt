@@ -1,9 +1,8 @@
 -- `planfile::reader::fill` meets its contract: front, rows and end, each reached only through the one before.
-use mathlib.Core.Path.{_≡_, refl, sym, _∙_, ap}
+use mathlib.Core.Path.{_≡_, refl, sym}
 use mathlib.Core.List.{_++_}
-use Prim.Native.Nat.{ℕ}
 use borrow.Author.Needs.{needs}
-use lib.ListN.{length, drop, replicate, length-replicate}
+use lib.ListN.{drop, replicate}
 use Rattle.plan.specs.Edition.{mostJobs, mostIntervals, places}
 use Rattle.plan.specs.Boundaries.{intervals}
 use Rattle.planfields.specs.Fields.{got}
@@ -78,8 +77,7 @@ slice-aggregate-store-rows c =
 store-rows-requires : tie.Need-store-rows-requires
 store-rows-requires c κs =
     let g = front-here (c .before .before .before) in
-    let asked = rows-asked (c .before .before .before .before .before .before .before .before .before .before .before .before .args .file .now) (g .1) (g .2) (g .3) (replicate mostJobs 0) (g .4) (c .before .before .intervals-of .result) (c .before .before .intervals-of .ensures) in
-    (asked .0, asked .1, asked .2, ap length (c .before .before .before .before .before .before .before .before .before .before .before .before .pre) ∙ length-replicate {A = ℕ} places 0)
+    rows-asked (c .before .before .before .before .before .before .before .before .before .before .before .before .args .file .now) (g .1) (g .2) (g .3) (replicate mostJobs 0) (g .4) (c .before .before .intervals-of .result) (c .before .before .intervals-of .ensures)
 
 enum-known-stored : tie.Need-enum-known-stored
 enum-known-stored c = search needs

@@ -1,28 +1,30 @@
--- `planfile::reader::store_rows` meets its contract: after k rows, what is left gives the whole.
+-- `planfile::store::store_rows` meets its contract: after k rows, what is left gives the whole.
 use mathlib.Core.Path.{_≡_, refl, sym, _∙_, ap}
+use mathlib.Core.Logic.{⊎-elim}
 use Prim.Native.Nat.{_-_, _≤_, _<_}
 use native.Mathlib.Nat.{sub-zero}
 use native.Mathlib.Omega.{arith}
 use borrow.Author.Needs.{needs}
-use lib.ListN.{length, length-set}
+use lib.ListN.{length, set, length-set}
+use lib.Seq.{set-out}
 use Rattle.plan.specs.Edition.{mostIntervals, places}
 use Rattle.planfields.specs.Fields.{got}
 use Rattle.planfile.specs.Reading.{oneRow, allRows}
 use Rattle.planfile.specs.Answers.{rowTold, rowRefusal}
 use Rattle.planfields.proofs.Steps.{so, refused}
 use Rattle.planfile.proofs.Rows.{row-inside, left-next, left-stop, left-done}
-use Rattle.planfile.proofs.reader.store_rows.Statement.{statement}
-use Rattle.planfile.proofs.reader.store_rows.Tie as tie
+use Rattle.planfile.proofs.store.store_rows.Statement.{statement}
+use Rattle.planfile.proofs.store.store_rows.Tie as tie
 
 abbrev Inv-loop : tie.InvT-loop
 Inv-loop file at rows names spans table₀ next₀ low₀ job₀ k₀ table next low job k =
-    (k ≤ rows) × (length table ≡ places)
+    (k ≤ rows) × (length table ≡ length table₀)
     × (allRows (rows - k) mostIntervals names spans low table file next ≡ allRows rows mostIntervals names spans 0 table₀ file at)
 
 abbrev μ-loop : tie.MeasureT-loop
 μ-loop file at rows names spans table₀ next₀ low₀ job₀ k₀ table next low job k = rows - k
 
--- The row in hand, and that it has its place.
+-- The row in hand, and that a whole table has its place.
 module _ (c : tie.After-known-told Inv-loop μ-loop) where
   read-here :
       oneRow mostIntervals (c .before .before .before .before .before .before .before .before .before .args .names .now) (c .before .before .before .before .before .before .before .before .before .args .spans) (c .before .before .before .before .before .loop .low) (c .before .before .before .before .before .before .before .before .before .args .file .now) (c .before .before .before .before .before .loop .next)
@@ -35,10 +37,18 @@ module _ (c : tie.After-known-told Inv-loop μ-loop) where
       let pre = c .before .before .before .before .before .before .before .before .before .pre in
       omega (arith, pre .1, row-inside (a .names .now) (a .spans) (c .before .before .before .before .before .loop .low) (a .file .now) (c .before .before .before .before .before .loop .next) read-here (pre .2))
 
+-- A place that the table does not have is not set, which leaves it as it is.
+stored : (c : tie.Joined1 Inv-loop μ-loop)
+    → c .if1 .table ≡ set (c .before .before .before .before .before .before .loop .table) (c .before .before .read .given .0 .0 .at) (c .before .before .read .given .0 .0 .units)
+stored c =
+    ⊎-elim (λ w. w .1)
+    (λ w. w .1 ∙ sym (set-out (c .before .before .before .before .before .before .loop .table) (c .before .before .read .given .0 .0 .at) (c .before .before .read .given .0 .0 .units) (w .0 .left)))
+    (c .if1 .came)
+
 loop-holds : tie.Need-loop-holds Inv-loop μ-loop
 loop-holds c =
     let a = c .before .before .before .args in
-    (omega arith, c .before .before .before .pre .3, ap (λ n. allRows n mostIntervals (a .names .now) (a .spans) 0 (a .table .now) (a .file .now) (a .at)) (sub-zero (a .rows)))
+    (omega arith, refl, ap (λ n. allRows n mostIntervals (a .names .now) (a .spans) 0 (a .table .now) (a .file .now) (a .at)) (sub-zero (a .rows)))
 
 read-row-requires : tie.Need-read-row-requires Inv-loop μ-loop
 read-row-requires c κs =
@@ -54,8 +64,7 @@ row-refusal-requires : tie.Need-row-refusal-requires Inv-loop μ-loop
 row-refusal-requires c κs = search needs
 
 same-length : tie.Need-same-length Inv-loop μ-loop
-same-length c =
-    c .before .before .before .before .before .loop .inv .1 ∙ sym (c .before .before .before .before .before .before .before .before .before .pre .3)
+same-length c = c .before .before .before .before .before .loop .inv .1
 
 returns : tie.Need-returns Inv-loop μ-loop
 returns c =
@@ -65,13 +74,13 @@ returns c =
     (refused rowTold rowRefusal (c .before .before .before .read-row .ensures) (c .before .enum-told .given .1) refl refl (c .row-refusal .ensures))) refl
 
 mul-table : tie.Need-mul-table Inv-loop μ-loop
-mul-table c = record { fits = omega (arith, inside c) }
+mul-table c = record { fits = omega (arith, inside (c .before)) }
 
 slice-write-table : tie.Need-slice-write-table Inv-loop μ-loop
-slice-write-table c = rw (c .before .before .before .before .before .loop .inv .1) (inside c)
+slice-write-table c = c .if1 .taken
 
 add-low : tie.Need-add-low Inv-loop μ-loop
-add-low c = record { fits = omega (arith, inside c) }
+add-low c = record { fits = omega (arith, inside (c .before)) }
 
 add-k : tie.Need-add-k Inv-loop μ-loop
 add-k c = search needs
@@ -81,13 +90,12 @@ loop-less c = search needs
 
 loop-again : tie.Need-loop-again Inv-loop μ-loop
 loop-again c =
-    let a = c .before .before .before .before .before .before .before .before .before .args in
-    let l = c .before .before .before .before .before .loop in
-    (omega arith, simp length-set (l .inv .1), left-next (a .rows) (l .k) mostIntervals (a .names .now) (a .spans) (l .low) (l .table) (a .file .now) (l .next) (l .inv .2) (omega arith) (read-here c))
+    let a = c .before .before .before .before .before .before .before .before .before .before .args in
+    let l = c .before .before .before .before .before .before .loop in
+    rw (stored c) (omega arith, simp length-set (l .inv .1), left-next (a .rows) (l .k) mostIntervals (a .names .now) (a .spans) (l .low) (l .table) (a .file .now) (l .next) (l .inv .2) (omega arith) (read-here (c .before)))
 
 same-length-2 : tie.Need-same-length-2 Inv-loop μ-loop
-same-length-2 c =
-    c .before .loop .inv .1 ∙ sym (c .before .before .before .before .before .pre .3)
+same-length-2 c = c .before .loop .inv .1
 
 returns-2 : tie.Need-returns-2 Inv-loop μ-loop
 returns-2 c =

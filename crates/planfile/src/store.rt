@@ -1,0 +1,43 @@
+// Storing rows in their order, for the reader and for the lookup, which only checks them.
+use crate::row::RowRead;
+use crate::row::read_row;
+use crate::row::row_refusal;
+use planfields::field::Passed;
+ghost use Prim.Native.Nat.{_≤_};
+ghost use lib.ListN.{length};
+ghost use Rattle.plan.specs.Edition.{mostJobs, mostIntervals};
+ghost use Rattle.planfile.specs.Reading.{allRows};
+ghost use Rattle.planfile.specs.Answers.{Distinct, RowsAnswer};
+
+// Stores a count of rows in a table, each where the table has its place; the lookup lends one without places.
+pub(crate) fn store_rows(
+    file: &[u8],
+    at: usize,
+    rows: usize,
+    names: &[u64],
+    spans: usize,
+    table: &mut [u32],
+) -> Passed
+    requires { ⌜ Distinct (now names) × (length (now names) ≤ mostJobs) × (spans ≤ mostIntervals) ⌝ }
+    ensures { λ r. ⌜ RowsAnswer (allRows rows mostIntervals (now (names .entry)) spans 0 (now (table .entry)) (now (file .entry)) at) r (now (table .exit)) ⌝ }
+{
+    let mut next = at;
+    let mut low = 0;
+    let mut job = 0;
+    let mut k = 0;
+    while k < rows {
+        let read = read_row(file, next, names, spans, low, job);
+        let RowRead::Row(row, after) = read else {
+            return Passed::Refused(row_refusal(read));
+        };
+        let place = row.at;
+        if place < table.len() {
+            table[place] = row.units;
+        }
+        low = place + 1;
+        job = row.job;
+        next = after;
+        k += 1;
+    }
+    Passed::Next(next)
+}
