@@ -4,7 +4,6 @@ use mathlib.Core.List.{List, [], _∷_, _++_}
 use Prim.Native.Nat.{ℕ, _<_}
 use lib.ListN.{length, getD, drop}
 use Rattle.plan.specs.declared.kinds.Job.{Job}
-use Rattle.planfields.specs.declared.field.Field.{Field}
 use Rattle.planfields.specs.declared.field.Field.the-variants as field
 use Rattle.planfields.specs.declared.field.Passed.{Passed}
 use Rattle.planfields.specs.declared.field.Passed.the-variants as passed
