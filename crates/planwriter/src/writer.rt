@@ -14,7 +14,7 @@ ghost use Prim.Native.Nat.{ℕ, _+_, _*_, _≤_, _<_, _^_};
 ghost use lib.Dec.{eqb};
 ghost use lib.ListN.{length};
 ghost use lib.Seq.{sets};
-ghost use Rattle.plan.specs.Edition.{mostJobs, mostIntervals, jobLength};
+ghost use Rattle.plan.specs.Edition.{mostJobs, mostIntervals, places, jobLength};
 ghost use Rattle.plan.specs.Rules.{size};
 ghost use Rattle.planwriter.specs.Writing.{jobsBytes, rowsBytes, rowCount, body, written};
 ghost use Rattle.planwriter.specs.Answers.{Writable, Writes};
@@ -59,22 +59,24 @@ fn put_rows(out: &mut [u8], at: usize, names: &[u64], table: &[u32], rows: usize
 }
 
 // 1 for an allotment that has a row.
-fn row_of(units: u32) -> usize
+fn row_of(units: u32) -> u32
     ensures { λ r. ⌜ r ≡ cond (eqb units 0) 0 1 ⌝ }
 {
     if units == 0 { 0 } else { 1 }
 }
 
+// Counts in 32 bits, the width of a place: more places are looked at at once.
 fn rows_in(table: &[u32]) -> usize
+    requires { ⌜ length (now table) ≤ places ⌝ }
     ensures { λ r. ⌜ r ≡ rowCount (now (table .entry)) ⌝ }
 {
-    let mut rows = 0;
+    let mut rows: u32 = 0;
     let mut q = 0;
     while q < table.len() {
         rows += row_of(table[q]);
         q += 1;
     }
-    rows
+    rows as usize
 }
 
 // All that follows the length field.

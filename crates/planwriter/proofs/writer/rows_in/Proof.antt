@@ -46,6 +46,12 @@ loop-again c =
     let l = c .before .before .before .loop in
     (omega arith, count-next (c .before .before .before .before .before .args .table .now) (l .q) (c .before .before .loop-test .taken) (l .inv .1) (c .row-of .ensures))
 
+cast-result : tie.Need-cast-result Inv-loop μ-loop
+cast-result c =
+    let l = c .before .loop in
+    let t = c .before .before .before .args .table .now in
+    omega (arith, l .inv .1, count-few (take (l .q) t), length-take (l .q) t, c .before .before .before .pre)
+
 returns : tie.Need-returns Inv-loop μ-loop
 returns c =
     let l = c .before .loop in
@@ -66,4 +72,5 @@ rows-in-spec =
     add-q
     loop-less
     loop-again
+    cast-result
     returns)

@@ -49,7 +49,7 @@ slice-aggregate-rows-in c =
     sym (length-take-le places (c .before .before .before .before .before .before .args .table .now) (c .before .before .before .if1 .left))
 
 rows-in-requires : tie.Need-rows-in-requires
-rows-in-requires c κs = search needs
+rows-in-requires c κs = omega (arith, writable-here (c .before) .exact)
 
 add-jobs : tie.Need-add-jobs
 add-jobs c = search needs
