@@ -68,6 +68,7 @@ writable p table e long =
           let t = bounds-each p (s .bounds) i (rw (counted-is p (c .1)) h) .1 in
           omega (arith, leb-true (size p i) mostSize (both (leb 1 (size p i)) (leb (size p i) mostSize) t .1));
       exact = length-take-le places table long;
+      clear = s .clear;
     }
 
 -- The body, field by field, and its length.

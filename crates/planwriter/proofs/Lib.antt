@@ -1,4 +1,5 @@
 pub mod Sets
 pub mod Pages
+pub mod JobRows
 pub mod Files
 pub mod Told

@@ -9,12 +9,11 @@ use native.Mathlib.Omega.{arith}
 use borrow.Author.Tests.{eq-eqb, ne-eqb}
 use lib.Dec.{eqb}
 use lib.ListN.{length, getD, take, drop, length-append, take-append-drop}
-use lib.Seq.{sets, take-suc, take-all, length-take-le}
-use Rattle.plan.specs.Edition.{jobLength, rowLength}
+use lib.Seq.{sets, take-suc, length-take-le}
+use Rattle.plan.specs.Edition.{mostIntervals, jobLength, rowLength}
 use Rattle.plan.specs.Rules.{jobOf}
 use Rattle.plan.specs.declared.kinds.Job.{Job}
 use Rattle.plan.specs.declared.kinds.Plan.{Plan}
-use Rattle.plan.proofs.Rising.{by-order}
 use Rattle.planfields.specs.Bytes.{bytes}
 use Rattle.planwriter.specs.Writing.{jobBytes, jobsBytes, rowBytes, rowAt, rowsBytes, rowCount}
 use Rattle.planfields.proofs.Digits.{length-bytes}
@@ -44,13 +43,16 @@ pub jobs-next : (p : Plan) (i : ℕ) → jobsBytes p i ++ jobBytes (jobOf p i) �
 unfolding jobsBytes
 jobs-next p i = rw (add-one i) refl
 
--- What a place has: nothing, or a row.
-module _ (width : ℕ) (names : List ℕ) (q units : ℕ) where
-  pub place-none : units ≡ 0 → rowAt width names q units ≡ []
+-- What a job's place has: nothing, or a row.
+module _ (name interval units : ℕ) where
+  pub place-none : units ≡ 0 → rowAt mostIntervals (name ∷ []) interval units ≡ []
   place-none e = rw (eq-eqb units 0 e)
 
-  pub place-row : (units ≡ 0 → ⊥) → rowAt width names q units ≡ rowBytes (getD names (q / width) 0) (q % width) units
-  place-row h = rw (ne-eqb units 0 h)
+  pub place-row : (units ≡ 0 → ⊥) → interval < mostIntervals → rowAt mostIntervals (name ∷ []) interval units ≡ rowBytes name interval units
+  place-row h l =
+      let d : interval / mostIntervals ≡ 0 = omega arith in
+      let m : interval % mostIntervals ≡ interval = omega arith in
+      rw (ne-eqb units 0 h, d, m) refl
 
 -- Rows of some places, and of the places behind them.
 pub rows-split : (width : ℕ) (names : List ℕ) (q : ℕ) (a b : List ℕ)
@@ -70,6 +72,16 @@ pub rows-none : (width : ℕ) (names : List ℕ) (q : ℕ) → rowsBytes width n
 unfolding rowsBytes
 rows-none width names q = refl
 
+-- The rows of the first places are no longer than all rows.
+pub rows-within : (width : ℕ) (names table : List ℕ) (n : ℕ) → length (rowsBytes width names 0 (take n table)) ≤ length (rowsBytes width names 0 table)
+rows-within width names table n =
+    let a = take n table in
+    let b = drop n table in
+    let whole : length (rowsBytes width names 0 table) ≡ length (rowsBytes width names 0 a) + length (rowsBytes width names (0 + length a) b)
+    = ap (λ l. length (rowsBytes width names 0 l)) (sym (take-append-drop n table)) ∙ ap length (rows-split width names 0 a b)
+    ∙ length-append (rowsBytes width names 0 a) (rowsBytes width names (0 + length a) b) in
+    omega (arith, whole)
+
 -- The rows of the places passed, as a loop goes on.
 module _ (width : ℕ) (names table : List ℕ) (q : ℕ) (h : q < length table) where
   pub rows-next : rowsBytes width names 0 (take q table) ++ rowAt width names q (getD table q 0) ≡ rowsBytes width names 0 (take (q + 1) table)
@@ -82,35 +94,8 @@ module _ (width : ℕ) (names table : List ℕ) (q : ℕ) (h : q < length table)
 
   pub rows-fit : length (rowsBytes width names 0 (take q table)) + length (rowAt width names q (getD table q 0)) ≤ length (rowsBytes width names 0 table)
   rows-fit =
-      let a = take (q + 1) table in
-      let b = drop (q + 1) table in
-      let whole : length (rowsBytes width names 0 table) ≡ length (rowsBytes width names 0 a) + length (rowsBytes width names (0 + length a) b)
-      = ap (λ l. length (rowsBytes width names 0 l)) (sym (take-append-drop (q + 1) table)) ∙ ap length (rows-split width names 0 a b)
-      ∙ length-append (rowsBytes width names 0 a) (rowsBytes width names (0 + length a) b) in
       let here = sym (length-append (rowsBytes width names 0 (take q table)) (rowAt width names q (getD table q 0))) ∙ ap length rows-next in
-      omega (arith, whole, here)
-
-empty : (l : List ℕ) → length l ≡ 0 → l ≡ []
-empty [] e = refl
-empty (x ∷ l) e = absurd (omega (arith, e))
-
--- Where the rows of the places passed are no shorter than all rows, they are all; and where they are shorter, a place is left.
-module _ (width : ℕ) (names table : List ℕ) (q : ℕ) where
-  pub rows-all : length (rowsBytes width names 0 table) ≤ length (rowsBytes width names 0 (take q table))
-      → rowsBytes width names 0 (take q table) ≡ rowsBytes width names 0 table
-  rows-all same =
-      let rest = rowsBytes width names (0 + length (take q table)) (drop q table) in
-      let whole : rowsBytes width names 0 table ≡ rowsBytes width names 0 (take q table) ++ rest
-      = ap (rowsBytes width names 0) (sym (take-append-drop q table)) ∙ rows-split width names 0 (take q table) (drop q table) in
-      let none : length rest ≡ 0 = omega (arith, same, ap length whole, length-append (rowsBytes width names 0 (take q table)) rest) in
-      sym (whole ∙ ap (λ l. rowsBytes width names 0 (take q table) ++ l) (empty rest none) ∙ append-nil (rowsBytes width names 0 (take q table)))
-
-  pub rows-left : length (rowsBytes width names 0 (take q table)) < length (rowsBytes width names 0 table) → q < length table
-  rows-left more =
-      by-order q (length table)
-      (λ e. absurd (omega (arith, more, ap (λ l. length (rowsBytes width names 0 l)) (take-all q table (omega arith)))))
-      (λ m. m)
-      (λ m. absurd (omega (arith, more, ap (λ l. length (rowsBytes width names 0 l)) (take-all q table (omega arith)))))
+      omega (arith, rows-within width names table (q + 1), here)
 
 -- The count of rows, the same way.
 pub count-split : (a b : List ℕ) → rowCount (a ++ b) ≡ rowCount a + rowCount b

@@ -2,7 +2,8 @@
 use plan::edition::Edition;
 use plan::kinds::Job;
 ghost use mathlib.Core.Path.{_≡_};
-ghost use Prim.Native.Nat.{_+_, _*_, _/_, _≤_, _<_, _^_};
+ghost use mathlib.Core.List.{[], _∷_};
+ghost use Prim.Native.Nat.{_+_, _≤_, _<_, _^_};
 ghost use lib.ListN.{length};
 ghost use lib.Seq.{sets};
 ghost use Rattle.plan.specs.Edition.{mostIntervals, jobLength, rowLength};
@@ -50,14 +51,13 @@ fn put_row(out: &mut [u8], at: usize, name: u64, interval: usize, units: u32) ->
     put(out, after_interval, 4, units as u64)
 }
 
-// Writes what a place has: a row, or nothing for a zero allotment.
-pub(crate) fn put_place(out: &mut [u8], at: usize, names: &[u64], place: usize, units: u32) -> usize
-    requires { ⌜ (at + length (rowAt mostIntervals (now names) place units) ≤ length (now out)) × (place < mostIntervals * length (now names)) ⌝ }
-    ensures { λ r. ⌜ (r ≡ at + length (rowAt mostIntervals (now (names .entry)) place units)) × (now (out .exit) ≡ sets (now (out .entry)) at (rowAt mostIntervals (now (names .entry)) place units)) ⌝ }
+// Writes what a job's place has: a row, or nothing for a zero allotment.
+pub(crate) fn put_place(out: &mut [u8], at: usize, name: u64, interval: usize, units: u32) -> usize
+    requires { ⌜ (at + length (rowAt mostIntervals (name ∷ []) interval units) ≤ length (now out)) × (interval < mostIntervals) ⌝ }
+    ensures { λ r. ⌜ (r ≡ at + length (rowAt mostIntervals (name ∷ []) interval units)) × (now (out .exit) ≡ sets (now (out .entry)) at (rowAt mostIntervals (name ∷ []) interval units)) ⌝ }
 {
     if units == 0 {
         return at;
     }
-    let job = place / Edition::MOST_INTERVALS;
-    put_row(out, at, names[job], place % Edition::MOST_INTERVALS, units)
+    put_row(out, at, name, interval, units)
 }

@@ -2,6 +2,7 @@
 use crate::put::put;
 use crate::put::put_job;
 use crate::put::put_place;
+use plan::boundaries::intervals_of;
 use plan::edition::Edition;
 use plan::kinds::Plan;
 use plan::refusal::BUFFER_TOO_SHORT;
@@ -9,13 +10,16 @@ use plan::refusal::UNSOUND;
 use plan::rules::names_of;
 use plan::table::sound_of;
 ghost use mathlib.Core.Path.{_≡_};
-ghost use mathlib.Core.Bool.{cond};
+ghost use mathlib.Core.Bool.{true, cond};
+ghost use mathlib.Core.List.{[], _∷_};
 ghost use Prim.Native.Nat.{ℕ, _+_, _*_, _≤_, _<_, _^_};
 ghost use lib.Dec.{eqb};
 ghost use lib.ListN.{length};
 ghost use lib.Seq.{sets};
 ghost use Rattle.plan.specs.Edition.{mostJobs, mostIntervals, places, jobLength};
 ghost use Rattle.plan.specs.Rules.{size};
+ghost use Rattle.plan.specs.Boundaries.{intervals};
+ghost use Rattle.plan.specs.Table.{noStray};
 ghost use Rattle.planwriter.specs.Writing.{jobsBytes, rowsBytes, rowCount, body, written};
 ghost use Rattle.planwriter.specs.Answers.{Writable, Writes};
 
@@ -43,17 +47,38 @@ fn put_jobs(out: &mut [u8], at: usize, p: Plan) -> usize
     next
 }
 
-// Writes the rows of a table, of which there are so many; behind the last one no place is looked at.
-fn put_rows(out: &mut [u8], at: usize, names: &[u64], table: &[u32], rows: usize) -> usize
-    requires { ⌜ (at + length (rowsBytes mostIntervals (now names) 0 (now table)) ≤ length (now out)) × (length (now table) ≤ mostIntervals * length (now names)) × (rows ≡ rowCount (now table)) ⌝ }
+// Writes the rows of a job, whose name and allotments these are.
+fn put_job_rows(out: &mut [u8], at: usize, name: u64, row: &[u32]) -> usize
+    requires { ⌜ (at + length (rowsBytes mostIntervals (name ∷ []) 0 (now row)) ≤ length (now out)) × (length (now row) ≤ mostIntervals) ⌝ }
+    ensures { λ r. ⌜ (r ≡ at + length (rowsBytes mostIntervals (name ∷ []) 0 (now (row .entry)))) × (now (out .exit) ≡ sets (now (out .entry)) at (rowsBytes mostIntervals (name ∷ []) 0 (now (row .entry)))) ⌝ }
+{
+    let mut next = at;
+    let mut j = 0;
+    while j < row.len() {
+        next = put_place(out, next, name, j, row[j]);
+        j += 1;
+    }
+    next
+}
+
+// Writes the rows of a table, job by job: past the jobs and past the intervals there are none, so no place there is looked at.
+fn put_rows(
+    out: &mut [u8],
+    at: usize,
+    names: &[u64],
+    table: &[u32],
+    jobs: usize,
+    spans: usize,
+) -> usize
+    requires { ⌜ (at + length (rowsBytes mostIntervals (now names) 0 (now table)) ≤ length (now out)) × (jobs ≤ length (now names)) × (mostIntervals * jobs ≤ length (now table)) × (spans ≤ mostIntervals) × (noStray mostIntervals jobs spans 0 (now table) ≡ true) ⌝ }
     ensures { λ r. ⌜ now (out .exit) ≡ sets (now (out .entry)) at (rowsBytes mostIntervals (now (names .entry)) 0 (now (table .entry))) ⌝ }
 {
-    let end = at + rows * (1 + Edition::ROW_LENGTH);
     let mut next = at;
-    let mut q = 0;
-    while next < end {
-        next = put_place(out, next, names, q, table[q]);
-        q += 1;
+    let mut i = 0;
+    while i < jobs {
+        let from = Edition::MOST_INTERVALS * i;
+        next = put_job_rows(out, next, names[i], &table[from..from + spans]);
+        i += 1;
     }
     next
 }
@@ -80,8 +105,8 @@ fn rows_in(table: &[u32]) -> usize
 }
 
 // All that follows the length field.
-fn put_body(out: &mut [u8], at: usize, p: Plan, table: &[u32], rows: usize) -> usize
-    requires { ⌜ (at + length (body p (now table)) ≤ length (now out)) × Writable p (now table) × (rows ≡ rowCount (now table)) ⌝ }
+fn put_body(out: &mut [u8], at: usize, p: Plan, table: &[u32], rows: usize, spans: usize) -> usize
+    requires { ⌜ (at + length (body p (now table)) ≤ length (now out)) × Writable p (now table) × (rows ≡ rowCount (now table)) × (spans ≡ intervals p) ⌝ }
     ensures { λ r. ⌜ now (out .exit) ≡ sets (now (out .entry)) at (body p (now (table .entry))) ⌝ }
 {
     let n = p.n;
@@ -92,16 +117,16 @@ fn put_body(out: &mut [u8], at: usize, p: Plan, table: &[u32], rows: usize) -> u
     let after_jobs = put_jobs(out, after_count, p);
     let after_rows = put(out, after_jobs, 2, rows as u64);
     let names = names_of(p);
-    put_rows(out, after_rows, &names, table, rows)
+    put_rows(out, after_rows, &names, table, p.count, spans)
 }
 
-fn put_file(out: &mut [u8], p: Plan, table: &[u32], rows: usize, follows: usize)
-    requires { ⌜ (length (written p (now table)) ≤ length (now out)) × Writable p (now table) × (rows ≡ rowCount (now table)) × (follows ≡ length (body p (now table))) ⌝ }
+fn put_file(out: &mut [u8], p: Plan, table: &[u32], rows: usize, follows: usize, spans: usize)
+    requires { ⌜ (length (written p (now table)) ≤ length (now out)) × Writable p (now table) × (rows ≡ rowCount (now table)) × (follows ≡ length (body p (now table))) × (spans ≡ intervals p) ⌝ }
     ensures { λ r. ⌜ now (out .exit) ≡ sets (now (out .entry)) 0 (written p (now (table .entry))) ⌝ }
 {
     let after_version = put(out, 0, 1, Edition::VERSION as u64);
     let after_length = put(out, after_version, 4, follows as u64);
-    put_body(out, after_length, p, table, rows);
+    put_body(out, after_length, p, table, rows, spans);
 }
 
 // Writes the plan file of a sound plan and its table.
@@ -111,6 +136,7 @@ pub fn write(p: Plan, table: &[u32], out: &mut [u8]) -> Written
     if table.len() < Edition::PLACES {
         return Written::Refused(BUFFER_TOO_SHORT);
     }
+    let spans = intervals_of(p);
     if !sound_of(p, table) {
         return Written::Refused(UNSOUND);
     }
@@ -124,6 +150,6 @@ pub fn write(p: Plan, table: &[u32], out: &mut [u8]) -> Written
     if out.len() < length {
         return Written::Refused(BUFFER_TOO_SHORT);
     }
-    put_file(out, p, &table[..Edition::PLACES], rows, follows);
+    put_file(out, p, &table[..Edition::PLACES], rows, follows, spans);
     Written::Length(length)
 }

@@ -1,15 +1,18 @@
 -- `planwriter::writer::put_body` meets its contract: each part stands behind the one before.
 use Prim.Native.Nat.{_+_}
-use mathlib.Core.Path.{_≡_, refl, sym, _∙_, ap}
+use mathlib.Core.Path.{_≡_, refl, sym, _∙_, ap, ap₂}
 use native.Mathlib.Omega.{arith}
 use borrow.Author.Needs.{needs}
 use lib.ListN.{length}
 use lib.Seq.{sets}
 use Rattle.plan.specs.Edition.{mostJobs, mostIntervals}
+use Rattle.plan.specs.Rules.{counted}
+use Rattle.plan.specs.Table.{noStray}
+use Rattle.plan.proofs.Rising.{boundaries-few}
 use Rattle.planwriter.specs.Writing.{jobsBytes, rowsBytes}
 use Rattle.planwriter.proofs.Sets.{put-start, put-on}
 use Rattle.planwriter.proofs.Pages.{put-field, jobs-long, rows-long, count-few}
-use Rattle.planwriter.proofs.Files.{body-of, body-long}
+use Rattle.planwriter.proofs.Files.{counted-is, body-of, body-long}
 use Rattle.planwriter.proofs.writer.put_body.Statement.{statement}
 use Rattle.planwriter.proofs.writer.put_body.Tie as tie
 
@@ -50,7 +53,8 @@ put-rows-requires c κs =
     let ns = c .before .before .names-of .result in
     let n : length ns ≡ mostJobs = c .before .before .names-of .ok .1 .0 .1 in
     let a = c .before .before .before .before .before .before .before .before .before .before .before .before .before .before .before .before .before .before .before .before .before .before .before .before .before .before .before .before .before .args in
-    (omega (arith, body-long (c .before .before .before .before .before .before .before .before .before .before .before .before .before .before .before .before .before .before .before .before .before .before .before .before .before .before .before .before .before .args .p) (c .before .before .before .before .before .before .before .before .before .before .before .before .before .before .before .before .before .before .before .before .before .before .before .before .before .before .before .before .before .args .table .now) (c .before .before .before .before .before .before .before .before .before .before .before .before .before .before .before .before .before .before .before .before .before .before .before .before .before .before .before .before .before .pre .1 .few), c .before .before .before .before .before .before .before .before .before .before .before .before .before .before .before .before .before .before .before .before .before .before .before .before .before .before .before .before .before .pre .0, c .before .before .before .before .before .before .before .before .before .before .before .before .before .before .before .before .before .before .before .before .before .before .before .before .before .before .before .before .before .pre .1 .few, c .before .before .before .before .before .before .before .before .before .before .before .before .before .before .before .before .before .before .before .before .before .before .put .ensures .0, c .before .before .before .before .before .before .before .before .before .before .before .before .before .before .before .before .before .before .before .before .before .before .put .kept .0, c .before .before .before .before .before .before .before .before .before .before .before .before .before .before .before .before .before .put2 .ensures .0, c .before .before .before .before .before .before .before .before .before .before .before .before .before .before .before .before .before .put2 .kept .0, c .before .before .before .before .before .before .before .before .before .before .before .before .before .put3 .ensures .0, c .before .before .before .before .before .before .before .before .before .before .before .before .before .put3 .kept .0, c .before .before .before .before .before .before .before .before .before .put-jobs .ensures .0, c .before .before .before .before .before .before .before .before .before .put-jobs .kept .0, c .before .before .before .before .before .put4 .ensures .0, c .before .before .before .before .before .put4 .kept .0, rows-long mostIntervals ns 0 (a .table .now)), omega (arith, n, c .before .before .before .before .before .before .before .before .before .before .before .before .before .before .before .before .before .before .before .before .before .before .before .before .before .before .before .before .before .pre .1 .exact), c .before .before .before .before .before .before .before .before .before .before .before .before .before .before .before .before .before .before .before .before .before .before .before .before .before .before .before .before .before .pre .2)
+    let pre = c .before .before .before .before .before .before .before .before .before .before .before .before .before .before .before .before .before .before .before .before .before .before .before .before .before .before .before .before .before .pre in
+    (omega (arith, body-long (c .before .before .before .before .before .before .before .before .before .before .before .before .before .before .before .before .before .before .before .before .before .before .before .before .before .before .before .before .before .args .p) (c .before .before .before .before .before .before .before .before .before .before .before .before .before .before .before .before .before .before .before .before .before .before .before .before .before .before .before .before .before .args .table .now) (c .before .before .before .before .before .before .before .before .before .before .before .before .before .before .before .before .before .before .before .before .before .before .before .before .before .before .before .before .before .pre .1 .few), c .before .before .before .before .before .before .before .before .before .before .before .before .before .before .before .before .before .before .before .before .before .before .before .before .before .before .before .before .before .pre .0, c .before .before .before .before .before .before .before .before .before .before .before .before .before .before .before .before .before .before .before .before .before .before .before .before .before .before .before .before .before .pre .1 .few, c .before .before .before .before .before .before .before .before .before .before .before .before .before .before .before .before .before .before .before .before .before .before .put .ensures .0, c .before .before .before .before .before .before .before .before .before .before .before .before .before .before .before .before .before .before .before .before .before .before .put .kept .0, c .before .before .before .before .before .before .before .before .before .before .before .before .before .before .before .before .before .put2 .ensures .0, c .before .before .before .before .before .before .before .before .before .before .before .before .before .before .before .before .before .put2 .kept .0, c .before .before .before .before .before .before .before .before .before .before .before .before .before .put3 .ensures .0, c .before .before .before .before .before .before .before .before .before .before .before .before .before .put3 .kept .0, c .before .before .before .before .before .before .before .before .before .put-jobs .ensures .0, c .before .before .before .before .before .before .before .before .before .put-jobs .kept .0, c .before .before .before .before .before .put4 .ensures .0, c .before .before .before .before .before .put4 .kept .0, rows-long mostIntervals ns 0 (a .table .now)), omega (arith, n, pre .1 .few), omega (arith, pre .1 .exact, pre .1 .few), omega (arith, pre .3, boundaries-few (a .p) (counted (a .p))), ap₂ (λ jobs spans. noStray mostIntervals jobs spans 0 (a .table .now)) (sym (counted-is (a .p) (pre .1 .few))) (pre .3) ∙ pre .1 .clear)
 
 same-length : tie.Need-same-length
 same-length c = search needs

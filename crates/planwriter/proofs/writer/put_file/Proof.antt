@@ -26,7 +26,7 @@ put-requires-2 c κs =
 
 put-body-requires : tie.Need-put-body-requires
 put-body-requires c κs =
-    (omega (arith, written-long (c .before .before .before .before .before .before .before .before .before .before .before .args .p) (c .before .before .before .before .before .before .before .before .before .before .before .args .table .now), c .before .before .before .before .before .before .before .before .before .before .before .pre .0, c .before .before .before .before .before .before .before .put .ensures .0, c .before .before .before .before .before .before .before .put .kept .0, c .before .before .before .put2 .ensures .0, c .before .before .before .put2 .kept .0), c .before .before .before .before .before .before .before .before .before .before .before .pre .1, c .before .before .before .before .before .before .before .before .before .before .before .pre .2)
+    (omega (arith, written-long (c .before .before .before .before .before .before .before .before .before .before .before .args .p) (c .before .before .before .before .before .before .before .before .before .before .before .args .table .now), c .before .before .before .before .before .before .before .before .before .before .before .pre .0, c .before .before .before .before .before .before .before .put .ensures .0, c .before .before .before .before .before .before .before .put .kept .0, c .before .before .before .put2 .ensures .0, c .before .before .before .put2 .kept .0), c .before .before .before .before .before .before .before .before .before .before .before .pre .1, c .before .before .before .before .before .before .before .before .before .before .before .pre .2, c .before .before .before .before .before .before .before .before .before .before .before .pre .4)
 
 same-length : tie.Need-same-length
 same-length c = search needs

@@ -1,77 +1,83 @@
--- `planwriter::writer::put_rows` meets its contract: after q places, their rows stand one behind the other, and behind the last row no
--- place has one.
-use lib.Seq.{sets}
-use mathlib.Core.Path.{_∙_, ap}
-use Prim.Native.Nat.{_-_, _≤_, _<_}
+-- `planwriter::writer::put_rows` meets its contract: after i jobs, the rows of their places stand one behind the other.
+use mathlib.Core.Path.{_≡_, _∙_, ap}
+use mathlib.Core.List.{[], _∷_}
+use Prim.Native.Nat.{_+_, _*_, _-_, _≤_}
 use native.Mathlib.Omega.{arith}
 use borrow.Author.Needs.{needs}
-use lib.ListN.{length, getD, take}
+use lib.ListN.{length, getD, take, drop, length-take}
+use lib.Seq.{sets}
 use Rattle.plan.specs.Edition.{mostIntervals}
-use Rattle.planwriter.specs.Writing.{rowAt, rowsBytes}
+use Rattle.planwriter.specs.Writing.{rowsBytes}
 use Rattle.planwriter.proofs.Sets.{Put, put-start, put-length, put-on}
-use Rattle.planwriter.proofs.Pages.{rows-next, rows-fit, rows-none, rows-long, rows-all, rows-left}
+use Rattle.planwriter.proofs.Pages.{rows-none}
+use Rattle.planwriter.proofs.JobRows.{job-rows-next, job-rows-fit, job-rows-all}
 use Rattle.planwriter.proofs.writer.put_rows.Statement.{statement}
 use Rattle.planwriter.proofs.writer.put_rows.Tie as tie
 
 abbrev Inv-loop : tie.InvT-loop
-Inv-loop out₀ at names table rows end next₀ q₀ out next q = (q ≤ length table) × Put out₀ at (rowsBytes mostIntervals names 0 (take q table)) out next
+Inv-loop out₀ at names table jobs spans next₀ i₀ out next i = (i ≤ jobs) × Put out₀ at (rowsBytes mostIntervals names 0 (take (mostIntervals * i) table)) out next
 
 abbrev μ-loop : tie.MeasureT-loop
-μ-loop out₀ at names table rows end next₀ q₀ out next q = length table - q
+μ-loop out₀ at names table jobs spans next₀ i₀ out next i = jobs - i
 
--- While rows are left, so is a place.
-inside : (c : tie.In-loop Inv-loop μ-loop) → c .before .loop .q < length (c .before .before .before .before .before .args .table .now)
-inside c =
-    let a = c .before .before .before .before .before .args in
-    let l = c .before .loop in
-    rows-left mostIntervals (a .names .now) (a .table .now) (l .q)
-    (omega (arith, c .loop-test .taken, l .inv .1 .ends, c .before .before .before .before .before .pre .2, rows-long mostIntervals (a .names .now) 0 (a .table .now)))
-
-add-end : tie.Need-add-end Inv-loop μ-loop
-add-end c = search needs
-
-mul-end : tie.Need-mul-end Inv-loop μ-loop
-mul-end c =
-    let a = c .before .before .before .args in
-    omega (arith, c .before .before .before .pre .0, c .before .before .before .pre .2, rows-long mostIntervals (a .names .now) 0 (a .table .now))
-
-add-end-2 : tie.Need-add-end-2 Inv-loop μ-loop
-add-end-2 c =
-    let a = c .before .before .before .args in
-    omega (arith, c .before .before .before .pre .0, c .before .before .before .pre .2, rows-long mostIntervals (a .names .now) 0 (a .table .now))
+-- The places of the next job stand in the table.
+inside : (c : tie.In-loop Inv-loop μ-loop) → mostIntervals * c .before .loop .i + mostIntervals ≤ length (c .before .before .before .before .before .args .table .now)
+inside c = omega (arith, c .loop-test .taken, c .before .before .before .before .before .pre .2)
 
 loop-holds : tie.Need-loop-holds Inv-loop μ-loop
 loop-holds c =
     let a = c .before .before .before .args in
     (omega arith, rw (rows-none mostIntervals (a .names .now) 0) (put-start (a .out .now) (a .at)))
 
-mul-put-place : tie.Need-mul-put-place Inv-loop μ-loop
-mul-put-place c = omega (arith, inside (c .before))
+mul-from : tie.Need-mul-from Inv-loop μ-loop
+mul-from c = omega (arith, inside c)
 
-shared-slice-read-put-place : tie.Need-shared-slice-read-put-place Inv-loop μ-loop
-shared-slice-read-put-place c = inside (c .before .before)
+mul-put-job-rows : tie.Need-mul-put-job-rows Inv-loop μ-loop
+mul-put-job-rows c = omega (arith, inside (c .before))
 
-put-place-requires : tie.Need-put-place-requires Inv-loop μ-loop
-put-place-requires c κs =
-    let l = c .before .before .before .loop in
-    let a = c .before .before .before .before .before .before .before .args in
-    let pre = c .before .before .before .before .before .before .before .pre in
-    (omega (arith, pre .0, l .inv .1 .ends, put-length (l .inv .1), rows-fit mostIntervals (a .names .now) (a .table .now) (l .q) (inside (c .before .before))), omega (arith, pre .1, inside (c .before .before)))
+shared-slice-read-put-job-rows : tie.Need-shared-slice-read-put-job-rows Inv-loop μ-loop
+shared-slice-read-put-job-rows c =
+    omega (arith, c .before .before .loop-test .taken, c .before .before .before .before .before .before .before .pre .1)
 
-add-q : tie.Need-add-q Inv-loop μ-loop
-add-q c = omega (arith, inside (c .before .before .before .before .before))
+add-put-job-rows : tie.Need-add-put-job-rows Inv-loop μ-loop
+add-put-job-rows c = omega (arith, inside (c .before .before), c .before .before .before .before .before .before .before .pre .3)
+
+mul-put-job-rows-2 : tie.Need-mul-put-job-rows-2 Inv-loop μ-loop
+mul-put-job-rows-2 c = omega (arith, inside (c .before .before))
+
+sub-put-job-rows : tie.Need-sub-put-job-rows Inv-loop μ-loop
+sub-put-job-rows c = search needs
+
+part-put-job-rows-start : tie.Need-part-put-job-rows-start Inv-loop μ-loop
+part-put-job-rows-start c = search needs
+
+part-put-job-rows-end : tie.Need-part-put-job-rows-end Inv-loop μ-loop
+part-put-job-rows-end c = omega (arith, inside (c .before .before), c .before .before .before .before .before .before .before .pre .3)
+
+put-job-rows-requires : tie.Need-put-job-rows-requires Inv-loop μ-loop
+put-job-rows-requires c κs =
+    let l = c .before .before .before .before .loop in
+    let a = c .before .before .before .before .before .before .before .before .args in
+    let pre = c .before .before .before .before .before .before .before .before .pre in
+    let n = mostIntervals * l .i + a .spans - mostIntervals * l .i in
+    (omega (arith, pre .0, l .inv .1 .ends, put-length (l .inv .1), job-rows-fit (a .names .now) (a .table .now) (a .jobs) (a .spans) (pre .4) (l .i) {n = n} (omega arith) (pre .3) (inside (c .before .before .before))), omega (arith, pre .3, length-take n (drop (mostIntervals * l .i) (a .table .now))))
+
+add-i : tie.Need-add-i Inv-loop μ-loop
+add-i c = search needs
 
 loop-less : tie.Need-loop-less Inv-loop μ-loop
-loop-less c = omega (arith, inside (c .before .before .before .before .before))
+loop-less c = search needs
 
 loop-again : tie.Need-loop-again Inv-loop μ-loop
 loop-again c =
-    let l = c .before .before .before .before .before .before .loop in
-    let a = c .before .before .before .before .before .before .before .before .before .before .args in
-    let put = c .before .before .put-place .ensures in (
-      omega (arith, inside (c .before .before .before .before .before)),
-      rw (← (rows-next mostIntervals (a .names .now) (a .table .now) (l .q) (inside (c .before .before .before .before .before))))
-          (put-on (l .inv .1) (rowAt mostIntervals (a .names .now) (l .q) (getD (a .table .now) (l .q) 0)) (put .0) (put .1)),
+    let l = c .before .before .before .before .before .before .before .loop in
+    let a = c .before .before .before .before .before .before .before .before .before .before .before .args in
+    let pre = c .before .before .before .before .before .before .before .before .before .before .before .pre in
+    let put = c .before .before .put-job-rows .ensures in
+    let n = mostIntervals * l .i + a .spans - mostIntervals * l .i in (
+      omega (arith, c .before .before .before .before .before .before .loop-test .taken),
+      rw (← (job-rows-next (a .names .now) (a .table .now) (a .jobs) (a .spans) (pre .4) (l .i) {n = n} (omega arith) (pre .3) (inside (c .before .before .before .before .before .before))))
+          (put-on (l .inv .1) (rowsBytes mostIntervals (getD (a .names .now) (l .i) 0 ∷ []) 0 (take n (drop (mostIntervals * l .i) (a .table .now)))) (put .0) (put .1)),
     )
 
 same-length : tie.Need-same-length Inv-loop μ-loop
@@ -81,10 +87,10 @@ returns : tie.Need-returns Inv-loop μ-loop
 returns c =
     let l = c .before .loop in
     let a = c .before .before .before .before .before .args in
-    l .inv .1 .stands
-    ∙ ap (sets (a .out .now) (a .at))
-    (rows-all mostIntervals (a .names .now) (a .table .now) (l .q)
-    (omega (arith, c .loop-test .left, l .inv .1 .ends, c .before .before .before .before .before .pre .2, rows-long mostIntervals (a .names .now) 0 (a .table .now))))
+    let pre = c .before .before .before .before .before .pre in
+    let whole : l .i ≡ a .jobs = omega (arith, c .loop-test .left, l .inv .0) in
+    (rw whole at (l .inv .1)) .stands
+    ∙ ap (sets (a .out .now) (a .at)) (job-rows-all (a .names .now) (a .table .now) (a .jobs) (a .spans) (pre .4) (pre .2))
 
 pub put-rows-spec : {M : Type 1} → statement M
 put-rows-spec =
@@ -92,14 +98,17 @@ put-rows-spec =
     (tie.spec
     Inv-loop
     μ-loop
-    add-end
-    mul-end
-    add-end-2
     loop-holds
-    mul-put-place
-    shared-slice-read-put-place
-    put-place-requires
-    add-q
+    mul-from
+    mul-put-job-rows
+    shared-slice-read-put-job-rows
+    add-put-job-rows
+    mul-put-job-rows-2
+    sub-put-job-rows
+    part-put-job-rows-start
+    part-put-job-rows-end
+    put-job-rows-requires
+    add-i
     loop-less
     loop-again
     same-length

@@ -17,36 +17,39 @@ use Rattle.planwriter.proofs.writer.write.Statement.{statement}
 use Rattle.planwriter.proofs.writer.write.Tie as tie
 
 -- Past the second test the plan is sound, and can be written.
-sound-here : (c : tie.Else2) → sound (c .before .before .before .before .before .args .p) (c .before .before .before .before .before .args .table .now) ≡ true
+sound-here : (c : tie.Else2) → sound (c .before .before .before .before .before .before .args .p) (c .before .before .before .before .before .before .args .table .now) ≡ true
 sound-here c = held (c .before .sound-of .ensures) (c .if2 .left)
 
-writable-here : (c : tie.Else2) → Writable (c .before .before .before .before .before .args .p) (take places (c .before .before .before .before .before .args .table .now))
-writable-here c = writable (c .before .before .before .before .before .args .p) (c .before .before .before .before .before .args .table .now) (sound-here c) (c .before .before .if1 .left)
+writable-here : (c : tie.Else2) → Writable (c .before .before .before .before .before .before .args .p) (take places (c .before .before .before .before .before .before .args .table .now))
+writable-here c = writable (c .before .before .before .before .before .before .args .p) (c .before .before .before .before .before .before .args .table .now) (sound-here c) (c .before .before .before .if1 .left)
 
 -- The lengths that the code adds up are those of the file.
 follows-here : (c : tie.After-struct-known)
-    → 5 + c .before .before .before .before .before .before .before .before .args .p .count * (1 + jobLength) + 2 + c .before .rows-in .result * (1 + rowLength) ≡ length (body (c .before .before .before .before .before .before .before .before .args .p) (take places (c .before .before .before .before .before .before .before .before .args .table .now)))
+    → 5 + c .before .before .before .before .before .before .before .before .before .args .p .count * (1 + jobLength) + 2 + c .before .rows-in .result * (1 + rowLength) ≡ length (body (c .before .before .before .before .before .before .before .before .before .args .p) (take places (c .before .before .before .before .before .before .before .before .before .args .table .now)))
 follows-here c =
-    rw (c .before .rows-in .ensures) (sym (body-long (c .before .before .before .before .before .before .before .before .args .p) (take places (c .before .before .before .before .before .before .before .before .args .table .now)) (writable-here (c .before .before .before) .few)))
+    rw (c .before .rows-in .ensures) (sym (body-long (c .before .before .before .before .before .before .before .before .before .args .p) (take places (c .before .before .before .before .before .before .before .before .before .args .table .now)) (writable-here (c .before .before .before) .few)))
 
 exact : (c : tie.After-struct-known)
-    → length (written (c .before .before .before .before .before .before .before .before .args .p) (take places (c .before .before .before .before .before .before .before .before .args .table .now))) ≡ 5 + (5 + c .before .before .before .before .before .before .before .before .args .p .count * (1 + jobLength) + 2 + c .before .rows-in .result * (1 + rowLength))
-exact c = written-long (c .before .before .before .before .before .before .before .before .args .p) (take places (c .before .before .before .before .before .before .before .before .args .table .now)) ∙ omega (arith, follows-here c)
+    → length (written (c .before .before .before .before .before .before .before .before .before .args .p) (take places (c .before .before .before .before .before .before .before .before .before .args .table .now))) ≡ 5 + (5 + c .before .before .before .before .before .before .before .before .before .args .p .count * (1 + jobLength) + 2 + c .before .rows-in .result * (1 + rowLength))
+exact c = written-long (c .before .before .before .before .before .before .before .before .before .args .p) (take places (c .before .before .before .before .before .before .before .before .before .args .table .now)) ∙ omega (arith, follows-here c)
 
 returns : tie.Need-returns
 returns c =
     writer-short (c .before .before .before .args .p) (c .before .before .before .args .table .now) (c .before .before .before .args .out .now) (c .if1 .taken)
+
+intervals-of-requires : tie.Need-intervals-of-requires
+intervals-of-requires c κs = search needs
 
 sound-of-requires : tie.Need-sound-of-requires
 sound-of-requires c κs = search needs
 
 returns-2 : tie.Need-returns-2
 returns-2 c =
-    writer-unsound (c .before .before .before .before .before .args .p) (c .before .before .before .before .before .args .table .now) (c .before .before .before .before .before .args .out .now) (c .before .before .if1 .left) (failed (c .before .sound-of .ensures) (c .if2 .taken))
+    writer-unsound (c .before .before .before .before .before .before .args .p) (c .before .before .before .before .before .before .args .table .now) (c .before .before .before .before .before .before .args .out .now) (c .before .before .before .if1 .left) (failed (c .before .sound-of .ensures) (c .if2 .taken))
 
 slice-aggregate-rows-in : tie.Need-slice-aggregate-rows-in
 slice-aggregate-rows-in c =
-    sym (length-take-le places (c .before .before .before .before .before .before .args .table .now) (c .before .before .before .if1 .left))
+    sym (length-take-le places (c .before .before .before .before .before .before .before .args .table .now) (c .before .before .before .before .if1 .left))
 
 rows-in-requires : tie.Need-rows-in-requires
 rows-in-requires c κs = omega (arith, writable-here (c .before) .exact)
@@ -56,55 +59,56 @@ add-jobs c = search needs
 
 mul-jobs : tie.Need-mul-jobs
 mul-jobs c =
-    record { fits = omega (arith, writable-here (c .before .before .before) .few, c .before .rows-in .ensures, count-few (take places (c .before .before .before .before .before .before .before .before .args .table .now)), writable-here (c .before .before .before) .exact) }
+    record { fits = omega (arith, writable-here (c .before .before .before) .few, c .before .rows-in .ensures, count-few (take places (c .before .before .before .before .before .before .before .before .before .args .table .now)), writable-here (c .before .before .before) .exact) }
 
 add-follows : tie.Need-add-follows
 add-follows c =
-    record { fits = omega (arith, writable-here (c .before .before .before) .few, c .before .rows-in .ensures, count-few (take places (c .before .before .before .before .before .before .before .before .args .table .now)), writable-here (c .before .before .before) .exact) }
+    record { fits = omega (arith, writable-here (c .before .before .before) .few, c .before .rows-in .ensures, count-few (take places (c .before .before .before .before .before .before .before .before .before .args .table .now)), writable-here (c .before .before .before) .exact) }
 
 add-follows-2 : tie.Need-add-follows-2
 add-follows-2 c =
-    record { fits = omega (arith, writable-here (c .before .before .before) .few, c .before .rows-in .ensures, count-few (take places (c .before .before .before .before .before .before .before .before .args .table .now)), writable-here (c .before .before .before) .exact) }
+    record { fits = omega (arith, writable-here (c .before .before .before) .few, c .before .rows-in .ensures, count-few (take places (c .before .before .before .before .before .before .before .before .before .args .table .now)), writable-here (c .before .before .before) .exact) }
 
 add-follows-3 : tie.Need-add-follows-3
 add-follows-3 c = search needs
 
 mul-follows : tie.Need-mul-follows
 mul-follows c =
-    record { fits = omega (arith, writable-here (c .before .before .before) .few, c .before .rows-in .ensures, count-few (take places (c .before .before .before .before .before .before .before .before .args .table .now)), writable-here (c .before .before .before) .exact) }
+    record { fits = omega (arith, writable-here (c .before .before .before) .few, c .before .rows-in .ensures, count-few (take places (c .before .before .before .before .before .before .before .before .before .args .table .now)), writable-here (c .before .before .before) .exact) }
 
 add-follows-4 : tie.Need-add-follows-4
 add-follows-4 c =
-    record { fits = omega (arith, writable-here (c .before .before .before) .few, c .before .rows-in .ensures, count-few (take places (c .before .before .before .before .before .before .before .before .args .table .now)), writable-here (c .before .before .before) .exact) }
+    record { fits = omega (arith, writable-here (c .before .before .before) .few, c .before .rows-in .ensures, count-few (take places (c .before .before .before .before .before .before .before .before .before .args .table .now)), writable-here (c .before .before .before) .exact) }
 
 add-length : tie.Need-add-length
 add-length c =
-    record { fits = omega (arith, writable-here (c .before .before .before) .few, c .before .rows-in .ensures, count-few (take places (c .before .before .before .before .before .before .before .before .args .table .now)), writable-here (c .before .before .before) .exact) }
+    record { fits = omega (arith, writable-here (c .before .before .before) .few, c .before .rows-in .ensures, count-few (take places (c .before .before .before .before .before .before .before .before .before .args .table .now)), writable-here (c .before .before .before) .exact) }
 
 returns-3 : tie.Need-returns-3
 returns-3 c =
-    writer-tight (c .before .before .before .before .before .before .before .before .before .args .p) (c .before .before .before .before .before .before .before .before .before .args .table .now) (c .before .before .before .before .before .before .before .before .before .args .out .now) (c .before .before .before .before .before .before .if1 .left) (sound-here (c .before .before .before .before)) (omega (arith, exact (c .before), c .if3 .taken))
+    writer-tight (c .before .before .before .before .before .before .before .before .before .before .args .p) (c .before .before .before .before .before .before .before .before .before .before .args .table .now) (c .before .before .before .before .before .before .before .before .before .before .args .out .now) (c .before .before .before .before .before .before .before .if1 .left) (sound-here (c .before .before .before .before)) (omega (arith, exact (c .before), c .if3 .taken))
 
 slice-aggregate-put-file : tie.Need-slice-aggregate-put-file
 slice-aggregate-put-file c =
-    sym (length-take-le places (c .before .before .before .before .before .before .before .before .before .before .before .args .table .now) (c .before .before .before .before .before .before .before .before .if1 .left))
+    sym (length-take-le places (c .before .before .before .before .before .before .before .before .before .before .before .before .args .table .now) (c .before .before .before .before .before .before .before .before .before .if1 .left))
 
 put-file-requires : tie.Need-put-file-requires
 put-file-requires c κs =
-    (omega (arith, exact (c .before .before .before), c .before .before .if3 .left), writable-here (c .before .before .before .before .before .before), c .before .before .before .before .rows-in .ensures, omega (arith, follows-here (c .before .before .before)))
+    (omega (arith, exact (c .before .before .before), c .before .before .if3 .left), writable-here (c .before .before .before .before .before .before), c .before .before .before .before .rows-in .ensures, omega (arith, follows-here (c .before .before .before)), c .before .before .before .before .before .before .before .before .intervals-of .ensures)
 
 same-length : tie.Need-same-length
 same-length c = search needs
 
 returns-4 : tie.Need-returns-4
 returns-4 c =
-    writer-whole (c .before .before .before .before .before .before .before .before .before .before .before .before .before .before .args .p) (c .before .before .before .before .before .before .before .before .before .before .before .before .before .before .args .table .now) (c .before .before .before .before .before .before .before .before .before .before .before .before .before .before .args .out .now) (c .before .before .before .before .before .before .before .before .before .before .before .if1 .left) (sound-here (c .before .before .before .before .before .before .before .before .before)) (sym (exact (c .before .before .before .before .before .before))) (c .before .before .before .before .before .if3 .left) (c .before .before .put-file .ensures)
+    writer-whole (c .before .before .before .before .before .before .before .before .before .before .before .before .before .before .before .args .p) (c .before .before .before .before .before .before .before .before .before .before .before .before .before .before .before .args .table .now) (c .before .before .before .before .before .before .before .before .before .before .before .before .before .before .before .args .out .now) (c .before .before .before .before .before .before .before .before .before .before .before .before .if1 .left) (sound-here (c .before .before .before .before .before .before .before .before .before)) (sym (exact (c .before .before .before .before .before .before))) (c .before .before .before .before .before .if3 .left) (c .before .before .put-file .ensures)
 
 pub write-spec : {M : Type 1} → statement M
 write-spec =
     tie.close
     (tie.spec
     returns
+    intervals-of-requires
     sound-of-requires
     returns-2
     slice-aggregate-rows-in
