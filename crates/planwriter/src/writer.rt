@@ -137,7 +137,7 @@ pub fn write(p: Plan, table: &[u32], out: &mut [u8]) -> Written
         return Written::Refused(BUFFER_TOO_SHORT);
     }
     let spans = intervals_of(p);
-    if !sound_of(p, table) {
+    if !sound_of(p, table, spans) {
         return Written::Refused(UNSOUND);
     }
     let rows = rows_in(&table[..Edition::PLACES]);

@@ -8,6 +8,7 @@ use lib.ListN.{length, take}
 use lib.Seq.{length-take-le}
 use Rattle.plan.specs.Edition.{places, jobLength, rowLength}
 use Rattle.plan.specs.Table.{sound}
+use Rattle.plan.proofs.Stray.{sound-told}
 use Rattle.planwriter.specs.Writing.{body, written}
 use Rattle.planwriter.specs.Answers.{Writable}
 use Rattle.planfields.proofs.Steps.{failed, held}
@@ -16,9 +17,15 @@ use Rattle.planwriter.proofs.Files.{writable, body-long, written-long, 
 use Rattle.planwriter.proofs.writer.write.Statement.{statement}
 use Rattle.planwriter.proofs.writer.write.Tie as tie
 
+-- What the soundness test told is whether the plan is sound.
+tested : (c : tie.After-sound-of) → c .sound-of .result ≡ sound (c .before .before .before .before .before .args .p) (c .before .before .before .before .before .args .table .now)
+tested c =
+    let a = c .before .before .before .before .before .args in
+    c .sound-of .ensures ∙ sound-told (a .p) (a .table .now) _ (c .before .intervals-of .ensures)
+
 -- Past the second test the plan is sound, and can be written.
 sound-here : (c : tie.Else2) → sound (c .before .before .before .before .before .before .args .p) (c .before .before .before .before .before .before .args .table .now) ≡ true
-sound-here c = held (c .before .sound-of .ensures) (c .if2 .left)
+sound-here c = held (tested (c .before)) (c .if2 .left)
 
 writable-here : (c : tie.Else2) → Writable (c .before .before .before .before .before .before .args .p) (take places (c .before .before .before .before .before .before .args .table .now))
 writable-here c = writable (c .before .before .before .before .before .before .args .p) (c .before .before .before .before .before .before .args .table .now) (sound-here c) (c .before .before .before .if1 .left)
@@ -45,7 +52,7 @@ sound-of-requires c κs = search needs
 
 returns-2 : tie.Need-returns-2
 returns-2 c =
-    writer-unsound (c .before .before .before .before .before .before .args .p) (c .before .before .before .before .before .before .args .table .now) (c .before .before .before .before .before .before .args .out .now) (c .before .before .before .if1 .left) (failed (c .before .sound-of .ensures) (c .if2 .taken))
+    writer-unsound (c .before .before .before .before .before .before .args .p) (c .before .before .before .before .before .before .args .table .now) (c .before .before .before .before .before .before .args .out .now) (c .before .before .before .if1 .left) (failed (tested (c .before)) (c .if2 .taken))
 
 slice-aggregate-rows-in : tie.Need-slice-aggregate-rows-in
 slice-aggregate-rows-in c =
