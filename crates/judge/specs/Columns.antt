@@ -8,12 +8,13 @@ use lib.IntN.{ℤ, subℕ}
 use lib.Signed.{ltZ, leZ}
 use Rattle.sums.specs.Sum.{sum}
 use Rattle.plan.specs.Rules.{counted, deadline, isHi}
+use Rattle.plan.specs.Boundaries.{lastSlot}
 use Rattle.plan.specs.declared.kinds.Plan.{Plan}
 use Rattle.judge.specs.Slack.{Figure, noneEssential, least, refused}
 
 -- A time that no sound plan reaches (rule 9): it stands in a row of deadlines where no HI job does.
 abbrev pub never : ℕ
-never = 4_294_967_295
+never = lastSlot
 
 -- The deadline of record k, where it is that of a HI job.
 abbrev pub hiDeadline : Plan → ℕ → ℕ
