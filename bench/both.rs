@@ -1,4 +1,5 @@
-//! Makes the calls of `libgateway.a` and the plain ones of this package on the same inputs. `bench/measure` counts its instructions.
+//! Makes the calls of `libgateway.a` and the plain ones of this package on the same inputs. `bench/measure` counts its instructions; the
+//! time of the calls it takes itself.
 //!
 //! It first compares what both answer, and stops if they differ.
 
@@ -9,19 +10,21 @@ use std::arch::global_asm;
 use std::env;
 use std::hint::black_box;
 use std::process::ExitCode;
+use std::time::{Duration, Instant};
 
 use bench::inputs::{Input, Shape, LARGEST_FILE};
 use bench::{judge, read, slack, step, write, Plan, Run, Slack, Verdict, MOST_JOBS, PLACES};
 use calls::*;
 
-const USAGE: &str = "usage: both count usual|full|file JOBS
+const USAGE: &str = "usage: both count|time usual|full|file JOBS
        both stack";
 
 fn main() -> ExitCode {
     let words: Vec<String> = env::args().skip(1).collect();
     let words: Vec<&str> = words.iter().map(String::as_str).collect();
     let done = match words[..] {
-        ["count", shape, jobs] => input_of(shape, jobs).map(|(input, judged)| count(&Both::new(input), judged)),
+        ["count", shape, jobs] => input_of(shape, jobs).map(|(input, judged)| measure(How::Count, &Both::new(input), judged)),
+        ["time", shape, jobs] => input_of(shape, jobs).map(|(input, judged)| measure(How::Time, &Both::new(input), judged)),
         ["stack"] => Some(stacks()),
         _ => None,
     };
@@ -64,12 +67,12 @@ impl Both {
         unsafe { gateway_read(file.as_ptr(), file.len(), plan.as_mut_ptr(), PLAN_WORDS, table.as_mut_ptr(), table.len()) }
     }
 
-    fn write(&self, out: &mut [u8], written: &mut usize) -> u32 {
-        let table = &self.plain.table;
+    fn write(&self, table: &[u32], out: &mut [u8], written: &mut usize) -> u32 {
         unsafe { gateway_write(self.plan.as_ptr(), PLAN_WORDS, table.as_ptr(), table.len(), out.as_mut_ptr(), out.len(), written) }
     }
 
-    fn judge(&self, table: &[u32], place: &mut [u64; PLACE_WORDS]) -> u32 {
+    fn judge(&self, place: &mut [u64; PLACE_WORDS]) -> u32 {
+        let table = &self.plain.table;
         unsafe { gateway_judge(self.plan.as_ptr(), PLAN_WORDS, table.as_ptr(), table.len(), place.as_mut_ptr(), PLACE_WORDS) }
     }
 
@@ -116,8 +119,21 @@ extern "C" fn section_ends() {
     black_box(2);
 }
 
+#[derive(Clone, Copy)]
+enum How {
+    Count,
+    Time,
+}
+
+fn section(how: How, call: &str, who: &str, make: impl FnMut()) {
+    match how {
+        How::Count => counted(call, who, make),
+        How::Time => timed(call, who, make),
+    }
+}
+
 /// Two sections, of one call and of three: half of their difference is one call without what is around it.
-fn section(call: &str, who: &str, mut make: impl FnMut()) {
+fn counted(call: &str, who: &str, mut make: impl FnMut()) {
     for repeat in [1, 3] {
         section_begins();
         for _ in 0..black_box(repeat) {
@@ -128,79 +144,95 @@ fn section(call: &str, who: &str, mut make: impl FnMut()) {
     }
 }
 
-fn count(both: &Both, judged: bool) {
+const BATCHES: usize = 300;
+const CALLS: u32 = 100;
+
+/// The time of a call in the fastest of many batches, since what else the machine does can only add to it.
+fn timed(call: &str, who: &str, mut make: impl FnMut()) {
+    let mut least = Duration::MAX;
+    for _ in 0..BATCHES {
+        let begun = Instant::now();
+        for _ in 0..CALLS {
+            make();
+        }
+        least = least.min(begun.elapsed());
+    }
+    println!("time {call} {who} {}", (least / CALLS).as_nanos());
+}
+
+fn measure(how: How, both: &Both, judged: bool) {
     let plain = &both.plain;
     println!("input {} {} {} {}", plain.plan.count, plain.intervals, plain.rows, plain.file.len());
-    count_read(both);
-    count_write(both);
+    measure_read(how, both);
+    measure_write(how, both);
     if judged {
-        count_judge(both);
-        count_slack(both);
-        count_step(both);
+        measure_judge(how, both);
+        measure_slack(how, both);
+        measure_step(how, both);
     }
 }
 
-fn count_read(both: &Both) {
+fn measure_read(how: How, both: &Both) {
     let plain = &both.plain;
     let (mut plan, mut table, mut other) = ([1; PLAN_WORDS], vec![1; PLACES], vec![1; PLACES]);
     assert_eq!(both.read(&mut plan, &mut table), 0);
     assert_eq!(read(&plain.file, &mut other).map(|plan| plan_words(&plan)), Ok(plan));
     assert!(table == other && table == plain.table && plan == both.plan);
-    section("read", "plain", || {
+    section(how, "read", "plain", || {
         black_box(&read(black_box(&plain.file), black_box(&mut other)));
     });
-    section("read", "ours", || {
+    section(how, "read", "ours", || {
         black_box(black_box(both).read(black_box(&mut plan), black_box(&mut table)));
     });
 }
 
-fn count_write(both: &Both) {
+fn measure_write(how: How, both: &Both) {
     let plain = &both.plain;
     let (mut out, mut written, mut other) = (vec![0; LARGEST_FILE], 0, vec![0; LARGEST_FILE]);
-    assert_eq!(both.write(&mut out, &mut written), 0);
+    assert_eq!(both.write(&plain.table, &mut out, &mut written), 0);
     assert_eq!(write(&plain.plan, &plain.table, &mut other), Ok(written));
     assert!(out == other && out[..written] == plain.file);
-    section("write", "plain", || {
+    section(how, "write", "plain", || {
         black_box(&write(black_box(&plain.plan), black_box(&plain.table), black_box(&mut other)));
     });
-    section("write", "ours", || {
-        black_box(black_box(both).write(black_box(&mut out), black_box(&mut written)));
-    });
-}
-
-fn count_judge(both: &Both) {
-    let plain = &both.plain;
-    let mut place = [0; PLACE_WORDS];
-    assert_eq!(both.judge(&plain.table, &mut place), 0);
-    assert_eq!(judge(&plain.plan, &plain.table), Verdict::Accepted);
-    section("judge", "plain", || {
-        black_box(&judge(black_box(&plain.plan), black_box(&plain.table)));
-    });
-    section("judge", "ours", || {
-        black_box(black_box(both).judge(black_box(&plain.table), black_box(&mut place)));
+    section(how, "write", "ours", || {
+        black_box(black_box(both).write(black_box(&plain.table), black_box(&mut out), black_box(&mut written)));
     });
     // A table without places is refused as soon as the plan is there: what is left is the way from words to a plan.
-    assert_eq!(both.judge(&[], &mut place), 22);
-    section("decode", "ours", || {
-        black_box(black_box(both).judge(black_box(&[]), black_box(&mut place)));
+    assert_eq!(both.write(&[], &mut out, &mut written), 22);
+    section(how, "decode", "ours", || {
+        black_box(black_box(both).write(black_box(&[]), black_box(&mut out), black_box(&mut written)));
     });
 }
 
-fn count_slack(both: &Both) {
+fn measure_judge(how: How, both: &Both) {
+    let plain = &both.plain;
+    let mut place = [0; PLACE_WORDS];
+    assert_eq!(both.judge(&mut place), 0);
+    assert_eq!(judge(&plain.plan, &plain.table), Verdict::Accepted);
+    section(how, "judge", "plain", || {
+        black_box(&judge(black_box(&plain.plan), black_box(&plain.table)));
+    });
+    section(how, "judge", "ours", || {
+        black_box(black_box(both).judge(black_box(&mut place)));
+    });
+}
+
+fn measure_slack(how: How, both: &Both) {
     let plain = &both.plain;
     let (mut least, mut place) = (0, [0; PLACE_WORDS]);
     assert_eq!(both.slack(&mut least, &mut place), 0);
     let ours = Slack::Least { slack: least, interval: place[0] as usize, deadline: place[1] as u32 };
     assert_eq!(slack(&plain.plan, &plain.table), ours);
-    section("slack", "plain", || {
+    section(how, "slack", "plain", || {
         black_box(&slack(black_box(&plain.plan), black_box(&plain.table)));
     });
-    section("slack", "ours", || {
+    section(how, "slack", "ours", || {
         black_box(black_box(both).slack(black_box(&mut least), black_box(&mut place)));
     });
 }
 
-fn count_step(both: &Both) {
+fn measure_step(how: How, both: &Both) {
     let plain = &both.plain;
     let (mut grants, mut other) = ([0; MOST_JOBS], [0; MOST_JOBS]);
     let (mut run, mut other_run) = (both.run, plain.run);
@@ -208,11 +240,11 @@ fn count_step(both: &Both) {
     assert_eq!(step(&plain.plan, &plain.table, &mut other_run, plain.plan.n, &mut other), Ok(()));
     assert!(run == run_words(&other_run) && grants == other);
     // Each call gets the same run, so a copy of the record is counted with it, on both sides.
-    section("step", "plain", || {
+    section(how, "step", "plain", || {
         let mut run = plain.run;
         black_box(&step(black_box(&plain.plan), black_box(&plain.table), black_box(&mut run), black_box(plain.plan.n), black_box(&mut other)));
     });
-    section("step", "ours", || {
+    section(how, "step", "ours", || {
         let mut run = both.run;
         black_box(black_box(both).step(black_box(&mut run), black_box(&mut grants)));
     });

@@ -14,6 +14,7 @@ FILENAME ~ /counts$/ {
     }
     next
 }
+FILENAME ~ /times$/ { time[$1 " " $2, $3, $4] = $5; timed = 1; next }
 FILENAME ~ /stack$/ { if ($1 == "stack") { calls[++stacks] = $2; painted[$2] = $3 } else { sub(/^answers /, ""); answers = $0 } next }
 FILENAME ~ /frames$/ { framed[++all_frames] = $1; own[$1] = $2; frames[$1] = $3; next }
 { undefined = undefined (undefined == "" ? "" : ", ") "`" $1 "`"; if ($1 !~ /^mem(cpy|set|move|cmp)$/) strange = 1 }
@@ -63,6 +64,23 @@ function speed(n, list, m, names, i, k, call, input, ratio, goal, ours, plain) {
     printf "| from words to a plan |"
     for (k = 1; k < m; k++) printf " %s |", with_commas(total["usual " names[k], "decode", "ours"])
     print ""
+    end()
+}
+# Nanoseconds, where the machine could take them.
+function times(n, list, m, names, i, k, input, plain, ours) {
+    if (!timed) return
+    n = split("read write judge slack step", list, " ")
+    m = split("1 8 16 32 largest", names, " ")
+    begin("times")
+    print "| call | input | plain Rust, ns | ours, ns | ours / plain |"
+    print "|---|---|---|---|---|"
+    for (i = 1; i <= n; i++)
+        for (k = 1; k <= m; k++) {
+            input = input_of(list[i], names[k])
+            plain = time[input, list[i], "plain"]
+            ours = time[input, list[i], "ours"]
+            printf "| %s | %s | %s | %s | %.2f |\n", list[i], names[k], with_commas(plain), with_commas(ours), ours / plain
+        }
     end()
 }
 function where(n, list, i, f, call, rest, shown) {
@@ -160,6 +178,7 @@ function stack(k, call, arguments) {
 }
 END {
     speed()
+    times()
     where()
     hottest()
     growth()
