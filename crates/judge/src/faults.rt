@@ -16,7 +16,7 @@ ghost use Rattle.plan.specs.Boundaries.{boundaries, intervals};
 ghost use Rattle.judge.specs.Verdict.{orElse, handFault, constraintFault};
 ghost use Rattle.judge.specs.Answers.{report};
 
-// What is refused before the constraints are looked at: 22, then 21. There are so many boundaries.
+// What is refused before the constraints are looked at: 22, then 21; told how many boundaries there are.
 fn in_hand(p: Plan, table: &[u32], count: usize) -> Verdict
     requires { ⌜ count ≡ length (boundaries p) ⌝ }
     ensures { λ r. ⌜ report r ≡ handFault p (now (table .entry)) ⌝ }

@@ -42,6 +42,7 @@ pub fn allotment(table: &[u32], i: usize, j: usize) -> Units
     Units(table[at] as u64)
 }
 
+// A number, held at a bound.
 fn at_most(n: usize, most: usize) -> usize
     ensures { λ r. ⌜ r ≡ min n most ⌝ }
 {
