@@ -14,4 +14,5 @@ pub mod Figures
 pub mod Apart
 pub mod Columns
 pub mod Passes
+pub mod Taken
 pub mod Tightest

@@ -1,7 +1,7 @@
 -- The laws of signed numbers: their order, and a difference of two small numbers fits 64 bits.
 use mathlib.Core.Path.{_≡_, refl, sym, _∙_, ap, ap₂}
 use mathlib.Core.Bool.{Bool, true, false, cond, true≢false, false≢true}
-use Prim.Native.Nat.{ℕ, zero, suc, _-_, _^_, _<_}
+use Prim.Native.Nat.{ℕ, zero, suc, _-_, _^_, _≤_, _<_}
 use native.Mathlib.Nat.{add-zero, sub-zero}
 use native.Mathlib.Omega.{arith}
 use borrow.Author.Tests.{ltb-true, ltb-false, lt-ltb, le-ltb, leb-true, le-leb}
@@ -36,6 +36,19 @@ difference-fits a b h k = go (ltb a b) refl
 pub kept-difference : (a b : ℕ) (s : ℤ) → a < mostSide → b < mostSide → s ≡ subℕ a b → toZ w64 (ofZ w64 s) ≡ subℕ a b
 kept-difference a b s h k e = ap (λ z. toZ w64 (ofZ w64 z)) e ∙ toZ-ofZ (difference-fits a b h k)
 
+-- So is one of two signed numbers.
+pub kept-choice : (x : Bool) (s t r : ℤ) → SFits w64 s → SFits w64 t → r ≡ cond x s t → (toZ w64 (ofZ w64 r) ≡ cond x s t) × SFits w64 (toZ w64 (ofZ w64 r))
+kept-choice true s t r f g e = rw (e, toZ-ofZ f) (refl, f)
+kept-choice false s t r f g e = rw (e, toZ-ofZ g) (refl, g)
+
+-- A difference is at most what is at least its first number.
+pub difference-at-most : (a b c : ℕ) → a ≤ c → leZ (subℕ a b) (pos c) ≡ true
+difference-at-most a b c h = go (ltb a b)
+  where
+    go : (t : Bool) → leZ (cond t (negsuc (b - suc a)) (pos (a - b))) (pos c) ≡ true
+    go true = refl
+    go false = le-leb (a - b) c (omega arith)
+
 -- No number is below itself, and each is at most itself.
 pub not-below-self : (s : ℤ) → ltZ s s ≡ false
 not-below-self (pos a) = le-ltb a a (omega arith)
@@ -57,6 +70,20 @@ at-most-not (pos a) (pos b) h = le-ltb b a (leb-true a b h)
 at-most-not (pos a) (negsuc b) h = absurd (false≢true h)
 at-most-not (negsuc a) (pos b) h = refl
 at-most-not (negsuc a) (negsuc b) h = le-ltb a b (leb-true b a h)
+
+-- Of two numbers one is at most the other, or the other is below it.
+pub not-below-at-most : (s t : ℤ) → ltZ t s ≡ false → leZ s t ≡ true
+not-below-at-most (pos a) (pos b) h = le-leb a b (ltb-false b a h)
+not-below-at-most (pos a) (negsuc b) h = absurd (true≢false h)
+not-below-at-most (negsuc a) (pos b) h = refl
+not-below-at-most (negsuc a) (negsuc b) h = le-leb b a (ltb-false a b h)
+
+pub not-at-most-below : (s t : ℤ) → leZ s t ≡ false → ltZ t s ≡ true
+not-at-most-below s t h = go (ltZ t s) refl
+  where
+    go : (x : Bool) → ltZ t s ≡ x → x ≡ true
+    go true e = refl
+    go false e = absurd (true≢false (sym (not-below-at-most s t e) ∙ h))
 
 -- Three numbers none of which is below the one before.
 pub not-below-two : (a b c : ℤ) → ltZ b a ≡ false → ltZ c b ≡ false → ltZ c a ≡ false

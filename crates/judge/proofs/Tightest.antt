@@ -1,4 +1,4 @@
--- The slack figure's one pass over the boundaries: a column's intervals taken in from the last back, and the least slack of all pairs so far.
+-- The slack figure's one pass over the boundaries: the least slack of all pairs so far, with a column's taken in.
 use mathlib.Core.Path.{_≡_, refl, sym, _∙_, ap, ap₂}
 use mathlib.Core.Bool.{Bool, true, false, cond, true≢false}
 use mathlib.Core.List.{List}
@@ -7,39 +7,19 @@ use Prim.Native.Nat.{ℕ, zero, suc, _+_, _*_, _-_, _≤_, _<_}
 use native.Mathlib.Omega.{arith}
 use borrow.Author.Tests.{ltb-true}
 use lib.Dec.{ltb}
-use lib.IntN.{ℤ, subℕ}
+use lib.IntN.{subℕ}
 use lib.ListN.{getD}
-use Rattle.sums.specs.Sum.{sum}
 use Rattle.sums.proofs.Laws.{sum-ext, below-or-last}
 use Rattle.plan.specs.Boundaries.{boundaries, boundary, intervals}
 use Rattle.plan.specs.declared.kinds.Plan.{Plan}
 use Rattle.plan.proofs.Below.{both}
 use Rattle.judge.specs.Verdict.{isHiDeadline, isPair}
 use Rattle.judge.specs.Slack.{Figure, noneEssential, slackOf, leastSlack}
-use Rattle.judge.specs.Columns.{spare, sooner, columnTaken}
+use Rattle.judge.specs.Columns.{spare, columnTaken}
 use Rattle.judge.proofs.Demand.{true-pair}
 use Rattle.judge.proofs.Enough.{boundary-less}
-use Rattle.judge.proofs.Columns.{sum-back}
 use Rattle.judge.proofs.Passes.{Summed, demand-columns}
 use Rattle.judge.proofs.Least.{LeastAmong, Pairs, among-none, among-same, among-one, sooner-among, first-of-all}
-
--- A turn of the way back: the sum from one interval earlier, and the figure with that interval taken in.
-pub taken-next : (d : ℕ) (sums times : List ℕ) (m l asked : ℕ) (s : ℤ) (so-far f : Figure) → 0 < l → l ≤ m
-    → asked ≡ sum (λ k. getD sums (l + k) 0) (m - l)
-    → s ≡ subℕ (d * (getD times m 0 - getD times (l - 1) 0)) (asked + getD sums (l - 1) 0)
-    → f ≡ sooner so-far s (l - 1) (getD times m 0)
-    → (asked + getD sums (l - 1) 0 ≡ sum (λ k. getD sums (l - 1 + k) 0) (m - (l - 1)))
-    × (columnTaken d sums times m (l - 1) f ≡ columnTaken d sums times m l so-far)
-unfolding columnTaken
-taken-next d sums times m zero asked s so-far f h b p q e = absurd (omega arith)
-taken-next d sums times m (suc l) asked s so-far f h b p q e =
-    let back : suc l - 1 ≡ l = omega arith in
-    let whole : asked + getD sums l 0 ≡ sum (λ k. getD sums (l + k) 0) (m - l)
-    = ap (λ n. n + getD sums l 0) p ∙ sym (sum-back (λ k. getD sums k 0) l m (omega arith)) in
-    let slack : s ≡ spare d sums times m l = rw back at q ∙ ap (subℕ (d * (getD times m 0 - getD times l 0))) whole in (
-      rw back whole,
-      rw back (ap (columnTaken d sums times m l) (rw back at e ∙ ap (λ z. sooner so-far z l (getD times m 0)) slack)),
-    )
 
 -- Pairs with one of the first m boundaries; and with boundary m too, from interval l on.
 abbrev pub Before : Plan → ℕ → ℕ → ℕ → Type 0

@@ -24,7 +24,7 @@ ghost use Rattle.judge.specs.Columns.{asksMore, lowest};
 ghost use Rattle.judge.specs.Answers.{report};
 
 // One of two numbers, by a test.
-fn pick(test: bool, a: usize, b: usize) -> usize
+pub(crate) fn pick(test: bool, a: usize, b: usize) -> usize
     ensures { λ r. ⌜ r ≡ cond test a b ⌝ }
 {
     if test { a } else { b }

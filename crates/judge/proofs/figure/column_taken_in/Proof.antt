@@ -1,35 +1,38 @@
--- `judge::figure::column_taken_in` meets its contract: from interval l on, the sum, and a figure from which the intervals before l lead to the whole column's.
-use mathlib.Core.Path.{refl, sym, _∙_, ap, _≡_}
+-- `judge::figure::column_taken_in` meets its contract: from interval l on, the sum, and the least slack, with which the intervals before l lead to the whole column's figure.
+use mathlib.Core.Path.{sym, _∙_, ap, ap₂, _≡_}
 use mathlib.Core.Bool.{cond}
-use Prim.Native.Nat.{_+_, _*_, _-_, _≤_, _<_}
+use Prim.Native.Nat.{_+_, _*_, _-_, _^_, _≤_, _<_}
 use native.Mathlib.Omega.{arith}
-use native.Mathlib.Nat.{mul-le-mul-right}
+use native.Mathlib.Nat.{mul-le-mul, mul-le-mul-right}
 use borrow.Author.Needs.{needs}
-use borrow.Author.Tests.{not-true, not-false}
 use lib.IntN.{subℕ}
 use lib.ListN.{getD}
+use lib.Signed.{leZ}
 use Rattle.sums.specs.Sum.{sum}
 use Rattle.sums.proofs.Laws.{sum-start}
 use Rattle.plan.specs.Edition.{mostJobs, mostIntervals}
 use Rattle.judge.specs.Constraints.{mostAtPlace, mostSide}
-use Rattle.judge.specs.Columns.{columnTaken}
+use Rattle.judge.specs.Columns.{sooner, columnTaken}
 use Rattle.judge.specs.Answers.{figure}
-use Rattle.judge.proofs.Signed.{kept-difference}
-use Rattle.judge.proofs.Tightest.{taken-next}
+use Rattle.judge.proofs.Signed.{difference-fits, kept-difference, kept-choice}
+use Rattle.judge.proofs.Taken.{sooner-two, taken-none, taken-some, taken-start, taken-next, choice-from}
 use Rattle.judge.proofs.figure.column_taken_in.Statement.{statement}
 use Rattle.judge.proofs.figure.column_taken_in.Tie as tie
+use mir.Syntax.{w64}
+use mir.Val.{SFits, toZ, ofZ}
+use mir.Facts.{sfits-lit}
 
 abbrev Inv-loop : tie.InvT-loop
-Inv-loop due d sums times m time best₀ asked₀ l₀ best asked l =
-    (l ≤ m) × (asked .0 ≡ sum (λ k. getD sums (l + k) 0) (m - l)) × (asked .0 ≤ (m - l) * (mostJobs * mostAtPlace)) × (columnTaken (d .0) sums times m l (figure best) ≡ columnTaken (d .0) sums times m m (figure best₀))
+Inv-loop due d sums times m known time best₀ at₀ asked₀ l₀ best at asked l =
+    (l ≤ m) × (asked .0 ≡ sum (λ k. getD sums (l + k) 0) (m - l)) × (asked .0 ≤ (m - l) * (mostJobs * mostAtPlace)) × (columnTaken (d .0) sums times m l (sooner (figure known) (toZ w64 best) at (getD times m 0)) ≡ columnTaken (d .0) sums times m m (figure known)) × (l ≤ at) × SFits w64 (toZ w64 best)
 
 abbrev μ-loop : tie.MeasureT-loop
-μ-loop due d sums times m time best₀ asked₀ l₀ best asked l = l
+μ-loop due d sums times m known time best₀ at₀ asked₀ l₀ best at asked l = l
 
 returns : tie.Need-returns Inv-loop μ-loop
 returns c =
     let a = c .before .before .before .args in
-    sym (ap (λ b. cond b (columnTaken (a .d .0) (a .sums .now) (a .times .now) (a .m) (a .m) (figure (a .known))) (figure (a .known))) (not-true (a .due) (c .if1 .taken)))
+    taken-none (a .due) (a .d .0) (a .sums .now) (a .times .now) (a .m) (figure (a .known)) (c .if1 .taken)
 
 mul-time : tie.Need-mul-time Inv-loop μ-loop
 mul-time c = search needs
@@ -39,24 +42,27 @@ shared-slice-read-time c = search needs
 
 loop-holds : tie.Need-loop-holds Inv-loop μ-loop
 loop-holds c =
-    (omega arith, sym (let e : c .before .before .before .before .args .m - c .before .before .before .before .args .m ≡ 0 = omega arith in ap (sum _) e ∙ sum-start _), omega arith, refl)
+    let a = c .before .before .before .before .args in
+    let none : a .m - a .m ≡ 0 = omega arith in
+    let product = mul-le-mul {n₁ = a .d .0} {m₁ = getD (a .times .now) (a .m) 0} {n₂ = 65535} {m₂ = 4294967295} (omega arith) (omega (arith, c .shared-slice-known3 .given (a .m))) in
+    (omega arith, sym (ap (sum _) none ∙ sum-start _), omega arith, taken-start (a .d .0) (a .sums .now) (a .times .now) (a .m) (2 ^ 63 - 1) (figure (a .known)) (taken-some (a .due) (a .m) (c .before .if1 .left) .1) (omega (arith, product)), omega arith, sfits-lit tt)
 
 sub-l : tie.Need-sub-l Inv-loop μ-loop
 sub-l c = omega (arith, c .loop-test .taken)
 
-mul-t18 : tie.Need-mul-t18 Inv-loop μ-loop
-mul-t18 c = omega (arith, c .before .loop .inv .0, c .before .before .before .before .before .before .pre .2)
+mul-t21 : tie.Need-mul-t21 Inv-loop μ-loop
+mul-t21 c = omega (arith, c .before .loop .inv .0, c .before .before .before .before .before .before .pre .2)
 
-shared-slice-read-t20 : tie.Need-shared-slice-read-t20 Inv-loop μ-loop
-shared-slice-read-t20 c = omega (arith, c .before .loop-test .taken, c .before .before .loop .inv .0, c .before .before .before .before .before .before .before .pre .1)
+shared-slice-read-t23 : tie.Need-shared-slice-read-t23 Inv-loop μ-loop
+shared-slice-read-t23 c = omega (arith, c .before .loop-test .taken, c .before .before .loop .inv .0, c .before .before .before .before .before .before .before .pre .1)
 
 -- The sum stays small with one interval more.
 small : (c : tie.In-loop Inv-loop μ-loop) → c .before .loop .asked .0 + getD (c .before .before .before .before .before .before .args .sums .now) (c .before .loop .l - 1) 0 < mostSide
 small c =
     omega (arith, c .before .before .before .before .before .before .pre .3 (c .before .loop .l - 1) (omega (arith, c .loop-test .taken, c .before .loop .inv .0)), mul-le-mul-right {m = c .before .before .before .before .before .before .args .m - c .before .loop .l} {n = mostIntervals} (mostJobs * mostAtPlace) (omega (arith, c .before .before .before .before .before .before .pre .2)), c .before .loop .inv .2)
 
-add-t21 : tie.Need-add-t21 Inv-loop μ-loop
-add-t21 c = omega (arith, small (c .before .before))
+add-t24 : tie.Need-add-t24 Inv-loop μ-loop
+add-t24 c = omega (arith, small (c .before .before))
 
 mul-carried : tie.Need-mul-carried Inv-loop μ-loop
 mul-carried c = omega (arith, c .before .before .before .loop .inv .0, c .before .before .before .before .before .before .before .before .pre .2)
@@ -70,34 +76,53 @@ carried-requires c κs = search needs
 slack-from-requires : tie.Need-slack-from-requires Inv-loop μ-loop
 slack-from-requires c κs = (c .carried .ensures .1, small (c .before .before .before .before))
 
-sooner-of-requires : tie.Need-sooner-of-requires Inv-loop μ-loop
-sooner-of-requires c κs = search needs
+pick-requires : tie.Need-pick-requires Inv-loop μ-loop
+pick-requires c κs = search needs
+
+lesser-of-requires : tie.Need-lesser-of-requires Inv-loop μ-loop
+lesser-of-requires c κs = search needs
 
 loop-less : tie.Need-loop-less Inv-loop μ-loop
-loop-less c = omega (arith, c .before .before .before .before .before .before .loop-test .taken)
+loop-less c = omega (arith, c .before .before .before .before .before .before .before .loop-test .taken)
 
 loop-again : tie.Need-loop-again Inv-loop μ-loop
 loop-again c =
-    let a = c .before .before .before .before .before .before .before .before .before .before .before .before .args in
-    let l = c .before .before .before .before .before .before .before .loop .l in
-    let asked = c .before .before .before .before .before .before .before .loop .asked .0 in
-    let turn = taken-next (a .d .0) (a .sums .now) (a .times .now) (a .m) l asked _ (figure (c .before .before .before .before .before .before .before .loop .best)) (figure (c .sooner-of .result)) (c .before .before .before .before .before .before .loop-test .taken) (c .before .before .before .before .before .before .before .loop .inv .0) (c .before .before .before .before .before .before .before .loop .inv .1)
-    (kept-difference _ _ _ (c .before .before .carried .ensures .1) (small (c .before .before .before .before .before .before)) (c .before .slack-from .ensures) ∙ ap (λ n. subℕ n (asked + getD (a .sums .now) (l - 1) 0)) (c .before .before .carried .ensures .0))
-    (c .sooner-of .ensures) in
-    let one-more : a .m - (l - 1) ≡ a .m - l + 1 = omega (arith, c .before .before .before .before .before .before .loop-test .taken, c .before .before .before .before .before .before .before .loop .inv .0) in (
-      omega (arith, c .before .before .before .before .before .before .before .loop .inv .0),
+    let start = c .before .before .before .before .before .before .before .before .before .before .before .before .before in
+    let a = start .args in
+    let here = c .before .before .before .before .before .before .before .before .loop in
+    let some = c .before .before .before .before .before .before .before .loop-test .taken in
+    let l = here .l in
+    let asked = here .asked .0 in
+    let best = toZ w64 (here .best) in
+    let slack = toZ w64 (ofZ w64 (c .before .before .slack-from .result)) in
+    let time = getD (a .times .now) (a .m) 0 in
+    let carries = c .before .before .before .carried in
+    let more = small (c .before .before .before .before .before .before .before) in
+    let is : slack ≡ subℕ (carries .result .0) (asked + getD (a .sums .now) (l - 1) 0) = kept-difference _ _ _ (carries .ensures .1) more (c .before .before .slack-from .ensures) in
+    let fits : SFits w64 slack = rw is (difference-fits _ _ (carries .ensures .1) more) in
+    let kept = kept-choice (leZ slack best) slack best (c .lesser-of .result) fits (here .inv .5) (c .lesser-of .ensures) in
+    let turn = taken-next (a .d .0) (a .sums .now) (a .times .now) (a .m) l asked slack (sooner (figure (a .known)) best (here .at) time) (sooner (figure (a .known)) (toZ w64 (ofZ w64 (c .lesser-of .result))) (c .before .pick .result) time) some (here .inv .0) (here .inv .1)
+    (is ∙ ap (λ n. subℕ n (asked + getD (a .sums .now) (l - 1) 0)) (carries .ensures .0))
+    (ap₂ (λ s n. sooner (figure (a .known)) s n time) (kept .0) (c .before .pick .ensures) ∙ sym (sooner-two (figure (a .known)) best slack (here .at) (l - 1) time (omega (arith, some, here .inv .4)))) in
+    let one-more : a .m - (l - 1) ≡ a .m - l + 1 = omega (arith, some, here .inv .0) in (
+      omega (arith, here .inv .0),
       turn .0,
-      omega (arith, c .before .before .before .before .before .before .before .before .before .before .before .before .pre .3 (l - 1) (omega (arith, c .before .before .before .before .before .before .loop-test .taken, c .before .before .before .before .before .before .before .loop .inv .0)), ap (λ n. n * (mostJobs * mostAtPlace)) one-more, c .before .before .before .before .before .before .before .loop .inv .2),
-      turn .1 ∙ c .before .before .before .before .before .before .before .loop .inv .3,
+      omega (arith, start .pre .3 (l - 1) (omega (arith, some, here .inv .0)), ap (λ n. n * (mostJobs * mostAtPlace)) one-more, here .inv .2),
+      turn .1 ∙ here .inv .3,
+      rw (c .before .pick .ensures) (choice-from (leZ slack best) (l - 1) (here .at) (l - 1) (omega arith) (omega (arith, here .inv .4))),
+      kept .1,
     )
+
+sooner-of-requires : tie.Need-sooner-of-requires Inv-loop μ-loop
+sooner-of-requires c κs = search needs
 
 returns-2 : tie.Need-returns-2 Inv-loop μ-loop
 unfolding columnTaken
 returns-2 c =
-    let a = c .before .before .before .before .before .before .args in
-    let end : c .before .loop .l ≡ 0 = omega (arith, c .loop-test .left) in
-    (rw end at (c .before .loop .inv .3))
-    ∙ sym (ap (λ b. cond b (columnTaken (a .d .0) (a .sums .now) (a .times .now) (a .m) (a .m) (figure (a .known))) (figure (a .known))) (not-false (a .due) (c .before .before .before .if1 .left)))
+    let a = c .before .before .before .before .before .before .before .args in
+    let end : c .before .before .loop .l ≡ 0 = omega (arith, c .before .loop-test .left) in
+    c .sooner-of .ensures ∙ (rw end at (c .before .before .loop .inv .3))
+    ∙ sym (ap (λ b. cond b (columnTaken (a .d .0) (a .sums .now) (a .times .now) (a .m) (a .m) (figure (a .known))) (figure (a .known))) (taken-some (a .due) (a .m) (c .before .before .before .before .if1 .left) .0))
 
 pub column-taken-in-spec : {M : Type 1} → statement M
 column-taken-in-spec =
@@ -110,14 +135,16 @@ column-taken-in-spec =
     shared-slice-read-time
     loop-holds
     sub-l
-    mul-t18
-    shared-slice-read-t20
-    add-t21
+    mul-t21
+    shared-slice-read-t23
+    add-t24
     mul-carried
     shared-slice-read-carried
     carried-requires
     slack-from-requires
-    sooner-of-requires
+    pick-requires
+    lesser-of-requires
     loop-less
     loop-again
+    sooner-of-requires
     returns-2)
