@@ -11,7 +11,7 @@ use borrow.Author.Tests.{ltb-true, leb-true, lt-ltb, le-ltb, le-leb, lt-leb, eq-
 use lib.Dec.{leb, ltb, eqb}
 use lib.ListN.{length, getD, replicate}
 use Rattle.sums.specs.Sum.{sum, on}
-use Rattle.sums.proofs.Laws.{sum-ext, sum-add, sum-swap, sum-none, sum-bound}
+use Rattle.sums.proofs.Laws.{sum-ext, sum-add, sum-split, sum-swap, sum-none, sum-bound}
 use Rattle.plan.specs.Edition.{mostJobs, mostIntervals, mostDeadline, places}
 use Rattle.plan.specs.Refusal.{belowFloorRule}
 use Rattle.plan.specs.Below.{every}
@@ -19,7 +19,7 @@ use Rattle.plan.specs.Rules.{isAbsent, counted, release, size, deadline, isHi, 
 use Rattle.plan.specs.Boundaries.{boundaries, boundary, intervals}
 use Rattle.plan.specs.declared.kinds.Plan.{Plan}
 use Rattle.plan.proofs.Rising.{by-order, boundaries-few}
-use Rattle.plan.proofs.Below.{every-start, every-next, every-ext, every-all, every-at, both, greatest-attained}
+use Rattle.plan.proofs.Below.{every-start, every-next, every-ext, every-split, every-all, every-at, both, greatest-attained}
 use Rattle.plan.proofs.Timeline.{deadline-is-boundary, last-boundary}
 use Rattle.judge.specs.Constraints.{mostAtPlace, units, demand}
 use Rattle.judge.specs.Verdict.{Report, fault, isNone, first, isHiDeadline, isPair, fallsShort, floorFault}
@@ -257,22 +257,15 @@ ready-from p table times deadlines spans h ds =
 
 -- A test that holds from a number on, and terms that are nothing from it on, do not matter past it.
 every-cut : (test : ℕ → Bool) (m n : ℕ) → m ≤ n → ((k : ℕ) → m ≤ k → k < n → test k ≡ true) → every test n ≡ every test m
-unfolding every
-every-cut test m zero h more = let e : m ≡ 0 = omega arith in rw e refl
-every-cut test m (suc n) h more =
-    by-order m (suc n)
-    (λ e. rw e refl)
-    (λ l. ap₂ _&&_ (every-cut test m n (omega arith) (λ k a b. more k a (omega arith))) (more n (omega arith) (omega arith)) ∙ and-true (every test m))
-    (λ l. absurd (omega arith))
+every-cut test m n h more =
+    let e : n ≡ m + (n - m) = omega arith in
+    ap (every test) e ∙ every-split test m (n - m)
+    ∙ ap (λ b. every test m && b) (every-all _ (n - m) (λ k b. more (m + k) (omega arith) (omega arith))) ∙ and-true (every test m)
 
 sum-cut : (f : ℕ → ℕ) (m n : ℕ) → m ≤ n → ((k : ℕ) → m ≤ k → k < n → f k ≡ 0) → sum f n ≡ sum f m
-unfolding sum
-sum-cut f m zero h more = let e : m ≡ 0 = omega arith in rw e refl
-sum-cut f m (suc n) h more =
-    by-order m (suc n)
-    (λ e. rw e refl)
-    (λ l. omega (arith, sum-cut f m n (omega arith) (λ k a b. more k a (omega arith)), more n (omega arith) (omega arith)))
-    (λ l. absurd (omega arith))
+sum-cut f m n h more =
+    let e : n ≡ m + (n - m) = omega arith in
+    ap (sum f) e ∙ omega (arith, sum-split f m (n - m), sum-none (λ k. f (m + k)) (n - m) (λ k b. more (m + k) (omega arith) (omega arith)))
 
 -- Column sums of the jobs due before boundary m.
 pub record Summed (p : Plan) (table : List ℕ) (m : ℕ) (sums : List ℕ) : Type 0 where

@@ -2,6 +2,7 @@
 use mathlib.Core.Path.{_≡_, refl, sym, _∙_, ap, ap₂}
 use mathlib.Core.Bool.{Bool, true, false, true≢false, _&&_, and-true, and-assoc}
 use Prim.Native.Nat.{ℕ, zero, suc, _+_, _≤_, _<_, min, max}
+use native.Mathlib.Nat.{add-zero, add-suc}
 use native.Mathlib.Numerals.{add-one}
 use native.Mathlib.Decide.{decLt}
 use native.Mathlib.Omega.{arith}
@@ -30,6 +31,14 @@ unfolding every
 every-shift test zero = sym (and-true (test 0))
 every-shift test (suc n) =
     ap (λ b. b && test (suc n)) (every-shift test n) ∙ and-assoc (test 0) (every (λ k. test (suc k)) n) (test (suc n))
+
+-- A test below a length splits at any number.
+pub every-split : (test : ℕ → Bool) (m n : ℕ) → every test (m + n) ≡ (every test m && every (λ k. test (m + k)) n)
+unfolding every
+every-split test m zero = rw add-zero (sym (and-true (every test m)))
+every-split test m (suc n) =
+    rw add-suc
+    (ap (λ b. b && test (m + n)) (every-split test m n) ∙ and-assoc (every test m) (every (λ k. test (m + k)) n) (test (m + n)))
 
 -- The extremes, as a loop that counts up finds them.
 pub greatest-start : (f : ℕ → ℕ) → greatest f 0 ≡ 0

@@ -1,9 +1,9 @@
 -- The laws of stray places: behind the intervals of each row and behind the rows of all jobs, they are noStray over the whole table.
 use mathlib.Core.Path.{_≡_, refl, sym, _∙_, ap, ap₂}
-use mathlib.Core.Bool.{Bool, true, _&&_, _||_, and-true, and-assoc, or-false, or-true}
+use mathlib.Core.Bool.{Bool, _&&_, _||_, and-true, or-false, or-true}
 use mathlib.Core.List.{List, [], _∷_}
 use Prim.Native.Nat.{ℕ, zero, suc, _+_, _*_, _-_, _/_, _%_, _≤_, _<_, min}
-use native.Mathlib.Nat.{zero-add, add-zero, add-suc, mul-zero, mul-suc, mul-add-div, mul-add-mod-self-left, div-eq-of-lt, mod-eq-of-lt}
+use native.Mathlib.Nat.{zero-add, add-zero, mul-zero, mul-suc, mul-add-div, mul-add-mod-self-left, div-eq-of-lt, mod-eq-of-lt}
 use native.Mathlib.Omega.{arith}
 use borrow.Author.Tests.{lt-ltb, le-ltb}
 use lib.Dec.{ltb, eqb}
@@ -14,22 +14,8 @@ use Rattle.plan.specs.Rules.{counted}
 use Rattle.plan.specs.Boundaries.{intervals}
 use Rattle.plan.specs.Table.{noStray, soundWithin, sound}
 use Rattle.plan.specs.declared.kinds.Plan.{Plan}
-use Rattle.plan.proofs.Below.{every-ext, every-shift}
+use Rattle.plan.proofs.Below.{every-ext, every-shift, every-split, every-all}
 use Rattle.plan.proofs.Rising.{boundaries-few}
-
--- A test that always holds, holds below every length.
-every-true : (test : ℕ → Bool) (n : ℕ) → ((k : ℕ) → k < n → test k ≡ true) → every test n ≡ true
-unfolding every
-every-true test zero h = refl
-every-true test (suc n) h = ap₂ _&&_ (every-true test n (λ k l. h k (omega arith))) (h n (omega arith))
-
--- A test below a length splits at any number.
-every-split : (test : ℕ → Bool) (m n : ℕ) → every test (m + n) ≡ (every test m && every (λ k. test (m + k)) n)
-unfolding every
-every-split test m zero = rw add-zero (sym (and-true (every test m)))
-every-split test m (suc n) =
-    rw add-suc
-    (ap (λ b. b && test (m + n)) (every-split test m n) ∙ and-assoc (every test m) (every (λ k. test (m + k)) n) (test (m + n)))
 
 -- A test over the places is one over the rows.
 every-rows : (test : ℕ → Bool) (width n : ℕ) → every test (width * n) ≡ every (λ i. every (λ j. test (width * i + j)) width) n
@@ -44,7 +30,7 @@ stray-places : (width jobs spans q n : ℕ) (l : List ℕ)
     ≡ every (λ k. eqb (getD l k 0) 0 || ltb ((q + k) / width) jobs && ltb ((q + k) % width) spans) n
 unfolding noStray every
 stray-places width jobs spans q zero l = refl
-stray-places width jobs spans q (suc n) [] = sym (every-true _ (suc n) (λ k l. refl))
+stray-places width jobs spans q (suc n) [] = sym (every-all _ (suc n) (λ k l. refl))
 stray-places width jobs spans q (suc n) (u ∷ l) =
     ap₂ (λ a b. (eqb u 0 || ltb (a / width) jobs && ltb (a % width) spans) && b) (sym (add-zero q))
     (stray-places width jobs spans (suc q) n l
@@ -56,7 +42,7 @@ zero-from : (f : ℕ → ℕ) (free rest : ℕ) → every (λ j. eqb (f j) 0 || 
 zero-from f free rest =
     every-split (λ j. eqb (f j) 0 || ltb j free) free rest
     ∙ ap₂ _&&_
-    (every-true _ free (λ k l. ap (λ b. eqb (f k) 0 || b) (lt-ltb k free l) ∙ or-true (eqb (f k) 0)))
+    (every-all _ free (λ k l. ap (λ b. eqb (f k) 0 || b) (lt-ltb k free l) ∙ or-true (eqb (f k) 0)))
     (every-ext _ _ rest (λ k l. ap (λ b. eqb (f (free + k)) 0 || b) (le-ltb (free + k) free (omega arith)) ∙ or-false (eqb (f (free + k)) 0)))
 
 -- A place of a table that is 0, or inside the first jobs and the first intervals.
@@ -100,7 +86,7 @@ pub zero-past : (l : List ℕ) (start m n : ℕ) → m ≤ n → ((k : ℕ) → 
 zero-past l start m n h past =
     let e : m + (n - m) ≡ n = omega arith in
     sym (ap (every f) (sym e) ∙ every-split f m (n - m)
-    ∙ ap (λ b. every f m && b) (every-true _ (n - m) (λ k b. ap (λ x. eqb x 0) (List·getD-eq-default l 0 (past (m + k) (omega arith) (omega arith)))))
+    ∙ ap (λ b. every f m && b) (every-all _ (n - m) (λ k b. ap (λ x. eqb x 0) (List·getD-eq-default l 0 (past (m + k) (omega arith) (omega arith)))))
     ∙ and-true (every f m))
   where
     f : ℕ → Bool
