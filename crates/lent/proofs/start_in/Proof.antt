@@ -31,7 +31,7 @@ use denote.Steps.{opens, closes, owned, peeks, heard, nothing}
 use denote.Struct.Steps.{spelt}
 use denote.Enum.Laws as EL
 use denote.Struct.Laws as LL
-use denote.Triple.Entry.{onEntry}
+use denote.Triple.Entry.{Args, Vals, onEntry}
 use denote.Triple.Spec.{Meets, tripleOf}
 use denote.Triple.Statement.{Contract, Triple}
 use denote.Triple.Call.{calls-at}
@@ -59,11 +59,10 @@ use Rattle.lent.proofs.start_over as start-over
 use Rattle.lent.proofs.start_over.Symbol as start-over-def
 use Rattle.lent.proofs.start_over.Symbol.{name as #lent·start-over}
 use Rattle.lent.proofs.start_over.Met as start-over-thm
-use Rattle.lent.proofs.started_run as started-run
+use Rattle.lent.proofs.Part.{Part, part-of}
 use Rattle.lent.proofs.started_run.Symbol as started-run-def
 use Rattle.lent.proofs.started_run.Symbol.{name as #lent·started-run}
 use Rattle.lent.proofs.started_run.Met as started-run-thm
-use Rattle.lent.proofs.verdict_of as verdict-of
 use Rattle.lent.proofs.verdict_of.Symbol as verdict-of-def
 use Rattle.lent.proofs.verdict_of.Symbol.{name as #lent·verdict-of}
 use Rattle.lent.proofs.verdict_of.Met as verdict-of-thm
@@ -78,23 +77,16 @@ stayed = (
   (stay-none (λ _. P.the-row) yes, (stay-none-slice (1 ∷ []) tt (plain (λ _. u32)) yes, tt)),
 )
 
-module _ {M : Type 1} (𝓤 : URA M) (H : Heap 𝓤) (A : Atoms 𝓤) (at-mem : Memory → SProp 𝓤) (run : Routine → Fun 𝓤) where
+module _ {M : Type 1} (𝓤 : URA M) (H : Heap 𝓤) (A : Atoms 𝓤) where
   -- the contracts that the proof cites
-  abbrev StartOver : Contract 𝓤
-  StartOver = tripleOf 𝓤 H A start-over.signature (start-over.spec 𝓤 H A at-mem run)
+  abbrev StartOver : (Memory → SProp 𝓤) → (Routine → Fun 𝓤) → Contract 𝓤
+  StartOver at-mem run = tripleOf 𝓤 H A start-over.signature (start-over.spec 𝓤 H A at-mem run)
 
   abbrev StartedRun : Contract 𝓤
-  StartedRun = tripleOf 𝓤 H A started-run.signature (started-run.spec 𝓤 H A at-mem run)
+  StartedRun = Part 𝓤 H A S.the-row R.the-row (λ s. s .run)
 
   abbrev VerdictOf : Contract 𝓤
-  VerdictOf = tripleOf 𝓤 H A verdict-of.signature (verdict-of.spec 𝓤 H A at-mem run)
-
-  -- of the last two callees' `ensured`, the clause alone: neither has a last value
-  started-run-said : (r : Started) (h : Run) → ent 𝓤 (ensured 𝓤 H A started-run.ended (started-run.clauses 𝓤 H A at-mem run) tt (r, tt) tt h) (fact 𝓤 (h ≡ r .run))
-  started-run-said r h = exE 𝓤 _ (λ ws. snd∗ 𝓤 (sem 𝓤 H A (lasts started-run.ended tt (r, tt) ws)) (fact 𝓤 (h ≡ r .run)))
-
-  verdict-of-said : (r : Started) (n : Verdict) → ent 𝓤 (ensured 𝓤 H A verdict-of.ended (verdict-of.clauses 𝓤 H A at-mem run) tt (r, tt) tt n) (fact 𝓤 (n ≡ r .verdict))
-  verdict-of-said r n = exE 𝓤 _ (λ ws. snd∗ 𝓤 (sem 𝓤 H A (lasts verdict-of.ended tt (r, tt) ws)) (fact 𝓤 (n ≡ r .verdict)))
+  VerdictOf = Part 𝓤 H A S.the-row E.the-row (λ s. s .verdict)
 
 module _ {M : Type 1} (𝓤 : URA M) (H : Heap 𝓤) (A : Atoms 𝓤) (W : Given 𝓤 H A) (at-mem : Memory → SProp 𝓤) (run : Routine → Fun 𝓤) (κ κ₁ : Lft) (q q₁ : Share) (b o : ℕ) (γ : GName) (h : Run) (p : Plan) (x₁ : RefT (List ℕ)) where
   -- the arguments, with their machine values
@@ -107,13 +99,10 @@ module _ {M : Type 1} (𝓤 : URA M) (H : Heap 𝓤) (A : Atoms 𝓤) (W : Given
   abbrev mach : Val
   mach = LL.val R.the-type R′.the-laws h
 
-  abbrev Arg : Type 0
-  Arg = RefT Run × (Plan × (RefT (List ℕ) × Unit {0}))
-
-  abbrev a : Arg
+  abbrev a : Args start-in.signature (κ, (κ₁, tt))
   a = (record { ptr = (b, o); name = γ; now = h }, (p, (x₁, tt)))
 
-  abbrev vals : List Val × (List Val × (List Val × Unit {0}))
+  abbrev vals : Vals start-in.signature (κ, (κ₁, tt))
   vals = (vptr b o ∷ [], (pv ∷ [], (s₁ ∷ [], tt)))
 
   abbrev Post : Val → SProp 𝓤
@@ -126,14 +115,11 @@ module _ {M : Type 1} (𝓤 : URA M) (H : Heap 𝓤) (A : Atoms 𝓤) (W : Given
   abbrev OwnTable : Fml
   OwnTable = ShrSlice (named 1) κ₁ u32 .own x₁ (s₁ ∷ [])
 
-  -- what each callee's triple binds outside, and that the caller has what it asks
-  abbrev StartArg : Type 0
-  StartArg = Plan × (RefT (List ℕ) × (Run × Unit {0}))
-
-  abbrev start-args : StartArg
+  -- what the triple of `start_over` binds outside, and that the caller has what it asks
+  abbrev start-args : Args start-over.signature (κ₁, tt)
   start-args = (p, (x₁, (h, tt)))
 
-  abbrev start-vals : List Val × (List Val × (List Val × Unit {0}))
+  abbrev start-vals : Vals start-over.signature (κ₁, tt)
   start-vals = (pv ∷ [], (s₁ ∷ [], (mach ∷ [], tt)))
 
   abbrev to-start : StartOver 𝓤 H A at-mem run .Ghost
@@ -144,18 +130,6 @@ module _ {M : Type 1} (𝓤 : URA M) (H : Heap 𝓤) (A : Atoms 𝓤) (W : Given
 
   goes-start : ent 𝓤 (⋆ 𝓤 H A (tokens ∷ ‵ StartOwns ∷ [])) (StartOver 𝓤 H A at-mem run .pre to-start)
   goes-start = qed W (tokens ∷ ‵ StartOwns ∷ []) ∵ join ! $ frame ! $ done !
-
-  abbrev to-started-run : Started → Val → StartedRun 𝓤 H A at-mem run .Ghost
-  to-started-run r w = ((tt, tt, tt, (r, tt), (w ∷ [], tt)), tt)
-
-  goes-started-run : (r : Started) (w : Val) → ent 𝓤 (sem 𝓤 H A (S.the-row .own r (w ∷ []))) (StartedRun 𝓤 H A at-mem run .pre (to-started-run r w))
-  goes-started-run r w = qed W (‵ (S.the-row .own r (w ∷ [])) ∷ []) ∵ nothing ! $ move ! (1 ∷ 0 ∷ []) $ join ! $ nothing ! $ join ! $ frame ! $ done !
-
-  abbrev to-verdict-of : Started → Val → VerdictOf 𝓤 H A at-mem run .Ghost
-  to-verdict-of r w = ((tt, tt, tt, (r, tt), (w ∷ [], tt)), tt)
-
-  goes-verdict-of : (r : Started) (w : Val) → ent 𝓤 (sem 𝓤 H A (S.the-row .own r (w ∷ []))) (VerdictOf 𝓤 H A at-mem run .pre (to-verdict-of r w))
-  goes-verdict-of r w = qed W (‵ (S.the-row .own r (w ∷ [])) ∷ []) ∵ nothing ! $ move ! (1 ∷ 0 ∷ []) $ join ! $ nothing ! $ join ! $ frame ! $ done !
 
   -- what the call leaves, as its contract says it; and that `start_over` says it of what it hands back
   abbrev Left : Verdict → Run → Type 0
@@ -178,7 +152,7 @@ module _ {M : Type 1} (𝓤 : URA M) (H : Heap 𝓤) (A : Atoms 𝓤) (W : Given
   typed : (h₁ : Run) (u : Val) → Is R.the-row h₁ (u ∷ []) → Holds (hasTy R′.mir u) × WT u
   typed h₁ u is = LL.lawful R.the-type R′.the-laws 𝓤 H A W .typed h₁ _ is .0
 
-  module _ (C : Calls 𝓤 H) (Λ : Loops 𝓤 H) (fm : FmC 𝓤 H (W .laws) C) (known-start : Triple 𝓤 (C #lent·start-over) (StartOver 𝓤 H A at-mem run)) (known-run : Triple 𝓤 (C #lent·started-run) (StartedRun 𝓤 H A at-mem run)) (known-verdict : Triple 𝓤 (C #lent·verdict-of) (VerdictOf 𝓤 H A at-mem run)) where
+  module _ (C : Calls 𝓤 H) (Λ : Loops 𝓤 H) (fm : FmC 𝓤 H (W .laws) C) (known-start : Triple 𝓤 (C #lent·start-over) (StartOver 𝓤 H A at-mem run)) (known-run : Triple 𝓤 (C #lent·started-run) (StartedRun 𝓤 H A)) (known-verdict : Triple 𝓤 (C #lent·verdict-of) (VerdictOf 𝓤 H A)) where
     walk : Is P.the-row p (pv ∷ []) → Is (ShrSlice (named 1) κ₁ u32) x₁ (s₁ ∷ [])
         → ent 𝓤 (onEntry 𝓤 H A start-in.signature (κ, (κ₁, tt)) (q, (q₁, tt)) a vals) (WpFn 𝓤 H C Λ code.function (vptr b o ∷ pv ∷ s₁ ∷ []) Post)
     walk is-p is-table =
@@ -203,26 +177,19 @@ module _ {M : Type 1} (𝓤 : URA M) (H : Heap 𝓤) (A : Atoms 𝓤) (W : Given
         split ! $ move ! (1 ∷ []) $ peeks ! S.the-row (Is S.the-row) (shows 𝓤 H A S.the-row) r (w ∷ []) (λ is-r.
         land ! (from ! (stop !)) (init ! 9 refl (LL.lawful S.the-type S′.the-laws 𝓤 H A W .typed r _ is-r .0)) $
         -- `started_run`: [what is handed back; the token; what the table owns; the record's cell; the open borrow; obs; auth; _6; …]
-        use1 W (raw (StartedRun 𝓤 H A at-mem run .pre (to-started-run r w))) (goes-started-run r w) $
-        calls-at ! fm (StartedRun 𝓤 H A at-mem run) known-run (to-started-run r w) (and-then ! (load ! (from ! (stop !)) (look ! 9 refl)) (no-more !)) (λ u.
-        use1 W (later (some (λ (h₁ : Run). (‵ ftrue ⊛ ‵ (R.the-row .own h₁ (u ∷ []))) ⊛ raw (ensured 𝓤 H A started-run.ended (started-run.clauses 𝓤 H A at-mem run) tt (r, tt) tt h₁)))) (id⊢ 𝓤 _) $ await ! tt $ pick ! (λ h₁.
-        split ! $ move ! (1 ∷ []) $ use1 W (raw (fact 𝓤 (h₁ ≡ r .run))) (started-run-said 𝓤 H A at-mem run r h₁) $ heard ! (h₁ ≡ r .run) (λ e₁. split ! $ drop ! $
-        peeks ! R.the-row (Is R.the-row) (shows 𝓤 H A R.the-row) h₁ (u ∷ []) (λ is₁. land ! (from ! (stop !)) (init ! 7 refl (typed h₁ u is₁)) $
+        part-of ! fm S.the-row R.the-row (λ s. s .run) known-run r w (and-then ! (load ! (from ! (stop !)) (look ! 9 refl)) (no-more !)) (λ u h₁ e₁ is₁. land ! (from ! (stop !)) (init ! 7 refl (typed h₁ u is₁)) $
         -- the record is stored, and its borrow closed at it
         assigns ! (of-opd ! (load ! (from ! (stop !)) (look ! 7 refl))) (from ! (hop ! (look ! 17 refl) (stop !))) (store-raw ! 3 refl (typed h₁ u is₁)) $
         move ! (3 ∷ 0 ∷ 4 ∷ 5 ∷ 6 ∷ []) $ closes ! tt R.the-row h₁ (u ∷ []) b o $
         -- `verdict_of`: [obs; the borrow; its token; the table's token; what the table owns; _6; …]
-        owned ! S.the-row (Is S.the-row) (LL.makes S.the-type S′.the-plain 𝓤 H A) r _ is-r $ use1 W (raw (VerdictOf 𝓤 H A at-mem run .pre (to-verdict-of r w))) (goes-verdict-of r w) $
-        calls-at ! fm (VerdictOf 𝓤 H A at-mem run) known-verdict (to-verdict-of r w) (and-then ! (load ! (from ! (stop !)) (look ! 8 refl)) (no-more !)) (λ z.
-        use1 W (later (some (λ (n : Verdict). (‵ ftrue ⊛ ‵ (E.the-row .own n (z ∷ []))) ⊛ raw (ensured 𝓤 H A verdict-of.ended (verdict-of.clauses 𝓤 H A at-mem run) tt (r, tt) tt n)))) (id⊢ 𝓤 _) $ await ! tt $ pick ! (λ n.
-        split ! $ move ! (1 ∷ []) $ use1 W (raw (fact 𝓤 (n ≡ r .verdict))) (verdict-of-said 𝓤 H A at-mem run r n) $ heard ! (n ≡ r .verdict) (λ e₂. split ! $ drop ! $
-        peeks ! E.the-row (Is E.the-row) (shows 𝓤 H A E.the-row) n (z ∷ []) (λ is₂. land ! (from ! (stop !)) (init ! 18 refl (EL.lawful E.the-type E′.the-laws 𝓤 H A W tt .typed n _ is₂ .0)) $
+        owned ! S.the-row (Is S.the-row) (LL.makes S.the-type S′.the-plain 𝓤 H A) r _ is-r $
+        part-of ! fm S.the-row E.the-row (λ s. s .verdict) known-verdict r w (and-then ! (load ! (from ! (stop !)) (look ! 8 refl)) (no-more !)) (λ z n e₂ is₂. land ! (from ! (stop !)) (init ! 18 refl (EL.lawful E.the-type E′.the-laws 𝓤 H A W tt .typed n _ is₂ .0)) $
         returns ! (look ! 18 refl) $ forget ! 6 refl $ forget ! 8 refl $ forget ! 10 refl $ forget ! 12 refl $ forget ! 14 refl $ forget ! 16 refl $ forget ! 18 refl $
         move ! (18 ∷ 19 ∷ []) $ free1 ! $ move ! (16 ∷ 17 ∷ []) $ free1 ! $ move ! (14 ∷ 15 ∷ []) $ free1 ! $ move ! (12 ∷ 13 ∷ []) $ free1 ! $ move ! (10 ∷ 11 ∷ []) $ free1 ! $ move ! (8 ∷ 9 ∷ []) $ free1 ! $ move ! (6 ∷ 7 ∷ []) $ free1 ! $ free0 ! $
-        keep ! (0 ∷ 1 ∷ 2 ∷ 3 ∷ 4 ∷ 5 ∷ []) $ by ! (exits n z h₁ (ap report e₂ ∙ e .0, e₁ ∙ e .1) is-p))))))))))))))))))))))
+        keep ! (0 ∷ 1 ∷ 2 ∷ 3 ∷ 4 ∷ 5 ∷ []) $ by ! (exits n z h₁ (ap report e₂ ∙ e .0, e₁ ∙ e .1) is-p))))))))))))))))
 
 module _ {M : Type 1} (𝓤 : URA M) (H : Heap 𝓤) (A : Atoms 𝓤) (W : Given 𝓤 H A) (at-mem : Memory → SProp 𝓤) (run : Routine → Fun 𝓤) where
-  start-in-walks : (C : Calls 𝓤 H) (Λ : Loops 𝓤 H) → FmC 𝓤 H (W .laws) C → Triple 𝓤 (C #lent·start-over) (StartOver 𝓤 H A at-mem run) → Triple 𝓤 (C #lent·started-run) (StartedRun 𝓤 H A at-mem run) → Triple 𝓤 (C #lent·verdict-of) (VerdictOf 𝓤 H A at-mem run)
+  start-in-walks : (C : Calls 𝓤 H) (Λ : Loops 𝓤 H) → FmC 𝓤 H (W .laws) C → Triple 𝓤 (C #lent·start-over) (StartOver 𝓤 H A at-mem run) → Triple 𝓤 (C #lent·started-run) (StartedRun 𝓤 H A) → Triple 𝓤 (C #lent·verdict-of) (VerdictOf 𝓤 H A)
       → Walks 𝓤 H A start-in.ended stayed (WpFn 𝓤 H C Λ code.function) (start-in.clauses 𝓤 H A at-mem run)
   start-in-walks C Λ fm known-start known-run known-verdict = walked 𝓤 H A start-in.ended stayed (start-in.clauses 𝓤 H A at-mem run) (WpFn 𝓤 H C Λ code.function)
       (λ κs. (ptr-vals, (LL.vals P.the-type P′.the-laws, (slice-vals, tt))))
@@ -237,7 +204,7 @@ module _ {M : Type 1} (𝓤 : URA M) (H : Heap 𝓤) (A : Atoms 𝓤) (W : Given
   )
 
 start-in-meets : {M : Type 1} (𝓤 : URA M) (H : Heap 𝓤) (A : Atoms 𝓤) → Given 𝓤 H A → (at-mem : Memory → SProp 𝓤) (run : Routine → Fun 𝓤) (𝓣 : Tables 𝓤 H)
-    → Triple 𝓤 (𝓣 .C #lent·start-over) (StartOver 𝓤 H A at-mem run) → Triple 𝓤 (𝓣 .C #lent·started-run) (StartedRun 𝓤 H A at-mem run) → Triple 𝓤 (𝓣 .C #lent·verdict-of) (VerdictOf 𝓤 H A at-mem run)
+    → Triple 𝓤 (𝓣 .C #lent·start-over) (StartOver 𝓤 H A at-mem run) → Triple 𝓤 (𝓣 .C #lent·started-run) (StartedRun 𝓤 H A) → Triple 𝓤 (𝓣 .C #lent·verdict-of) (VerdictOf 𝓤 H A)
     → Meets 𝓤 H A start-in.signature (WpFn 𝓤 H (𝓣 .C) (𝓣 .Λ) code.function) (start-in.spec 𝓤 H A at-mem run)
 start-in-meets 𝓤 H A W at-mem run 𝓣 known-start known-run known-verdict =
     walk-meets 𝓤 H A start-in.ended stayed W (goes 𝓤 H A W at-mem run) (start-in.clauses 𝓤 H A at-mem run) (WpFn 𝓤 H (𝓣 .C) (𝓣 .Λ) code.function) (WpFn-mono 𝓤 H (W .laws) 𝓣 code.function)
@@ -250,5 +217,5 @@ start-in-spec 𝓤 H 𝓜 𝓖 𝓡 =
     (tables 𝓤 H 𝓜 𝓡 code.env .C) (tables 𝓤 H 𝓜 𝓡 code.env .Λ) #lent·start-in code.function (code.unfolded 𝓤 H 𝓜 𝓡)
     (start-in-meets 𝓤 H (𝓖 .A) (givenOf 𝓤 H 𝓜 𝓖) (𝓜 .mem) (𝓡 .run) (tablesOf 𝓤 H 𝓜 (tables 𝓤 H 𝓜 𝓡 code.env))
     (cited 𝓤 H (StartOver 𝓤 H (𝓖 .A) (𝓜 .mem) (𝓡 .run)) 𝓜 𝓡 code.env #lent·start-over start-over-def.routine code.calls-lent·start-over (start-over-thm.met 𝓤 H 𝓜 𝓖 𝓡))
-    (cited 𝓤 H (StartedRun 𝓤 H (𝓖 .A) (𝓜 .mem) (𝓡 .run)) 𝓜 𝓡 code.env #lent·started-run started-run-def.routine code.calls-lent·started-run (started-run-thm.met 𝓤 H 𝓜 𝓖 𝓡))
-    (cited 𝓤 H (VerdictOf 𝓤 H (𝓖 .A) (𝓜 .mem) (𝓡 .run)) 𝓜 𝓡 code.env #lent·verdict-of verdict-of-def.routine code.calls-lent·verdict-of (verdict-of-thm.met 𝓤 H 𝓜 𝓖 𝓡)))
+    (cited 𝓤 H (StartedRun 𝓤 H (𝓖 .A)) 𝓜 𝓡 code.env #lent·started-run started-run-def.routine code.calls-lent·started-run (started-run-thm.met 𝓤 H 𝓜 𝓖 𝓡))
+    (cited 𝓤 H (VerdictOf 𝓤 H (𝓖 .A)) 𝓜 𝓡 code.env #lent·verdict-of verdict-of-def.routine code.calls-lent·verdict-of (verdict-of-thm.met 𝓤 H 𝓜 𝓖 𝓡)))
