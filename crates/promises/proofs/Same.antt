@@ -1,76 +1,64 @@
 -- Plans that are the same get the same from a slot's call, and the same outcomes.
 use mathlib.Core.Path.{_≡_, refl, sym, _∙_, ap, ap₂}
+use mathlib.Core.Logic.{_≢_}
 use mathlib.Core.Bool.{Bool, true, false, not, _&&_, _||_}
 use mathlib.Core.List.{List, [], _∷_, _++_}
 use Prim.Native.Nat.{ℕ, zero, suc, _+_, _*_, _-_, _≤_, _<_, min}
 use native.Mathlib.Omega.{arith}
-use borrow.Author.Tests.{ltb-true, ltb-false, eqb-false, not-false, lt-ltb, le-ltb}
+use borrow.Author.Tests.{ltb-true, eqb-false, not-false, lt-ltb, le-ltb}
 use lib.Dec.{leb, ltb, eqb}
 use lib.ListN.{length, getD, length-take}
 use lib.Seq.{getD-take}
 use Rattle.sums.specs.Sum.{sum}
 use Rattle.sums.proofs.Laws.{sum-ext}
 use Rattle.plan.specs.Edition.{mostJobs, mostIntervals, places}
-use Rattle.plan.specs.Refusal.{unsound, bufferTooShort, clockAtEnd, speedAboveNormal}
 use Rattle.plan.specs.Below.{every, least, greatest}
-use Rattle.plan.specs.Rules.{counted, jobOf, release, deadline, size, hi, isHi, ratesAllowed, countAllowed, gradeAllowed, windowAllowed, sizeAllowed, gradesHold, boundsHold}
+use Rattle.plan.specs.Rules.{counted, jobOf, release, deadline, size, hi, isHi, gradeAllowed, windowAllowed, sizeAllowed, gradesHold, boundsHold}
 use Rattle.plan.specs.Boundaries.{boundariesTo, boundaries, intervals, come, present, firstRelease, lastDeadline}
 use Rattle.plan.specs.Table.{allotment}
 use Rattle.plan.specs.Same.{Same}
 use Rattle.plan.specs.declared.kinds.Job.{Job}
-use Rattle.plan.specs.declared.kinds.Rate.{Rate}
 use Rattle.plan.specs.declared.kinds.Plan.{Plan}
 use Rattle.plan.proofs.Below.{every-ext, least-ext, greatest-ext, and-left, and-right}
 use Rattle.plan.proofs.Rising.{boundaries-ext}
 use Rattle.plan.proofs.Timeline.{present-inside}
-use Rattle.judge.specs.Verdict.{Report, orElse, fault}
+use Rattle.judge.specs.Verdict.{Report}
 use Rattle.dispatch.specs.declared.Run.{Run}
-use Rattle.dispatch.specs.Dues.{carriedOf, live, slowAfter, belowAfter, goal, due}
+use Rattle.dispatch.specs.Dues.{carriedOf, live, slowAfter, goal, due}
 use Rattle.dispatch.specs.Turns.{line, order}
-use Rattle.dispatch.specs.Step.{started, slotSound, slotFault, granted, added, advanced, slotBy, stepped, outcome}
-use Rattle.dispatch.proofs.Line.{stands, if-true, if-less, neither, line-ext, serve-ext, stands-both, stands-below}
+use Rattle.dispatch.specs.Step.{started, slotSound, refusedBy, slotFault, granted, advanced, slotBy, stepped, outcome}
+use Rattle.dispatch.proofs.Line.{stands, if-true, if-less, line-ext, serve-ext, stands-both, stands-below}
 use Rattle.promises.specs.Cases.{padded, job, tableOf, capitalMirror, jobsOfE, planE, tableE}
 use Rattle.promises.proofs.Sound.{SlotSound, slot-sound}
 
--- Where nothing is refused, neither the first fault nor any later one is there.
-pub clear : (b : Bool) (number : ℕ) (rest : List ℕ) (next : Report) → orElse (fault b (number ∷ rest)) next ≡ [] → (b ≡ false) × (next ≡ [])
-clear true number rest next e = let z : _≡_ {A = ℕ} 0 1 = cc in absurd (omega arith)
-clear false number rest next e = (refl, e)
+-- Where nothing is refused, plan and run are sound and the clock is not at the end.
+none-refused : (bad short ended fast : Bool) → refusedBy bad short ended fast ≡ [] → (bad ≡ false) × (ended ≡ false)
+none-refused true short ended fast e = let z : _≡_ {A = ℕ} 0 1 = cc in absurd (omega arith)
+none-refused false true ended fast e = let z : _≡_ {A = ℕ} 0 1 = cc in absurd (omega arith)
+none-refused false false true fast e = let z : _≡_ {A = ℕ} 0 1 = cc in absurd (omega arith)
+none-refused false false false fast e = (refl, refl)
 
 -- A done call: what its tests have found.
 pub record Done (p : Plan) (table : List ℕ) (run : Run) (v : ℕ) (grants : List ℕ) : Type 0 where
   pub sound : SlotSound p run
-  pub table-long : places ≤ length table
-  pub grants-long : counted p ≤ length grants
   pub before-end : run .clock .0 < lastDeadline p
-  pub speed : v ≤ p .n .0
 
 pub done : (p : Plan) (table : List ℕ) (run : Run) (v : ℕ) (grants : List ℕ) → slotFault p table run v grants ≡ [] → Done p table run v grants
 unfolding slotFault
 done p table run v grants e =
-    let short : Bool = ltb (length table) places || ltb (length grants) (counted p) in
-    let ends : Bool = eqb (run .clock .0) (lastDeadline p) in
-    let fast : Bool = ltb (p .n .0) v in
-    let e1 = clear (not (slotSound p run)) unsound []
-    (orElse (fault short (bufferTooShort ∷ [])) (orElse (fault ends (clockAtEnd ∷ [])) (fault fast (speedAboveNormal ∷ [])))) e in
-    let e2 = clear short bufferTooShort [] (orElse (fault ends (clockAtEnd ∷ [])) (fault fast (speedAboveNormal ∷ []))) (e1 .1) in
-    let e3 = clear ends clockAtEnd [] (fault fast (speedAboveNormal ∷ [])) (e2 .1) in
-    let sound = slot-sound p run (not-false (slotSound p run) (e1 .0)) in
-    let long = neither (ltb (length table) places) (ltb (length grants) (counted p)) (e2 .0) in
-    record {
-      sound = sound;
-      table-long = ltb-false (length table) places (long .0);
-      grants-long = ltb-false (length grants) (counted p) (long .1);
-      before-end = early (sound .not-over) (eqb-false (run .clock .0) (lastDeadline p) (e3 .0));
-      speed = ltb-false (p .n .0) v (last fast (e3 .1));
-    }
+    let none = none-refused (not (slotSound p run)) (ltb (length table) places || ltb (length grants) (counted p))
+    (eqb (run .clock .0) (lastDeadline p)) (ltb (p .n .0) v) e in
+    let sound = slot-sound p run (not-false (slotSound p run) (none .0)) in
+    record { sound = sound; before-end = early (sound .not-over) (eqb-false (run .clock .0) (lastDeadline p) (none .1)) }
   where
-    early : run .clock .0 ≤ lastDeadline p → (run .clock .0 ≡ lastDeadline p → ⊥) → run .clock .0 < lastDeadline p
+    early : run .clock .0 ≤ lastDeadline p → run .clock .0 ≢ lastDeadline p → run .clock .0 < lastDeadline p
     early h n = omega arith
 
-    last : (b : Bool) → fault b (speedAboveNormal ∷ []) ≡ [] → b ≡ false
-    last true e′ = let z : _≡_ {A = ℕ} 0 1 = cc in absurd (omega arith)
-    last false e′ = refl
+-- In two lines, one behind the other, stand only jobs below their length.
+two-below : (test other : ℕ → Bool) (by : ℕ → ℕ) (n k : ℕ) → stands k (line test by n ++ line other by n) ≡ true → k < n
+two-below test other by n k e =
+    let e′ = sym (stands-both k (line test by n) (line other by n)) ∙ e in
+    if-true (stands k (line test by n)) (stands-below test by k n) (λ out. stands-below other by k n (rw out at e′))
 
 -- An outcome that is not refused is a counted job's.
 pub asked-counted : (p : Plan) (run : Run) (i : ℕ) → (slotSound p run && ltb i (p .count)) ≡ true → i < counted p
@@ -123,17 +111,9 @@ module _ (p : Plan) (table : List ℕ) (q : Plan) (other : List ℕ) (same : Sam
   pub slot-sound-same : (run : Run) → slotSound p run ≡ slotSound q run
   unfolding slotSound
   slot-sound-same run =
-      ap₂ _&&_
-      (ap₂ _&&_
-      (ap₂ _&&_
-      (ap₂ _&&_
-      (ap₂ _&&_
-      (ap₂ _&&_ (ap₂ (λ (n : Rate) (d : Rate). ratesAllowed (n .0) (d .0)) (same .n) (same .d)) (ap countAllowed (same .count)))
-      grades-same)
-      bounds-same)
-      (ap (λ t. leb t (run .clock .0)) first-same))
-      (ap (λ t. leb (run .clock .0) t) last-same))
-      (every-ext _ _ (counted p) (λ i h. ap (leb (carriedOf run i)) (size-same i h)) ∙ ap (every _) counted-same)
+      let carried : every (λ i. leb (carriedOf run i) (size p i)) (counted p) ≡ every (λ i. leb (carriedOf run i) (size q i)) (counted q)
+      = every-ext _ _ (counted p) (λ i h. ap (leb (carriedOf run i)) (size-same i h)) ∙ ap (every _) counted-same in
+      rw (carried, grades-same, bounds-same, first-same, last-same, same .n, same .d, same .count) refl
 
   -- A table of the same places is long enough or not alike.
   pub long-same : ltb (length table) places ≡ ltb (length other) places
@@ -143,6 +123,10 @@ module _ (p : Plan) (table : List ℕ) (q : Plan) (other : List ℕ) (same : Sam
       if-less (length table) places
       (λ l. lt-ltb (length table) places l ∙ sym (lt-ltb (length other) places (omega arith)))
       (λ l. le-ltb (length table) places l ∙ sym (le-ltb (length other) places (omega arith)))
+
+  -- So are its own places.
+  pub cell-same : (k : ℕ) → k < places → getD table k 0 ≡ getD other k 0
+  cell-same k h = sym (getD-take places table k 0 h) ∙ ap (λ c. getD c k 0) (same .cells) ∙ getD-take places other k 0 h
 
   fault-same : (run : Run) (v : ℕ) (grants : List ℕ) → slotFault p table run v grants ≡ slotFault q other run v grants
   unfolding slotFault
@@ -164,17 +148,7 @@ module _ (p : Plan) (table : List ℕ) (q : Plan) (other : List ℕ) (same : Sam
 
   order-below : (t : ℕ) (slow : Bool) (k : ℕ) → stands k (order p t slow) ≡ true → k < counted p
   unfolding order
-  order-below t slow k e = go (stands k hiLine) refl (sym (stands-both k hiLine loLine) ∙ e)
-    where
-      hiLine : List ℕ
-      hiLine = line (λ i. live p t i && isHi p i) (deadline p) (counted p)
-
-      loLine : List ℕ
-      loLine = line (λ i. live p t i && not (isHi p i) && not slow) (deadline p) (counted p)
-
-      go : (b : Bool) → stands k hiLine ≡ b → (stands k hiLine || stands k loLine) ≡ true → k < counted p
-      go true is e′ = stands-below _ (deadline p) k (counted p) is
-      go false is e′ = stands-below _ (deadline p) k (counted p) (rw is at e′)
+  order-below t slow k e = two-below _ _ (deadline p) (counted p) k e
 
   -- In a done call the dues rest on the table's own places alone.
   due-same : (run : Run) (v : ℕ) (grants : List ℕ) → Done p table run v grants → (slow : Bool) (i : ℕ) → i < counted p
@@ -190,10 +164,7 @@ module _ (p : Plan) (table : List ℕ) (q : Plan) (other : List ℕ) (same : Sam
       allotted-same : sum (allotment mostIntervals table i) (suc (present p t)) ≡ sum (allotment mostIntervals other i) (suc (present q t))
       allotted-same =
           sum-ext _ _ (suc (present p t))
-          (λ j l.
-          let inside : mostIntervals * i + j < places = omega (arith, here, d .sound .rules .spans, d .sound .rules .few) in
-          sym (getD-take places table (mostIntervals * i + j) 0 inside) ∙ ap (λ c. getD c (mostIntervals * i + j) 0) (same .cells)
-          ∙ getD-take places other (mostIntervals * i + j) 0 inside)
+          (λ j l. cell-same (mostIntervals * i + j) (omega (arith, here, d .sound .rules .spans, d .sound .rules .few)))
           ∙ ap (λ k. sum (allotment mostIntervals other i) (suc k)) (present-same t)
 
       goal-same : (slow : Bool) → goal p table t slow i ≡ goal q other t slow i
@@ -210,16 +181,7 @@ module _ (p : Plan) (table : List ℕ) (q : Plan) (other : List ℕ) (same : Sam
   advanced-same : (run : Run) (v : ℕ) (grants : List ℕ) → granted p table run v grants ≡ granted q other run v grants
       → advanced p table run v grants ≡ advanced q other run v grants
   unfolding advanced
-  advanced-same run v grants g =
-      let below-same : belowAfter p run v ≡ belowAfter q run v = ap (λ r. run .below || ltb v (r .0)) (same .d) in
-      let carried-same : added (counted p) (run .carried) (granted p table run v grants) ≡ added (counted q) (run .carried) (granted q other run v grants)
-      = ap₂ (λ n l. added n (run .carried) l) counted-same g in
-      λ t. record {
-        clock = record { 0 = run .clock .0 + 1 };
-        slow = slow-same run v t;
-        below = below-same t;
-        carried = carried-same t;
-      }
+  advanced-same run v grants g = rw (g, counted-same, same .n, same .d) refl
 
   -- Plans that are the same get the same answer, run and grants from a slot's call.
   pub same-slot : (run : Run) (v : ℕ) (grants : List ℕ) → stepped p table run v grants ≡ stepped q other run v grants
@@ -230,8 +192,7 @@ module _ (p : Plan) (table : List ℕ) (q : Plan) (other : List ℕ) (same : Sam
       go : (r : Report) → slotFault p table run v grants ≡ r → slotBy r p table run v grants ≡ slotBy r q other run v grants
       go [] e =
           let g = granted-same run v grants (done p table run v grants e) in
-          let a = advanced-same run v grants g in
-          λ t. record { answer = []; run = a t; grants = g t }
+          rw (advanced-same run v grants g, g) refl
       go (number ∷ rest) e = refl
 
   -- The outcome of a job rests on the counted records alone.

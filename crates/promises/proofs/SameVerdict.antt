@@ -1,5 +1,5 @@
 -- Plans that are the same get the same verdict, the same slack figure and the same start.
-use mathlib.Core.Path.{_≡_, refl, sym, _∙_, ap, ap₂}
+use mathlib.Core.Path.{_≡_, refl, _∙_, ap, ap₂}
 use mathlib.Core.Bool.{false, not, _&&_, _||_}
 use mathlib.Core.List.{List, [], _∷_}
 use Prim.Native.Nat.{ℕ, zero, suc, _+_, _*_, _-_, _<_}
@@ -7,13 +7,12 @@ use native.Mathlib.Omega.{arith}
 use lib.Dec.{leb, ltb, eqb}
 use lib.IntN.{subℕ}
 use lib.ListN.{length, getD, replicate}
-use lib.Seq.{getD-take}
 use Rattle.sums.specs.Sum.{sum, on}
 use Rattle.sums.proofs.Laws.{sum-ext}
-use Rattle.plan.specs.Edition.{mostJobs, mostIntervals, places}
+use Rattle.plan.specs.Edition.{mostJobs, mostIntervals}
 use Rattle.plan.specs.Refusal.{outsideWindow, wrongTotal, overCapacity, belowFloorRule}
 use Rattle.plan.specs.Below.{every}
-use Rattle.plan.specs.Rules.{counted, name, nameAllowed, sameName, ratesAllowed, countAllowed, namesHold, namesDiffer, rulesHold}
+use Rattle.plan.specs.Rules.{counted, name, nameAllowed, sameName, namesHold, namesDiffer, rulesHold}
 use Rattle.plan.specs.Boundaries.{boundary, intervals}
 use Rattle.plan.specs.Table.{sound}
 use Rattle.plan.specs.Same.{Same}
@@ -28,7 +27,7 @@ use Rattle.judge.proofs.First.{first-ext}
 use Rattle.dispatch.specs.Step.{noRun, started, startFrom, startIn}
 use Rattle.dispatch.specs.declared.Run.{Run}
 use Rattle.promises.specs.Cases.{planE, tableE}
-use Rattle.promises.proofs.Same.{counted-same, release-same, deadline-same, size-same, hi-same, boundaries-same, first-same, every-same, grades-same, bounds-same, long-same, elseE, elseTable, same-E}
+use Rattle.promises.proofs.Same.{counted-same, release-same, deadline-same, size-same, hi-same, boundaries-same, first-same, every-same, grades-same, bounds-same, long-same, cell-same, elseE, elseTable, same-E}
 
 -- Steps that agree give the same, however often.
 through-ext : {A : Type 0} (f g : ℕ → A → A) (n : ℕ) → ((k : ℕ) (a : A) → f k a ≡ g k a) → (a : A) → through f n a ≡ through g n a
@@ -63,15 +62,7 @@ module _ (p : Plan) (table : List ℕ) (q : Plan) (other : List ℕ) (same : Sam
   pub rules-same : rulesHold p ≡ rulesHold q
   unfolding rulesHold
   rules-same =
-      ap₂ _&&_
-      (ap₂ _&&_
-      (ap₂ _&&_
-      (ap₂ _&&_
-      (ap₂ _&&_ (ap₂ (λ (n : Rate) (d : Rate). ratesAllowed (n .0) (d .0)) (same .n) (same .d)) (ap countAllowed (same .count)))
-      names-hold-same)
-      names-differ-same)
-      (grades-same p table q other same))
-      (bounds-same p table q other same)
+      rw (names-hold-same, names-differ-same, grades-same p table q other same, bounds-same p table q other same, same .n, same .d, same .count) refl
 
   pub sound-same : sound p table ≡ sound q other
   unfolding sound
@@ -79,10 +70,7 @@ module _ (p : Plan) (table : List ℕ) (q : Plan) (other : List ℕ) (same : Sam
 
   -- What is allotted in a job's intervals stands among the table's own places.
   units-same : (i j : ℕ) → i < counted p → j < intervals p → units table i j ≡ units other i j
-  units-same i j h k =
-      let inside : mostIntervals * i + j < places = omega (arith, boundaries-few p (counted p)) in
-      sym (getD-take places table (mostIntervals * i + j) 0 inside) ∙ ap (λ c. getD c (mostIntervals * i + j) 0) (same .cells)
-      ∙ getD-take places other (mostIntervals * i + j) 0 inside
+  units-same i j h k = cell-same p table q other same (mostIntervals * i + j) (omega (arith, boundaries-few p (counted p)))
 
   window-same : (i j : ℕ) → i < counted p → inWindow p i j ≡ inWindow q i j
   window-same i j h =
