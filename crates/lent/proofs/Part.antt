@@ -34,7 +34,7 @@ module _ {M : Type 1} (𝓤 : URA M) (H : Heap 𝓤) (A : Atoms 𝓤) (R Q : Rat
   abbrev pub Part : Contract 𝓤
   Part = tripleOf 𝓤 H A (ended R Q .signature) (closing 𝓤 H A (ended R Q) clauses)
 
-  abbrev pub told : R .Denot → Val → Part .Ghost
+  abbrev told : R .Denot → Val → Part .Ghost
   told x w = ((tt, tt, tt, (x, tt), (w ∷ [], tt)), tt)
 
 module _ {M : Type 1} {𝓤 : URA M} {H : Heap 𝓤} {A : Atoms 𝓤} {K : Type 0} {W : Given 𝓤 H A} {Γ : List (Item 𝓤)} {E : Env 𝓤 H} {C : Calls 𝓤 H} {Λ : Loops 𝓤 H} {f : Name} {xs : List Operand} {d : Place} {rest : Code} {q : Post 𝓤 H} where
