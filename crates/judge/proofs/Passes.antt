@@ -2,7 +2,7 @@
 use mathlib.Core.Path.{_≡_, refl, sym, _∙_, ap, ap₂}
 use mathlib.Core.Bool.{Bool, true, false, not, cond, _&&_, and-true, and-false}
 use mathlib.Core.List.{List, [], _∷_}
-use mathlib.Core.Logic.{_⊎_, ⊎-elim}
+use mathlib.Core.Logic.{_⊎_, inl, inr}
 use Prim.Native.Nat.{ℕ, zero, suc, _+_, _*_, _-_, _≤_, _<_, min}
 use native.Mathlib.Nat.{zero-add, mul-le-mul-right}
 use native.Mathlib.Decide.{decLt}
@@ -166,7 +166,7 @@ lowest-next p table sums times m low until r place due e h columns d q here so =
         record {
           few = omega (arith, so .few);
           below = λ l b. more-true (holdsAt p table l) m (so .below l (omega arith)) (kept l b (decLt l m));
-          there = λ k. fails k (lowest-at (asksMore (p .d .0) sums times m) low 0 m);
+          there = fails (lowest (asksMore (p .d .0) sums times m) low 0 m) q (decLt _ low) (lowest-at (asksMore (p .d .0) sums times m) low 0 m);
         }
       where
         kept : (l : ℕ) → l < r → Dec (l < m) → holdsAt p table l m ≡ true
@@ -176,30 +176,21 @@ lowest-next p table sums times m low until r place due e h columns d q here so =
             ∙ ap not (and-false (isPair p l m))
         kept l b (no c) = ap (λ x. not (x && fallsShort p table l m)) (early-pair p l m (omega arith))
 
-        fails : r < intervals p
-            → (lowest (asksMore (p .d .0) sums times m) low 0 m ≡ low)
-            ⊎ ((lowest (asksMore (p .d .0) sums times m) low 0 m < 0 + m)
-            × (asksMore (p .d .0) sums times m (lowest (asksMore (p .d .0) sums times m) low 0 m) ≡ true))
+        -- The lowest moves to one that asks for more, or stays.
+        fails : (found : ℕ) → r ≡ min low found → Dec (found < low)
+            → (found ≡ low) ⊎ ((found < 0 + m) × (asksMore (p .d .0) sums times m found ≡ true)) → r < intervals p
             → (place < m + 1) × (holdsAt p table r place ≡ false) × (every (holdsAt p table r) place ≡ true)
-        fails k w =
-            by-order (lowest (asksMore (p .d .0) sums times m) low 0 m) low
-            (λ x. let same : r ≡ low = omega arith in rw same (still same (omega arith)))
-            (λ x.
-            let same : r ≡ lowest (asksMore (p .d .0) sums times m) low 0 m = omega arith in
+        fails found is (no x) w k = let same : r ≡ low = omega arith in rw same (still same (omega arith))
+        fails found is (yes x) (inl y) k = absurd (omega arith)
+        fails found is (yes x) (inr y) k =
+            let same : r ≡ found = omega arith in
             let moves : place ≡ m = here ∙ ap (λ b. cond b m until) (lt-ltb r low (omega arith)) in
-            ⊎-elim
-            (λ (y : lowest (asksMore (p .d .0) sums times m) low 0 m ≡ low). absurd (omega (arith, y)))
-            (λ (y : (lowest (asksMore (p .d .0) sums times m) low 0 m < 0 + m)
-            × (asksMore (p .d .0) sums times m (lowest (asksMore (p .d .0) sums times m) low 0 m) ≡ true)).
-            let found = lowest (asksMore (p .d .0) sums times m) low 0 m in
             let early : found < m = omega (arith, y .0) in
             rw (moves, same) (
               omega arith,
               ap₂ (λ u v. not (u && v)) (true-pair p found m early (sym d)) (sym (asks-is p table sums times found m e early h columns) ∙ y .1),
               so .below found (omega arith),
-            ))
-            w)
-            (λ x. let same : r ≡ low = omega arith in rw same (still same (omega arith)))
+            )
 
 -- A column sum is at most what all jobs' places can hold.
 pub column-bound : (p : Plan) (table : List ℕ) (m j : ℕ) → ((q : ℕ) → getD table q 0 ≤ mostAtPlace) → columnSum p table m j ≤ mostJobs * mostAtPlace
