@@ -10,7 +10,7 @@ use reference::refusal::{
     OUTSIDE_WINDOW, RATES, SPEED, VERSION,
 };
 use reference::run::{start, step};
-use reference::slack::{slack_figure, slack_of_pair, SlackFigure};
+use reference::slack::{slack_figure, slack_of_pair};
 
 fn four_jobs() -> Plan {
     plan_of(&[
