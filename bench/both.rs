@@ -13,6 +13,7 @@ use std::process::ExitCode;
 use std::time::{Duration, Instant};
 
 use bench::inputs::{Input, Shape, LARGEST_FILE};
+use bench::refusal::TOO_SHORT;
 use bench::{judge, read, slack, step, write, Plan, Run, Slack, Verdict, MOST_JOBS, PLACES};
 use calls::*;
 
@@ -23,8 +24,7 @@ fn main() -> ExitCode {
     let words: Vec<String> = env::args().skip(1).collect();
     let words: Vec<&str> = words.iter().map(String::as_str).collect();
     let done = match words[..] {
-        ["count", shape, jobs] => input_of(shape, jobs).map(|(input, judged)| measure(How::Count, &Both::new(input), judged)),
-        ["time", shape, jobs] => input_of(shape, jobs).map(|(input, judged)| measure(How::Time, &Both::new(input), judged)),
+        [how, shape, jobs] => how_of(how).zip(input_of(shape, jobs)).map(|(how, (input, judged))| measure(how, &Both::new(input), judged)),
         ["stack"] => Some(stacks()),
         _ => None,
     };
@@ -33,6 +33,14 @@ fn main() -> ExitCode {
         return ExitCode::from(2);
     }
     ExitCode::SUCCESS
+}
+
+fn how_of(how: &str) -> Option<How> {
+    match how {
+        "count" => Some(How::Count),
+        "time" => Some(How::Time),
+        _ => None,
+    }
 }
 
 /// An input, and whether the judge accepts it.
@@ -92,8 +100,8 @@ impl Both {
 
 fn plan_words(plan: &Plan) -> [u64; PLAN_WORDS] {
     let mut words = [0; PLAN_WORDS];
-    words[..3].copy_from_slice(&[plan.n.into(), plan.d.into(), plan.count as u64]);
-    for (words, job) in words[3..].chunks_exact_mut(5).zip(&plan.jobs) {
+    words[..HEAD_WORDS].copy_from_slice(&[plan.n.into(), plan.d.into(), plan.count as u64]);
+    for (words, job) in words[HEAD_WORDS..].chunks_exact_mut(JOB_WORDS).zip(&plan.jobs) {
         words.copy_from_slice(&[job.name, job.grade.into(), job.release.into(), job.size, job.deadline.into()]);
     }
     words
@@ -101,8 +109,8 @@ fn plan_words(plan: &Plan) -> [u64; PLAN_WORDS] {
 
 fn run_words(run: &Run) -> [u32; RUN_WORDS] {
     let mut words = [0; RUN_WORDS];
-    words[..3].copy_from_slice(&[run.clock, run.slow.into(), run.below_floor.into()]);
-    words[3..].copy_from_slice(&run.carried);
+    words[..MARK_WORDS].copy_from_slice(&[run.clock, run.slow.into(), run.below_floor.into()]);
+    words[MARK_WORDS..].copy_from_slice(&run.carried);
     words
 }
 
@@ -157,7 +165,7 @@ fn timed(call: &str, who: &str, mut make: impl FnMut()) {
         }
         least = least.min(begun.elapsed());
     }
-    println!("time {call} {who} {}", (least / CALLS).as_nanos());
+    println!("time {call} {who} {:.1}", least.as_nanos() as f64 / f64::from(CALLS));
 }
 
 fn measure(how: How, both: &Both, judged: bool) {
@@ -199,7 +207,7 @@ fn measure_write(how: How, both: &Both) {
         black_box(black_box(both).write(black_box(&plain.table), black_box(&mut out), black_box(&mut written)));
     });
     // A table without places is refused as soon as the plan is there: what is left is the way from words to a plan.
-    assert_eq!(both.write(&[], &mut out, &mut written), 22);
+    assert_eq!(both.write(&[], &mut out, &mut written), TOO_SHORT.into());
     section(how, "decode", "ours", || {
         black_box(black_box(both).write(black_box(&[]), black_box(&mut out), black_box(&mut written)));
     });
