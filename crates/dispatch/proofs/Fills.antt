@@ -70,7 +70,7 @@ is-filled f n l row long front rest =
     (λ behind. filled-rest f n l k behind ∙ sym (rest k behind)))
 
 -- Sums of two rows, place by place.
-added-length : (n : ℕ) (l g : List ℕ) → length (added n l g) ≡ length l
+pub added-length : (n : ℕ) (l g : List ℕ) → length (added n l g) ≡ length l
 unfolding added
 added-length zero l g = refl
 added-length (suc n) [] g = refl

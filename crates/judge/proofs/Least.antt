@@ -45,6 +45,14 @@ no-later-two s t u i l j D E F a b =
         let then : l ≡ j = omega arith in
         omega (arith, a .deadline (first e) same, b .deadline (sym (first e) ∙ e) then)
 
+-- A lower slack comes first, wherever it stands.
+lower-first : (s t : ℤ) (i l D E : ℕ) → ltZ s t ≡ true → NoLater s i D t l E
+lower-first s t i l D E h =
+    record { slack = below-not s t h; interval = λ e. absurd (differ e); deadline = λ e q. absurd (differ e) }
+  where
+    differ : s ≡ t → ⊥
+    differ e = true≢false (sym h ∙ ap (λ x. ltZ x t) e ∙ not-below-self t)
+
 no-later-both : (s t : ℤ) (i l D E : ℕ) → NoLater s i D t l E → NoLater t l E s i D → least s i D ≡ least t l E
 no-later-both s t i l D E a b =
     let slack : s ≡ t = same-both s t (b .slack) (a .slack) in
@@ -145,12 +153,7 @@ module _ (p : Plan) (table : List ℕ) (In Out : ℕ → ℕ → Type 0) (l k : 
       let r = so .reached in
       let early = before i (r .0) (r .1) in
       among-tested s i D (ltZ t s)
-      (λ h.
-      record {
-        slack = below-not t s h;
-        interval = λ e. absurd (true≢false (sym h ∙ ap (λ x. ltZ x s) e ∙ not-below-self s));
-        deadline = λ e q. absurd (true≢false (sym h ∙ ap (λ x. ltZ x s) e ∙ not-below-self s));
-      })
+      (λ h. lower-first t s l i (boundary p k) D h)
       (λ h. record { slack = h; interval = λ e. early .0; deadline = λ e q. omega (arith, r .3, early .1 q) })
       so
 
@@ -165,12 +168,7 @@ module _ (p : Plan) (table : List ℕ) (In Out : ℕ → ℕ → Type 0) (l k : 
       among-tested s i D (ltZ t s || leZ t s && ltb l i) (new t (ltZ t s) refl (leZ t s) refl) (old t (ltZ t s) refl (omega (arith, r .3, before i (r .0) (r .1)))) so
     where
       new : (t : ℤ) (a : Bool) → ltZ t s ≡ a → (b : Bool) → leZ t s ≡ b → (a || b && ltb l i) ≡ true → NoLater t l (boundary p k) s i D
-      new t true x b y h =
-          record {
-            slack = below-not t s x;
-            interval = λ e. absurd (true≢false (sym x ∙ ap (λ z. ltZ z s) e ∙ not-below-self s));
-            deadline = λ e q. absurd (true≢false (sym x ∙ ap (λ z. ltZ z s) e ∙ not-below-self s));
-          }
+      new t true x b y h = lower-first t s l i (boundary p k) D x
       new t false x true y h =
           let less : l < i = ltb-true l i h in
           record { slack = at-most-not t s y; interval = λ e. omega arith; deadline = λ e q. absurd (omega arith) }

@@ -1,6 +1,6 @@
 -- The floor rule's one pass over the boundaries: which jobs are in the column sums, what the sums are, and the lowest interval that falls short.
 use mathlib.Core.Path.{_≡_, refl, sym, _∙_, ap, ap₂}
-use mathlib.Core.Bool.{Bool, true, false, not, cond, _&&_, and-true, and-false}
+use mathlib.Core.Bool.{Bool, true, false, not, cond, _&&_, and-false}
 use mathlib.Core.List.{List, [], _∷_}
 use mathlib.Core.Logic.{_⊎_, inl, inr}
 use Prim.Native.Nat.{ℕ, zero, suc, _+_, _*_, _-_, _≤_, _<_, min}
@@ -19,7 +19,7 @@ use Rattle.plan.specs.Rules.{isAbsent, counted, release, size, deadline, isHi, 
 use Rattle.plan.specs.Boundaries.{boundaries, boundary, intervals}
 use Rattle.plan.specs.declared.kinds.Plan.{Plan}
 use Rattle.plan.proofs.Rising.{by-order, boundaries-few}
-use Rattle.plan.proofs.Below.{every-start, every-next, every-ext, every-split, every-all, every-at, both, greatest-attained}
+use Rattle.plan.proofs.Below.{every-start, every-next, every-ext, every-cut, every-all, every-at, both, greatest-attained}
 use Rattle.plan.proofs.Timeline.{deadline-is-boundary, last-boundary}
 use Rattle.judge.specs.Constraints.{mostAtPlace, units, demand}
 use Rattle.judge.specs.Verdict.{Report, fault, isNone, first, isHiDeadline, isPair, fallsShort, floorFault}
@@ -246,13 +246,7 @@ ready-from p table times deadlines spans h ds =
       early = early-boundary p (h .4);
     }
 
--- A test that holds from a number on, and terms that are nothing from it on, do not matter past it.
-every-cut : (test : ℕ → Bool) (m n : ℕ) → m ≤ n → ((k : ℕ) → m ≤ k → k < n → test k ≡ true) → every test n ≡ every test m
-every-cut test m n h more =
-    let e : n ≡ m + (n - m) = omega arith in
-    ap (every test) e ∙ every-split test m (n - m)
-    ∙ ap (λ b. every test m && b) (every-all _ (n - m) (λ k b. more (m + k) (omega arith) (omega arith))) ∙ and-true (every test m)
-
+-- Terms that are nothing from a number on do not matter past it.
 sum-cut : (f : ℕ → ℕ) (m n : ℕ) → m ≤ n → ((k : ℕ) → m ≤ k → k < n → f k ≡ 0) → sum f n ≡ sum f m
 sum-cut f m n h more =
     let e : n ≡ m + (n - m) = omega arith in

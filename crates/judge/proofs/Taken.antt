@@ -1,6 +1,6 @@
 -- A column's intervals taken in from the last back, as numbers: of two pairs with one deadline, taken in one behind the other, one is enough.
 use mathlib.Core.Path.{_≡_, refl, sym, _∙_, ap}
-use mathlib.Core.Bool.{Bool, true, false, cond, not, _&&_, _||_, true≢false}
+use mathlib.Core.Bool.{Bool, true, false, cond, not, _&&_, _||_, or-true, true≢false}
 use mathlib.Core.List.{List}
 use Prim.Native.Nat.{ℕ, zero, suc, _+_, _*_, _-_, _≤_, _<_}
 use native.Mathlib.Nat.{mul-le-mul}
@@ -20,16 +20,12 @@ use Rattle.judge.proofs.Signed.{difference-at-most, below-not, at-most-
 abbrev comes : ℤ → ℕ → ℤ → ℕ → Bool
 comes s l best l₀ = ltZ s best || leZ s best && ltb l l₀
 
-or-true : (x y : Bool) → y ≡ true → (x || y) ≡ true
-or-true true y h = refl
-or-true false y h = h
-
 -- A pair at a lower interval comes before another exactly where its slack is no greater.
 comes-lower : (a b : ℤ) (i j : ℕ) → j < i → comes b j a i ≡ leZ b a
 comes-lower a b i j h = rw (lt-ltb j i h) (go (ltZ b a) refl (leZ b a) refl)
   where
     go : (x : Bool) → ltZ b a ≡ x → (y : Bool) → leZ b a ≡ y → (x || y && true) ≡ y
-    go x e true k = or-true x true refl
+    go x e true k = or-true x
     go true e false k = absurd (true≢false (sym (not-at-most-below b a k) ∙ below-not b a e))
     go false e false k = refl
 
@@ -45,8 +41,7 @@ module _ (a b s : ℤ) (i j l : ℕ) (h : j < i) where
       go : (x : Bool) → ltZ a s ≡ x → (y : Bool) → leZ a s ≡ y → (x || y && ltb i l) ≡ true → comes b j s l ≡ true
       go true e y c t = rw (below (ltZ b s) refl e) refl
       go false e true c t =
-          or-true (ltZ b s) _
-          (rw (not-below-at-most b s (not-below-two b a s (at-most-not b a k) (at-most-not a s c)), lt-ltb j l (omega (arith, ltb-true i l t))) refl)
+          rw (not-below-at-most b s (not-below-two b a s (at-most-not b a k) (at-most-not a s c)), lt-ltb j l (omega (arith, ltb-true i l t))) (or-true (ltZ b s))
       go false e false c t = absurd (true≢false (sym t))
 
   comes-neither : leZ b a ≡ false → comes a i s l ≡ false → comes b j s l ≡ false

@@ -1,7 +1,7 @@
 -- The laws of rising times: their order, and how many have come by one of them.
-use mathlib.Core.Path.{_≡_, refl, sym, _∙_, ap}
-use mathlib.Core.List.{List, [], _∷_}
-use Prim.Native.Nat.{ℕ, zero, suc, _+_, _≤_, _<_}
+use mathlib.Core.Path.{_≡_, sym, _∙_, ap}
+use mathlib.Core.List.{List, _∷_}
+use Prim.Native.Nat.{ℕ, zero, suc, _+_, _<_}
 use native.Mathlib.Decide.{decLt}
 use native.Mathlib.Omega.{arith}
 use borrow.Author.Tests.{lt-ltb, le-ltb, le-leb, lt-leb}
@@ -9,15 +9,11 @@ use lib.Dec.{leb, ltb, leb·suc-suc}
 use lib.ListN.{length, getD}
 use Rattle.sums.specs.Sum.{on}
 use Rattle.plan.specs.Boundaries.{Rising, come}
-
--- No time of rising times is below the least one.
-rising-low : (low k : ℕ) (l : List ℕ) → Rising low l → k < length l → low ≤ getD l k 0
-rising-low low zero (x ∷ l) r h = r .0
-rising-low low (suc k) (x ∷ l) r h = omega (arith, rising-low (suc x) k l (r .1) (omega arith), r .0)
+use Rattle.plan.proofs.Timeline.{rising-all, come-none}
 
 -- Earlier is less.
 pub rising-less : (low j k : ℕ) (l : List ℕ) → Rising low l → j < k → k < length l → getD l j 0 < getD l k 0
-rising-less low zero (suc k) (x ∷ l) r h e = rising-low (suc x) k l (r .1) (omega arith)
+rising-less low zero (suc k) (x ∷ l) r h e = rising-all (suc x) k l (r .1) (omega arith)
 rising-less low (suc j) (suc k) (x ∷ l) r h e = rising-less (suc x) j k l (r .1) (omega arith) (omega arith)
 
 -- Interval j ends by time m exactly when it comes before it.
@@ -32,13 +28,6 @@ ends-by low j m l r h e = go (decLt j m) (decLt (suc j) m)
         let same : suc j ≡ m = omega arith in
         le-leb (getD l (suc j) 0) (getD l m 0) (omega (arith, ap (λ k. getD l k 0) same)) ∙ sym (lt-ltb j m p)
 
--- None of the times that rise from above a time has come by it.
-come-none : (t low : ℕ) (l : List ℕ) → Rising low l → t < low → come t l ≡ 0
-unfolding come
-come-none t low [] r h = refl
-come-none t low (x ∷ l) r h =
-    rw (lt-leb x t (omega (arith, r .0))) (omega (arith, come-none t (suc x) l (r .1) (omega (arith, r .0))))
-
 -- Of rising times, those that have come by a time are the first.
 pub come-first : (t low k : ℕ) (l : List ℕ) → Rising low l → k < length l → leb (getD l k 0) t ≡ ltb k (come t l)
 unfolding come
@@ -47,7 +36,7 @@ come-first t low k (x ∷ l) r h = go k h (decLt t x) (λ j b. come-first t (suc
     go : (k : ℕ) → k < suc (length l) → Dec (t < x) → ((j : ℕ) → j < length l → leb (getD l j 0) t ≡ ltb j (come t l))
         → leb (getD (x ∷ l) k 0) t ≡ ltb k (on (leb x t) 1 + come t l)
     go k b (yes p) rest =
-        let above : t < getD (x ∷ l) k 0 = omega (arith, rising-low x k (x ∷ l) (omega arith, r .1) b) in
+        let above : t < getD (x ∷ l) k 0 = omega (arith, rising-all x k (x ∷ l) (omega arith, r .1) b) in
         let none : on (leb x t) 1 + come t l ≡ 0 = rw (lt-leb x t p) (omega (arith, come-none t (suc x) l (r .1) (omega arith))) in
         lt-leb (getD (x ∷ l) k 0) t above ∙ sym (ap (ltb k) none ∙ le-ltb k 0 (omega arith))
     go zero b (no p) rest =

@@ -2,11 +2,11 @@
 use crate::answers::Slack;
 use crate::answers::is_accepted;
 use crate::faults::refusal_of;
-use crate::floor::pick;
 use crate::pair::demand_of;
 use crate::pair::start_of;
 use crate::rows::add_rows;
 use crate::rows::hi_deadlines_of;
+use crate::rows::pick;
 use crate::totals::carried;
 use plan::boundaries::boundaries_of;
 use plan::edition::Edition;
@@ -78,6 +78,7 @@ fn column_taken_in(due: bool, d: Rate, sums: &[u64], times: &[u32], m: usize, kn
     requires { ⌜ (m < length (now times)) × (m ≤ length (now sums)) × (m ≤ mostIntervals) × ((j : ℕ) → j < m → getD (now sums) j 0 ≤ mostJobs * mostAtPlace) ⌝ }
     ensures { λ r. ⌜ figure r ≡ cond due (columnTaken (d .0) (now (sums .entry)) (now (times .entry)) m m (figure known)) (figure known) ⌝ }
 {
+    // Before the first boundary there is no interval, and so no slack.
     if !due | (m == 0) {
         return known;
     }

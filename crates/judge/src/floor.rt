@@ -2,6 +2,7 @@
 use crate::answers::Verdict;
 use crate::rows::add_rows;
 use crate::rows::hi_deadlines_of;
+use crate::rows::pick;
 use crate::totals::carried;
 use plan::edition::Edition;
 use plan::kinds::Plan;
@@ -22,13 +23,6 @@ ghost use Rattle.judge.specs.Constraints.{mostAtPlace};
 ghost use Rattle.judge.specs.Verdict.{fault, floorFault};
 ghost use Rattle.judge.specs.Columns.{asksMore, lowest};
 ghost use Rattle.judge.specs.Answers.{report};
-
-// One of two numbers, by a test.
-pub(crate) fn pick(test: bool, a: usize, b: usize) -> usize
-    ensures { λ r. ⌜ r ≡ cond test a b ⌝ }
-{
-    if test { a } else { b }
-}
 
 // The lower of a number and the lowest interval before boundary m from which column sums up to the boundary are more than a rate carries,
 // where the boundary is a HI deadline.

@@ -1,5 +1,5 @@
-// What the passes over the boundaries share: the HI jobs' deadlines in a row, and rows of the table added to column sums.
-use plan::boundaries::is_new;
+// What the passes over the boundaries share: the HI jobs' deadlines in a row, rows of the table added to column sums, and a choice.
+use plan::boundaries::is_absent_time;
 use plan::edition::Edition;
 use plan::kinds::HI;
 use plan::kinds::Plan;
@@ -43,7 +43,7 @@ pub(crate) fn add_rows(
     requires { ⌜ (spans ≤ length (now sums)) × (length (now deadlines) ≤ mostJobs) × (spans ≤ mostIntervals) × (places ≤ length (now table)) × ((j : ℕ) → j < spans → getD (now sums) j 0 ≤ mostJobs * mostAtPlace) ⌝ }
     ensures { λ r. ⌜ (r ≡ not (isAbsent (now (deadlines .entry)) time)) × (length (now (sums .exit)) ≡ length (now (sums .entry))) × ((j : ℕ) → j < spans → getD (now (sums .exit)) j 0 ≡ getD (now (sums .entry)) j 0 + sum (λ i. on (eqb (getD (now (deadlines .entry)) i 0) time) (units (now (table .entry)) i j)) (length (now (deadlines .entry)))) ⌝ }
 {
-    if is_new(deadlines, time) {
+    if is_absent_time(deadlines, time) {
         return false;
     }
     let mut i = 0;
@@ -76,4 +76,11 @@ pub(crate) fn hi_deadlines_of(p: Plan) -> [u32; Edition::MOST_JOBS]
         i += 1;
     }
     row
+}
+
+// One of two numbers, by a test.
+pub(crate) fn pick(test: bool, a: usize, b: usize) -> usize
+    ensures { λ r. ⌜ r ≡ cond test a b ⌝ }
+{
+    if test { a } else { b }
 }

@@ -4,7 +4,7 @@ use mathlib.Core.List.{List, [], _∷_, _++_}
 use Prim.Native.Nat.{ℕ, _+_}
 use native.Mathlib.Numerals.{add-one}
 use native.Mathlib.Omega.{arith}
-use lib.ListN.{length, getD}
+use lib.ListN.{getD}
 use Rattle.plan.specs.Rules.{name}
 use Rattle.plan.specs.declared.kinds.Plan.{Plan}
 use Rattle.lines.specs.Text.{text}

@@ -1,10 +1,10 @@
 -- What a copied line leaves in a buffer is what the definition of printing says.
-use mathlib.Core.Path.{_≡_, refl, sym, _∙_, ap}
-use mathlib.Core.List.{List, _++_}
-use Prim.Native.Nat.{ℕ, _+_, _≤_, _<_}
+use mathlib.Core.Path.{_≡_, refl}
+use mathlib.Core.List.{List}
+use Prim.Native.Nat.{ℕ, _≤_, _<_}
 use native.Mathlib.Nat.{zero-add}
 use borrow.Author.Tests.{lt-ltb, le-ltb}
-use lib.ListN.{length, take, drop}
+use lib.ListN.{length}
 use lib.Seq.{paste, take-length}
 use Rattle.plan.specs.Refusal.{bufferTooShort}
 use Rattle.lines.specs.Answers.{Output, wrote, refusal, printed}

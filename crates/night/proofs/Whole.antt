@@ -11,14 +11,14 @@ use Rattle.plan.specs.Rules.{counted}
 use Rattle.plan.specs.declared.kinds.Plan.{Plan}
 use Rattle.planfile.specs.Reading.{reader}
 use Rattle.judge.specs.Verdict.{Report, orElse, handFault, constraintFault, floorFault, judged}
+use Rattle.judge.proofs.First.{or-empty}
 use Rattle.judge.proofs.Hand.{hand-none, sound-rules, rules-count}
 use Rattle.dispatch.specs.Step.{started, noRun}
 use Rattle.dispatch.specs.declared.Run.{Run}
 use Rattle.lines.specs.Lines.{slotHeader, outcomeHeader, strayLine, refusedLine}
-use Rattle.night.specs.declared.Phase.{Phase}
-use Rattle.night.specs.declared.Phase.the-variants.{Slots, Closing, Job, Over}
+use Rattle.night.specs.declared.Phase.the-variants.{Slots, Job, Over}
 use Rattle.night.specs.Output.{speed, slotOf, slotText, jobText, jobsText, closing, slotsText, fileBytes, planFault, nightText, printedBy, output}
-use Rattle.night.specs.Turns.{night, openedBy, opened, afterJob, jobTurn, slotTurn, played}
+use Rattle.night.specs.Turns.{night, openedBy, opened, jobTurn, slotTurn, played}
 
 -- A night that is over prints nothing.
 over-is-silent : (turns : ℕ) (p : Plan) (run : Run) (table speeds : List ℕ) → played turns (night Over p run) table speeds ≡ []
@@ -26,11 +26,7 @@ unfolding played
 over-is-silent zero p run table speeds = refl
 over-is-silent (suc turns) p run table speeds = over-is-silent turns p run table (drop 2 speeds)
 
--- Where neither of two reports says anything, neither says anything.
-no-first : (a b : Report) → orElse a b ≡ [] → a ≡ []
-no-first [] b e = refl
-no-first (number ∷ place) b e = e
-
+-- Where neither of two reports says anything, the second does not.
 no-second : (a b : Report) → orElse a b ≡ [] → b ≡ []
 no-second [] b e = e
 no-second (number ∷ place) b e = let z : _≡_ {A = ℕ} 0 1 = cc in absurd (omega arith)
@@ -78,7 +74,7 @@ some-job : (p : Plan) (table : List ℕ) → judged p table ≡ [] → 0 < count
 unfolding judged
 some-job p table h =
     let rest = orElse (constraintFault p table) (floorFault p table) in
-    rules-count p (sound-rules p table (hand-none p table (no-first (handFault p table) rest h) .1))
+    rules-count p (sound-rules p table (hand-none p table (or-empty (handFault p table) rest h) .1))
 
 -- The first turn and those behind it print the night's text.
 night-by : (r : Report) (p : Plan) (table speeds : List ℕ) (turns : ℕ) → (r ≡ [] → 0 < counted p) → length speeds + counted p + 2 ≤ turns

@@ -1,7 +1,7 @@
 -- The laws of tests and extremes below a length.
 use mathlib.Core.Path.{_≡_, refl, sym, _∙_, ap, ap₂}
 use mathlib.Core.Bool.{Bool, true, false, true≢false, _&&_, and-true, and-assoc}
-use Prim.Native.Nat.{ℕ, zero, suc, _+_, _≤_, _<_, min, max}
+use Prim.Native.Nat.{ℕ, zero, suc, _+_, _-_, _≤_, _<_, min, max}
 use native.Mathlib.Nat.{add-zero, add-suc}
 use native.Mathlib.Numerals.{add-one}
 use native.Mathlib.Decide.{decLt}
@@ -129,3 +129,10 @@ pub greatest-ext : (f g : ℕ → ℕ) (n : ℕ) → ((k : ℕ) → k < n → f 
 unfolding greatest
 greatest-ext f g zero h = refl
 greatest-ext f g (suc n) h = ap₂ max (greatest-ext f g n (λ k l. h k (omega arith))) (h n (omega arith))
+
+-- A test that holds from a number on does not matter past it.
+pub every-cut : (test : ℕ → Bool) (m n : ℕ) → m ≤ n → ((k : ℕ) → m ≤ k → k < n → test k ≡ true) → every test n ≡ every test m
+every-cut test m n h more =
+    let e : n ≡ m + (n - m) = omega arith in
+    ap (every test) e ∙ every-split test m (n - m)
+    ∙ ap (λ b. every test m && b) (every-all _ (n - m) (λ k b. more (m + k) (omega arith) (omega arith))) ∙ and-true (every test m)

@@ -1,8 +1,8 @@
 -- The laws of stray places: behind the intervals of each row and behind the rows of all jobs, they are noStray over the whole table.
 use mathlib.Core.Path.{_≡_, refl, sym, _∙_, ap, ap₂}
-use mathlib.Core.Bool.{Bool, _&&_, _||_, and-true, or-false, or-true}
+use mathlib.Core.Bool.{Bool, _&&_, _||_, or-false, or-true}
 use mathlib.Core.List.{List, [], _∷_}
-use Prim.Native.Nat.{ℕ, zero, suc, _+_, _*_, _-_, _/_, _%_, _≤_, _<_, min}
+use Prim.Native.Nat.{ℕ, zero, suc, _+_, _*_, _/_, _%_, _≤_, _<_, min}
 use native.Mathlib.Nat.{zero-add, add-zero, mul-zero, mul-suc, mul-add-div, mul-add-mod-self-left, div-eq-of-lt, mod-eq-of-lt}
 use native.Mathlib.Omega.{arith}
 use borrow.Author.Tests.{lt-ltb, le-ltb}
@@ -14,7 +14,7 @@ use Rattle.plan.specs.Rules.{counted}
 use Rattle.plan.specs.Boundaries.{intervals}
 use Rattle.plan.specs.Table.{noStray, soundWithin, sound}
 use Rattle.plan.specs.declared.kinds.Plan.{Plan}
-use Rattle.plan.proofs.Below.{every-ext, every-shift, every-split, every-all}
+use Rattle.plan.proofs.Below.{every-ext, every-shift, every-split, every-all, every-cut}
 use Rattle.plan.proofs.Rising.{boundaries-few}
 
 -- A test over the places is one over the rows.
@@ -84,13 +84,7 @@ stray-parts width jobs more spans rest l h whole =
 pub zero-past : (l : List ℕ) (start m n : ℕ) → m ≤ n → ((k : ℕ) → m ≤ k → k < n → length l ≤ start + k)
     → every (λ k. eqb (getD l (start + k) 0) 0) m ≡ every (λ k. eqb (getD l (start + k) 0) 0) n
 zero-past l start m n h past =
-    let e : m + (n - m) ≡ n = omega arith in
-    sym (ap (every f) (sym e) ∙ every-split f m (n - m)
-    ∙ ap (λ b. every f m && b) (every-all _ (n - m) (λ k b. ap (λ x. eqb x 0) (List·getD-eq-default l 0 (past (m + k) (omega arith) (omega arith)))))
-    ∙ and-true (every f m))
-  where
-    f : ℕ → Bool
-    f k = eqb (getD l (start + k) 0) 0
+    sym (every-cut _ m n h (λ k a b. ap (λ x. eqb x 0) (List·getD-eq-default l 0 (past k a b))))
 
 -- Told the plan's own number of intervals, a plan is sound within them.
 pub sound-told : (p : Plan) (table : List ℕ) (spans : ℕ) → spans ≡ intervals p → soundWithin (min spans mostIntervals) p table ≡ sound p table

@@ -1,5 +1,5 @@
 -- Tests and extremes over the numbers below a length.
-use mathlib.Core.Bool.{Bool, true, false, _&&_}
+use mathlib.Core.Bool.{Bool, true, _&&_}
 use Prim.Native.Nat.{ℕ, zero, suc, min, max}
 
 -- Whether a test holds at every number below a length.

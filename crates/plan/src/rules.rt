@@ -8,10 +8,8 @@ use crate::kinds::Rate;
 use crate::kinds::Slots;
 use crate::kinds::Units;
 ghost use mathlib.Core.Path.{_≡_};
-ghost use mathlib.Core.Bool.{_&&_};
-ghost use lib.ListN.{length, getD};
 ghost use Rattle.plan.specs.Rules.{ratesAllowed, countAllowed, nameAllowed, isAbsent, gradeAllowed, windowAllowed, sizeAllowed};
-ghost use Rattle.plan.specs.Rules.{counted, names, ratesHold, countHolds, namesHold, namesDiffer, gradesHold, boundsHold, rulesHold};
+ghost use Rattle.plan.specs.Rules.{counted, names, namesHold, namesDiffer, gradesHold, boundsHold, rulesHold};
 
 // Rule 4.
 pub fn rates_allowed(n: Rate, d: Rate) -> bool

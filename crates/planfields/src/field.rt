@@ -58,6 +58,7 @@ pub(crate) fn read_field(file: &[u8], at: usize, w: usize) -> Field
     while k > 0 {
         k -= 1;
         value = value + file[at + k] as u64 * scale;
+        // Behind the eighth byte it would not fit.
         if k > 0 {
             scale = scale * 256;
         }

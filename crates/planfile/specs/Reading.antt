@@ -11,7 +11,7 @@ use Rattle.plan.specs.Boundaries.{intervals}
 use Rattle.plan.specs.Table.{place}
 use Rattle.plan.specs.declared.kinds.Job.{Job}
 use Rattle.plan.specs.declared.kinds.Plan.{Plan}
-use Rattle.planfields.specs.Fields.{Step, got, no, Reading, onward, _>>=_, _>>_, done, test, checked, Head, head, named, oneJob, ended}
+use Rattle.planfields.specs.Fields.{Step, got, no, Reading, _>>=_, _>>_, done, test, checked, Head, head, named, oneJob, ended}
 
 -- The names of some jobs.
 abbrev pub namesOf : List Job → List ℕ

@@ -62,14 +62,7 @@ fn put_job_rows(out: &mut [u8], at: usize, name: u64, row: &[u32]) -> usize
 }
 
 // Writes the rows of a table, job by job: past the jobs and past the intervals there are none, so no place there is looked at.
-fn put_rows(
-    out: &mut [u8],
-    at: usize,
-    names: &[u64],
-    table: &[u32],
-    jobs: usize,
-    spans: usize,
-) -> usize
+fn put_rows(out: &mut [u8], at: usize, names: &[u64], table: &[u32], jobs: usize, spans: usize)
     requires { ⌜ (at + length (rowsBytes mostIntervals (now names) 0 (now table)) ≤ length (now out)) × (jobs ≤ length (now names)) × (mostIntervals * jobs ≤ length (now table)) × (spans ≤ mostIntervals) × (noStray mostIntervals jobs spans 0 (now table) ≡ true) ⌝ }
     ensures { λ r. ⌜ now (out .exit) ≡ sets (now (out .entry)) at (rowsBytes mostIntervals (now (names .entry)) 0 (now (table .entry))) ⌝ }
 {
@@ -80,7 +73,6 @@ fn put_rows(
         next = put_job_rows(out, next, names[i], &table[from..from + spans]);
         i += 1;
     }
-    next
 }
 
 // 1 for an allotment that has a row.
@@ -90,7 +82,7 @@ fn row_of(units: u32) -> u32
     if units == 0 { 0 } else { 1 }
 }
 
-// Counts in 32 bits, the width of a place: more places are looked at at once.
+// How many rows a table has. Counted in 32 bits, the width of a place, so that more places are looked at at once.
 fn rows_in(table: &[u32]) -> usize
     requires { ⌜ length (now table) ≤ places ⌝ }
     ensures { λ r. ⌜ r ≡ rowCount (now (table .entry)) ⌝ }
@@ -105,7 +97,7 @@ fn rows_in(table: &[u32]) -> usize
 }
 
 // All that follows the length field.
-fn put_body(out: &mut [u8], at: usize, p: Plan, table: &[u32], rows: usize, spans: usize) -> usize
+fn put_body(out: &mut [u8], at: usize, p: Plan, table: &[u32], rows: usize, spans: usize)
     requires { ⌜ (at + length (body p (now table)) ≤ length (now out)) × Writable p (now table) × (rows ≡ rowCount (now table)) × (spans ≡ intervals p) ⌝ }
     ensures { λ r. ⌜ now (out .exit) ≡ sets (now (out .entry)) at (body p (now (table .entry))) ⌝ }
 {
@@ -117,7 +109,7 @@ fn put_body(out: &mut [u8], at: usize, p: Plan, table: &[u32], rows: usize, span
     let after_jobs = put_jobs(out, after_count, p);
     let after_rows = put(out, after_jobs, 2, rows as u64);
     let names = names_of(p);
-    put_rows(out, after_rows, &names, table, p.count, spans)
+    put_rows(out, after_rows, &names, table, p.count, spans);
 }
 
 fn put_file(out: &mut [u8], p: Plan, table: &[u32], rows: usize, follows: usize, spans: usize)

@@ -22,13 +22,14 @@ use Rattle.dispatch.specs.Dues.{carriedOf, live}
 use Rattle.dispatch.specs.Step.{Slot, started, slotFault, granted, advanced, slotBy, stepped}
 use Rattle.dispatch.proofs.Line.{if-true, neither}
 use Rattle.dispatch.proofs.Shares.{on-nothing}
+use Rattle.dispatch.proofs.Fills.{added-length}
 use Rattle.promises.specs.Night.{Call, runAfter, latest, isDone, clockAt, given, had, hadInWindow, isSlow, slowed, slowedBefore, hadSinceSlow, Allowed, WithinSpeeds, Kept}
 use Rattle.promises.proofs.Tail.{Good}
 use Rattle.promises.proofs.Keep
 use Rattle.promises.proofs.Keep.{NoMore, FloorHolds, OnPace, keeps-no-more, keeps-floor, keeps-pace, on-pace-here, on-pace-ended, floor-ended, begins-with-floor, begins-on-pace}
 use Rattle.promises.proofs.Sound.{Ruled}
 use Rattle.promises.proofs.Same.{done, same-slot}
-use Rattle.promises.proofs.Slots.{factsOf, stateOf, good-plan, added-length, slot-of}
+use Rattle.promises.proofs.Slots.{factsOf, stateOf, good-plan, slot-of}
 
 module _ (p : Plan) (table : List ℕ) (rules : Ruled p) (accepted : Accepted p table) where
   good : Good (factsOf p table)

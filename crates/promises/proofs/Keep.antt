@@ -9,7 +9,8 @@ use lib.Dec.{leb, ltb}
 use Rattle.sums.specs.Sum.{sum, on}
 use Rattle.sums.proofs.Laws.{sum-ext, sum-mono, sum-none, sum-add, term-le}
 use Rattle.dispatch.proofs.Line.{if-less, neither}
-use Rattle.promises.proofs.Tail.{Facts, Good, class, before, tail, both, rises, rises-strictly, before-le, tail-ended, floor-tail}
+use Rattle.plan.proofs.Below.{both}
+use Rattle.promises.proofs.Tail.{Facts, Good, class, before, tail, rises, rises-strictly, before-le, tail-ended, floor-tail}
 
 -- The state of a run: the clock, the slow mark, and what is carried for each job.
 pub record State : Type 0 where

@@ -14,7 +14,7 @@ use Rattle.plan.specs.Refusal.{outsideWindow, wrongTotal, overCapacity, belowFl
 use Rattle.plan.specs.Below.{every}
 use Rattle.plan.specs.Rules.{counted, name, nameAllowed, sameName, namesHold, namesDiffer, rulesHold}
 use Rattle.plan.specs.Boundaries.{boundary, intervals}
-use Rattle.plan.specs.Table.{sound}
+use Rattle.plan.specs.Table.{soundWithin, sound}
 use Rattle.plan.specs.Same.{Same}
 use Rattle.plan.specs.declared.kinds.Rate.{Rate}
 use Rattle.plan.specs.declared.kinds.Plan.{Plan}
@@ -64,9 +64,12 @@ module _ (p : Plan) (table : List ℕ) (q : Plan) (other : List ℕ) (same : Sam
   rules-same =
       rw (names-hold-same, names-differ-same, grades-same p table q other same, bounds-same p table q other same, same .n, same .d, same .count) refl
 
+  pub sound-within-same : (spans : ℕ) → soundWithin spans p table ≡ soundWithin spans q other
+  sound-within-same spans = rw (rules-same, same .cells, jobs-same) refl
+
   pub sound-same : sound p table ≡ sound q other
   unfolding sound
-  sound-same = rw (rules-same, same .cells, intervals-same, jobs-same) refl
+  sound-same = rw intervals-same (sound-within-same (intervals q))
 
   -- What is allotted in a job's intervals stands among the table's own places.
   units-same : (i j : ℕ) → i < counted p → j < intervals p → units table i j ≡ units other i j

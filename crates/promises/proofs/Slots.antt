@@ -71,13 +71,6 @@ added-at (suc n) i (x ∷ l) [] h k g = absurd (omega arith)
 added-at (suc n) zero (x ∷ l) (y ∷ grants) h k g = refl
 added-at (suc n) (suc i) (x ∷ l) (y ∷ grants) h k g = added-at n i l grants (omega arith) (omega arith) (omega arith)
 
-pub added-length : (n : ℕ) (l grants : List ℕ) → length (added n l grants) ≡ length l
-unfolding added
-added-length zero l grants = refl
-added-length (suc n) [] grants = refl
-added-length (suc n) (x ∷ l) [] = refl
-added-length (suc n) (x ∷ l) (y ∷ grants) = ap suc (added-length n l grants)
-
 granted-long : (p : Plan) (table : List ℕ) (run : Run) (v : ℕ) (grants : List ℕ) (i : ℕ) → i < counted p → i < length (granted p table run v grants)
 unfolding granted
 granted-long p table run v grants i h =

@@ -1,7 +1,7 @@
 -- The floor tail: what rule 18 says of every interval and every time, over a plan told by functions.
 use mathlib.Core.Path.{_≡_, refl, sym, _∙_, ap}
 use mathlib.Core.Logic.{_≢_, _⊎_, inl, inr, ⊎-elim}
-use mathlib.Core.Bool.{Bool, true, false, true≢false, _&&_}
+use mathlib.Core.Bool.{Bool, true, false, _&&_}
 use Prim.Native.Nat.{ℕ, zero, suc, _+_, _*_, _-_, _≤_, _<_}
 use native.Mathlib.Nat.{mul-le-mul-left, le-trans}
 use native.Mathlib.Omega.{arith}
@@ -9,6 +9,7 @@ use borrow.Author.Tests.{le-leb, lt-leb, leb-true}
 use lib.Dec.{leb}
 use Rattle.sums.specs.Sum.{sum, on}
 use Rattle.sums.proofs.Laws.{sum-ext, sum-none, sum-split, below-or-last}
+use Rattle.plan.proofs.Below.{both}
 use Rattle.dispatch.proofs.Line.{if-less, if-same}
 
 -- A plan by its jobs' numbers below N, its boundaries up to K, its allotments and its rates.
@@ -42,11 +43,6 @@ pub record Good (f : Facts) : Type 0 where
   pub exact : (i : ℕ) → i < f .N → sum (f .x i) (f .K) ≡ f .size i
   pub within : (j : ℕ) → j < f .K → sum (λ i. f .x i j) (f .N) ≤ f .n * (f .b (suc j) - f .b j)
   pub floor : (l m : ℕ) → l < m → m ≤ f .K → sum (λ i. on (class f (f .b m) i) (between f l (f .b m) i)) (f .N) ≤ f .d * (f .b m - f .b l)
-
--- Two tests hold where both do.
-pub both : (a b : Bool) → (a && b) ≡ true → (a ≡ true) × (b ≡ true)
-both true b e = (refl, e)
-both false b e = absurd (true≢false (sym e))
 
 -- Terms that agree where a test holds are let through alike; one that is 0 there lets nothing through.
 pub on-ext : (c : Bool) (y z : ℕ) → (c ≡ true → y ≡ z) → on c y ≡ on c z

@@ -1,6 +1,6 @@
 -- What the reader takes is sound: a file is taken exactly when it is the written form of some sound plan.
-use mathlib.Core.Path.{_≡_, refl, sym, _∙_, ap}
-use mathlib.Core.Bool.{Bool, true, not, _&&_}
+use mathlib.Core.Path.{_≡_, sym, _∙_, ap}
+use mathlib.Core.Bool.{true, not, _&&_}
 use mathlib.Core.List.{List, [], _∷_, _++_, append-assoc, append-nil}
 use mathlib.Core.Logic.{_↔_, ⊎-elim}
 use Prim.Native.Nat.{ℕ, zero, suc, _+_, _-_, _≤_, _<_, _^_}
@@ -16,7 +16,7 @@ use Rattle.plan.specs.Boundaries.{intervals}
 use Rattle.plan.specs.Table.{noStray, sound}
 use Rattle.plan.specs.declared.kinds.Job.{Job}
 use Rattle.plan.specs.declared.kinds.Plan.{Plan}
-use Rattle.plan.proofs.Below.{every-ext}
+use Rattle.plan.proofs.Below.{every-ext, every-all}
 use Rattle.planfields.specs.Fields.{got, oneJob}
 use Rattle.planfile.specs.Reading.{namesOf, allJobs, planOf, Held, readFile}
 use Rattle.planwriter.specs.Writing.{written}
@@ -28,12 +28,6 @@ use Rattle.roundtrip.specs.JobTrip.{Readable, job-again}
 use Rattle.roundtrip.specs.Same.{getD-pad, names-front, kept}
 use Rattle.roundtrip.specs.ReadAfterWrite.{read-own}
 use Rattle.roundtrip.specs.WriteAfterRead.{FileRead, file-read, filled, write-after-read}
-
--- A test that holds at each number below a length holds at all of them.
-each-every : (test : ℕ → Bool) (n : ℕ) → ((k : ℕ) → k < n → test k ≡ true) → every test n ≡ true
-unfolding every
-each-every test zero h = refl
-each-every test (suc n) h = rw (each-every test n (λ k l. h k (omega arith)), h n (omega arith))
 
 -- Jobs that are read stand behind those before.
 jobs-grow : (n : ℕ) (jobs : List Job) (file : List ℕ) (at : ℕ) (all : List Job) (next : ℕ) → allJobs n jobs file at ≡ got all next
@@ -90,10 +84,10 @@ module _ (file : List ℕ) (octets : Octets file) {held : Held} (r : FileRead fi
       rw (
         r .headed .rates,
         r .headed .some,
-        each-every (λ i. nameAllowed (name p i)) (counted p) (λ k h. each k h .allowed),
-        each-every (λ i. every (λ k. not (sameName (name p k) (name p i))) i) (counted p) (λ k h. differ k h),
-        each-every (λ i. gradeAllowed (jobOf p i .grade)) (counted p) (λ k h. each k h .graded),
-        each-every (λ i. windowAllowed (release p i) (deadline p i) && sizeAllowed (size p i)) (counted p) (λ k h. each k h .bounds),
+        every-all (λ i. nameAllowed (name p i)) (counted p) (λ k h. each k h .allowed),
+        every-all (λ i. every (λ k. not (sameName (name p k) (name p i))) i) (counted p) (λ k h. differ k h),
+        every-all (λ i. gradeAllowed (jobOf p i .grade)) (counted p) (λ k h. each k h .graded),
+        every-all (λ i. windowAllowed (release p i) (deadline p i) && sizeAllowed (size p i)) (counted p) (λ k h. each k h .bounds),
       )
     where
       differ : (k : ℕ) → k < counted p → every (λ i. not (sameName (name p i) (name p k))) k ≡ true

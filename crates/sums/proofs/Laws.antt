@@ -1,8 +1,7 @@
 -- The laws of sums, each stated once over the length.
 use mathlib.Core.Path.{_≡_, refl, sym, _∙_, ap, ap₂}
-use mathlib.Core.Logic.{_≢_}
 use Prim.Native.Nat.{ℕ, zero, suc, _+_, _*_, _≤_, _<_}
-use native.Mathlib.Nat.{suc-mul, mul-zero, mul-add, add-zero, add-suc}
+use native.Mathlib.Nat.{suc-mul, add-zero, add-suc}
 use native.Mathlib.Numerals.{add-one}
 use native.Mathlib.Decide.{decLt}
 use native.Mathlib.Omega.{arith}
@@ -47,12 +46,6 @@ unfolding sum
 sum-add f g zero = refl
 sum-add f g (suc n) = omega (arith, sum-add f g n)
 
--- A common factor comes out.
-pub sum-scale : (c : ℕ) (f : ℕ → ℕ) (n : ℕ) → sum (λ k. c * f k) n ≡ c * sum f n
-unfolding sum
-sum-scale c f zero = sym (mul-zero c)
-sum-scale c f (suc n) = omega (arith, sum-scale c f n, mul-add c (sum f n) (f n))
-
 -- A sum splits at any index.
 pub sum-split : (f : ℕ → ℕ) (m n : ℕ) → sum f (m + n) ≡ sum f m + sum (λ k. f (m + k)) n
 unfolding sum
@@ -77,26 +70,3 @@ below-or-last {A = A} k n l below last = go (decLt k n)
 pub term-le : (f : ℕ → ℕ) (n k : ℕ) → k < n → f k ≤ sum f n
 unfolding sum
 term-le f (suc n) k l = below-or-last k n l (λ p. omega (arith, term-le f n k p)) (λ e. rw e (omega arith))
-
--- Where one term alone differs, so do the sums, by as much. (What a store into a list does to its sum.)
-pub sum-change : (f g : ℕ → ℕ) (n i : ℕ) → i < n → ((k : ℕ) → k < n → k ≢ i → f k ≡ g k) → sum f n + g i ≡ sum g n + f i
-unfolding sum
-sum-change f g (suc n) i l h =
-    below-or-last i n l
-    (λ p. omega (arith, sum-change f g n i p (λ k l′ e. h k (omega arith) e), h n (omega arith) (omega arith)))
-    (λ e. rw e (omega (arith, sum-ext f g n (λ k l′. h k (omega arith) (omega arith)))))
-
--- A sum whose terms are 0 but for one index is that term.
-pub sum-one : (f : ℕ → ℕ) (n i : ℕ) → i < n → ((k : ℕ) → k < n → k ≢ i → f k ≡ 0) → sum f n ≡ f i
-sum-one f n i l h = omega (arith, sum-change f (λ k. 0) n i l h, sum-none (λ k. 0) n (λ k l′. refl))
-
--- Totals decide each term: where no term is above its partner and the sums are equal, so is each pair.
-pub sum-decides : (f g : ℕ → ℕ) (n : ℕ) → ((k : ℕ) → k < n → f k ≤ g k) → sum f n ≡ sum g n → (k : ℕ) → k < n → f k ≡ g k
-unfolding sum
-sum-decides f g (suc n) h e k l =
-    below-or-last k n l
-    (λ p. sum-decides f g n (λ j l′. h j (omega arith)) (omega (arith, least, h n (omega arith))) k p)
-    (λ q. rw q (omega (arith, least, h n (omega arith))))
-  where
-    least : sum f n ≤ sum g n
-    least = sum-mono f g n (λ j l′. h j (omega arith))

@@ -1,5 +1,4 @@
 -- `lines::print` meets its contract: all of the line, or nothing.
-use mathlib.Core.Path.{_∙_}
 use borrow.Author.Needs.{needs}
 use Rattle.lines.proofs.Output.{printed-short, printed-whole}
 use Rattle.lines.proofs.print.Statement.{statement}

@@ -2,7 +2,6 @@
 use mathlib.Core.Path.{_∙_, sym, ap}
 use native.Mathlib.Omega.{arith}
 use borrow.Author.Needs.{needs}
-use lib.ListN.{length}
 use lib.Seq.{length-take-le}
 use Rattle.lines.specs.Answers.{printed}
 use Rattle.lines.proofs.Growth.{grown-twice}

@@ -1,9 +1,8 @@
 -- `runplan::read_file` meets its contract: what is read into lies inside the file's room.
-use mathlib.Core.Path.{_≡_, sym, _∙_}
+use mathlib.Core.Path.{sym}
 use Prim.Native.Nat.{_+_}
 use native.Mathlib.Omega.{arith}
 use borrow.Author.Needs.{needs}
-use lib.ListN.{length}
 use lib.Seq.{length-take-le}
 use Rattle.runplan.proofs.Sizes.{size-fits}
 use Rattle.runplan.proofs.read_file.Statement.{statement}

@@ -1,6 +1,5 @@
 -- `runplan::shown` meets its contract: no more than the line has.
 use mathlib.Core.Path.{sym}
-use native.Mathlib.Omega.{arith}
 use borrow.Author.Needs.{needs}
 use lib.Seq.{length-take-le}
 use Rattle.runplan.proofs.shown.Statement.{statement}

@@ -26,7 +26,7 @@ add-result : tie.Need-add-result
 add-result c = omega (arith, few (c .before .args .p) (c .before .args .clock .0))
 
 returns : tie.Need-returns
-returns c = ap (λ x. x + 1) (c .present-of .ensures .0) ∙ add-one _
+returns c = ap (λ x. x + 1) (c .present-of .ensures) ∙ add-one _
 
 pub spans-by-spec : {M : Type 1} → statement M
 spans-by-spec = tie.close (tie.spec present-of-requires cast-result add-result returns)

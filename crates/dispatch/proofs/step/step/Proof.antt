@@ -1,8 +1,8 @@
 -- `dispatch::step::step` meets its contract: a refusal from the run's standing, or the slot from the rows of turns and claims.
 use mathlib.Core.Path.{_≡_, refl, sym, _∙_, ap, ap₂}
-use mathlib.Core.Bool.{Bool, true, false, cond, _&&_, _||_}
-use mathlib.Core.List.{List, []}
-use Prim.Native.Nat.{ℕ, suc, _+_, _*_, _-_, _≤_, _<_, min}
+use mathlib.Core.Bool.{Bool, true, false, cond, _||_}
+use mathlib.Core.List.{List}
+use Prim.Native.Nat.{ℕ, suc, _+_, _*_, _-_, _≤_, min}
 use native.Mathlib.Omega.{arith}
 use native.Mathlib.Nat.{one-mul}
 use borrow.Author.Needs.{needs}
@@ -29,7 +29,7 @@ use Rattle.dispatch.specs.Answers.{report}
 use Rattle.dispatch.proofs.Line.{neither}
 use Rattle.dispatch.proofs.Sound.{sound-parts, Parts, deadline-small, size-small, last-small}
 use Rattle.dispatch.proofs.Stands.{stands-fault, stands-clear, left-by}
-use Rattle.dispatch.proofs.Fills.{filled-start, filled-next, filled-length, capped-small, stored-grants, stored-carried}
+use Rattle.dispatch.proofs.Fills.{filled-start, filled-next, capped-small, stored-grants, stored-carried}
 use Rattle.dispatch.proofs.step.step.Statement.{statement}
 use Rattle.dispatch.proofs.step.step.Tie as tie
 

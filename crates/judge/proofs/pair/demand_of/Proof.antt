@@ -24,7 +24,7 @@ present-of-requires c κs = search needs
 few : (c : tie.After-present-of) → c .present-of .result ≤ mostIntervals
 few c =
     let p = c .before .before .args .p in
-    omega (arith, c .present-of .ensures .0, come-few (c .before .before .args .time .0) (boundaries p), boundaries-few p (counted p))
+    omega (arith, c .present-of .ensures, come-few (c .before .before .args .time .0) (boundaries p), boundaries-few p (counted p))
 
 asked : (c : tie.After-present-of)
     → sum (λ i. on (isHi (c .before .before .args .p) i && leb (deadline (c .before .before .args .p) i) (c .before .before .args .time .0))
@@ -34,7 +34,7 @@ asked : (c : tie.After-present-of)
 asked c =
     let a = c .before .before .args in
     demand-is (a .p) (a .table .now) (a .interval) (a .time .0) (c .present-of .result)
-    (rw (c .present-of .ensures .0) (end-by-present (a .p) (a .time .0)))
+    (rw (c .present-of .ensures) (end-by-present (a .p) (a .time .0)))
 
 returns : tie.Need-returns
 returns c =

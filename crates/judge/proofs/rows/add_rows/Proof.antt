@@ -28,13 +28,13 @@ Inv-loop sums₀ table deadlines spans time i₀ sums i =
 abbrev μ-loop : tie.MeasureT-loop
 μ-loop sums₀ table deadlines spans time i₀ sums i = length deadlines - i
 
-is-new-requires : tie.Need-is-new-requires Inv-loop μ-loop
-is-new-requires c κs = search needs
+is-absent-time-requires : tie.Need-is-absent-time-requires Inv-loop μ-loop
+is-absent-time-requires c κs = search needs
 
 returns : tie.Need-returns Inv-loop μ-loop
 returns c =
     let a = c .before .before .before .before .before .args in
-    let none = sym (c .before .is-new .ensures) ∙ c .if1 .taken in (
+    let none = sym (c .before .is-absent-time .ensures) ∙ c .if1 .taken in (
       sym (ap not none),
       refl,
       λ j l. sym (ap (λ s. getD (a .sums .now) j 0 + s) (none-due (a .deadlines .now) (a .time) (λ k. units (a .table .now) k j) none) ∙ add-zero _),
@@ -91,7 +91,7 @@ returns-2 : tie.Need-returns-2 Inv-loop μ-loop
 returns-2 c =
     let a = c .before .before .before .before .before .before .before .args in
     let end : c .before .loop .i ≡ length (a .deadlines .now) = omega (arith, c .loop-test .left, c .before .loop .inv .0) in (
-      sym (ap not (sym (c .before .before .before .is-new .ensures) ∙ c .before .before .if1 .left)),
+      sym (ap not (sym (c .before .before .before .is-absent-time .ensures) ∙ c .before .before .if1 .left)),
       c .before .loop .inv .1,
       λ j l. c .before .loop .inv .2 j l ∙ ap (λ n. getD (a .sums .now) j 0 + sum (dueOf (a .table .now) (a .deadlines .now) (a .time) j) n) end,
     )
@@ -102,7 +102,7 @@ add-rows-spec =
     (tie.spec
     Inv-loop
     μ-loop
-    is-new-requires
+    is-absent-time-requires
     returns
     loop-holds
     mul-wanted

@@ -1,9 +1,8 @@
 -- `lines::pieces::add_each_grant` meets its contract: after i turns the grants of the first i jobs stand there.
-use mathlib.Core.Path.{_≡_, sym, _∙_, ap}
-use Prim.Native.Nat.{_+_, _*_, _-_, _≤_, _<_}
+use mathlib.Core.Path.{_≡_, sym, ap}
+use Prim.Native.Nat.{_+_, _*_, _-_, _≤_}
 use native.Mathlib.Omega.{arith}
 use borrow.Author.Needs.{needs}
-use lib.ListN.{length, getD}
 use Rattle.plan.specs.Rules.{name, counted}
 use Rattle.lines.specs.Growth.{Grown, grantBytes}
 use Rattle.lines.specs.Lines.{grantsText, grantText}

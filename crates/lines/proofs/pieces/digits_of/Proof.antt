@@ -1,10 +1,8 @@
 -- `lines::pieces::digits_of` meets its contract: the digits found and what is left of the number always make the same text.
-use mathlib.Core.Path.{_≡_, refl, sym, _∙_, ap}
-use mathlib.Core.List.{[]}
-use Prim.Native.Nat.{ℕ, zero, suc, _+_, _-_, _/_, _%_, _^_, _≤_, _<_}
-use native.Mathlib.Nat.{div-lt-iff-lt-mul, pow-suc}
+use mathlib.Core.Path.{_≡_, refl, sym, _∙_}
+use Prim.Native.Nat.{ℕ, zero, suc, _-_, _%_, _^_, _<_}
 use native.Mathlib.Omega.{arith}
-use lib.ListN.{length, set, drop, length-set}
+use lib.ListN.{length, drop, length-set}
 use Rattle.lines.specs.Text.{digits, digit, decimal}
 use Rattle.lines.specs.Growth.{mostDigits}
 use Rattle.lines.proofs.Decimal.{digits-one, digits-ten, digits-turn, drop-set, shorter}

@@ -1,5 +1,4 @@
 -- `lines::pieces::mode_of` meets its contract: one letter for each mode.
-use mathlib.Core.Path.{refl}
 use Rattle.lines.proofs.pieces.mode_of.Statement.{statement}
 use Rattle.lines.proofs.pieces.mode_of.Tie as tie
 

@@ -1,9 +1,9 @@
 -- `lines::pieces::put` meets its contract: after k turns the first k bytes of the text stand at the place.
-use mathlib.Core.Path.{_≡_, refl, sym, _∙_, ap}
-use Prim.Native.Nat.{_+_, _-_, _≤_, _<_}
+use mathlib.Core.Path.{_≡_, sym, _∙_, ap}
+use Prim.Native.Nat.{_+_, _-_, _≤_}
 use native.Mathlib.Numerals.{add-one}
 use native.Mathlib.Omega.{arith}
-use lib.ListN.{length, set, getD, length-set}
+use lib.ListN.{length, set, getD}
 use lib.Seq.{paste, paste-zero, paste-suc, length-paste}
 use Rattle.lines.proofs.pieces.put.Statement.{statement}
 use Rattle.lines.proofs.pieces.put.Tie as tie

@@ -1,5 +1,5 @@
 -- `night::opening::open` meets its contract: what the reader leaves decides.
-use mathlib.Core.Path.{refl, sym}
+use mathlib.Core.Path.{refl}
 use borrow.Author.Needs.{needs}
 use Rattle.night.specs.Turns.{opened}
 use Rattle.night.proofs.opening.open.Statement.{statement}

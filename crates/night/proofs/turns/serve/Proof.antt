@@ -1,5 +1,5 @@
 -- `night::turns::serve` meets its contract: the line of what the step answered.
-use mathlib.Core.Path.{refl, sym}
+use mathlib.Core.Path.{refl}
 use borrow.Author.Needs.{needs}
 use Rattle.night.proofs.turns.serve.Statement.{statement}
 use Rattle.night.proofs.turns.serve.Tie as tie

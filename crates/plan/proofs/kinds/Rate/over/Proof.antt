@@ -1,5 +1,4 @@
 -- `plan::kinds::Rate::over` meets its contract: 16 bits times 32 bits fit 64.
-use Prim.Native.Nat.{_<_, _*_, _^_}
 use native.Mathlib.Nat.{mul-le-mul}
 use native.Mathlib.Omega.{arith}
 use borrow.Author.Needs.{needs}
