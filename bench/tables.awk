@@ -51,8 +51,19 @@ function speed(n, list, m, names, i, k, call, input, ratio, goal, ours, plain) {
             if (ratio > greatest[call]) greatest[call] = ratio
             if (ratio <= goal) met[call]++
             printf "| %s | %s | %s | %s | %s | %.2f | %.1f, %s |\n", call, names[k], sizes[input], with_commas(plain), with_commas(ours), ratio, goal, ratio <= goal ? "met" : "not met"
+            plain = time[input, call, "plain"]
+            ours = time[input, call, "ours"]
+            if (timed) times = times sprintf("| %s | %s | %s | %s | %.2f |\n", call, names[k], with_commas(plain), with_commas(ours), ours / plain)
         }
     end()
+    # Nanoseconds, where the machine could take them.
+    if (timed) {
+        begin("times")
+        print "| call | input | plain Rust, ns | ours, ns | ours / plain |"
+        print "|---|---|---|---|---|"
+        printf "%s", times
+        end()
+    }
     begin("goals")
     print "| call | goal, at most | least of the five | greatest of the five | met |"
     print "|---|---|---|---|---|"
@@ -64,23 +75,6 @@ function speed(n, list, m, names, i, k, call, input, ratio, goal, ours, plain) {
     printf "| from words to a plan |"
     for (k = 1; k < m; k++) printf " %s |", with_commas(total["usual " names[k], "decode", "ours"])
     print ""
-    end()
-}
-# Nanoseconds, where the machine could take them.
-function times(n, list, m, names, i, k, input, plain, ours) {
-    if (!timed) return
-    n = split("read write judge slack step", list, " ")
-    m = split("1 8 16 32 largest", names, " ")
-    begin("times")
-    print "| call | input | plain Rust, ns | ours, ns | ours / plain |"
-    print "|---|---|---|---|---|"
-    for (i = 1; i <= n; i++)
-        for (k = 1; k <= m; k++) {
-            input = input_of(list[i], names[k])
-            plain = time[input, list[i], "plain"]
-            ours = time[input, list[i], "ours"]
-            printf "| %s | %s | %s | %s | %.2f |\n", list[i], names[k], with_commas(plain), with_commas(ours), ours / plain
-        }
     end()
 }
 function where(n, list, i, f, call, rest, shown) {
@@ -178,7 +172,6 @@ function stack(k, call, arguments) {
 }
 END {
     speed()
-    times()
     where()
     hottest()
     growth()
