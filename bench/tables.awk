@@ -47,9 +47,6 @@ function speed(n, list, m, names, i, k, call, input, ratio, goal, ours, plain) {
             plain = total[input, call, "plain"]
             ratio = ours / plain
             goal = goal_of(call)
-            if (!(call in least) || ratio < least[call]) least[call] = ratio
-            if (ratio > greatest[call]) greatest[call] = ratio
-            if (ratio <= goal) met[call]++
             printf "| %s | %s | %s | %s | %s | %.2f | %.1f, %s |\n", call, names[k], sizes[input], with_commas(plain), with_commas(ours), ratio, goal, ratio <= goal ? "met" : "not met"
             plain = time[input, call, "plain"]
             ours = time[input, call, "ours"]
@@ -64,10 +61,14 @@ function speed(n, list, m, names, i, k, call, input, ratio, goal, ours, plain) {
         printf "%s", times
         end()
     }
-    begin("goals")
-    print "| call | goal, at most | least of the five | greatest of the five | met |"
-    print "|---|---|---|---|---|"
-    for (i = 1; i <= n; i++) printf "| %s | %.1f | %.2f | %.2f | %d of %d |\n", list[i], goal_of(list[i]), least[list[i]], greatest[list[i]], met[list[i]], m
+    begin("ratios")
+    print "| call | goal, at most | 1 job | 8 jobs | 16 jobs | 32 jobs | largest |"
+    print "|---|---|---|---|---|---|---|"
+    for (i = 1; i <= n; i++) {
+        printf "| %s | %.1f |", list[i], goal_of(list[i])
+        for (k = 1; k <= m; k++) printf " %.2f |", total[input_of(list[i], names[k]), list[i], "ours"] / total[input_of(list[i], names[k]), list[i], "plain"]
+        print ""
+    }
     end()
     begin("decode")
     print "| | 1 | 8 | 16 | 32 |"

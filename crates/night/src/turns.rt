@@ -208,7 +208,7 @@ pub fn is_reading(n: Night) -> bool
     let phase = n.phase;
     match phase {
         Phase::Slots => true,
-        Phase::Closing => false,
+        Phase::Closing => false, // all speeds are read
         Phase::Job(_) => false,
         Phase::Over => false,
     }
