@@ -4,10 +4,9 @@ use std::process::Command;
 
 use bench::inputs::{Input as Measured, Shape, LARGEST_FILE};
 use bench::{Fault, Job, Plan, Run, Slack, Verdict, MOST_JOBS, PLACES};
-use reference::generate::{generate, STORED_COUNT, STORED_SEED};
+use reference::generate::{file, fixed_files, fixed_hands, hand, FileInput, HandInput, Lent};
 use reference::judge::judge;
 use reference::reader::reader;
-use reference::record::{get, FileInput, HandInput, Input, Lent};
 use reference::refusal::{self, Refusal};
 use reference::run::{start, step};
 use reference::slack::{slack_figure, SlackFigure};
@@ -15,6 +14,10 @@ use reference::writer::writer;
 
 /// Added to a place's number, it marks what a buffer held before a call.
 const MARK: u32 = 3_000_000_000;
+
+/// The drawn inputs: their seed, and how many there are of each kind.
+const SEED: u64 = 7_411;
+const DRAWN: u64 = 20_000;
 
 fn plan_of(plan: &reference::plan::Plan) -> Plan {
     let job_of = |job: &reference::plan::Job| Job {
@@ -144,30 +147,18 @@ fn compare_hand(input: &HandInput) {
     );
 }
 
-/// Compares all calls on so many inputs of a seed.
-fn compare(seed: u64, count: u64) {
-    let mut bytes = Vec::new();
-    generate(seed, count, &mut bytes).expect("bytes in memory");
-    let mut bytes = bytes.as_slice();
-    let mut compared = 0;
-    while let Some(input) = get(&mut bytes).expect("a whole record") {
-        match input {
-            Input::File(input) => compare_file(&input),
-            Input::Hand(input) => compare_hand(&input),
-        }
-        compared += 1;
+#[test]
+fn fixed_inputs() {
+    fixed_files().iter().for_each(compare_file);
+    fixed_hands().iter().for_each(compare_hand);
+}
+
+#[test]
+fn drawn_inputs() {
+    for number in 0..DRAWN {
+        compare_file(&file(SEED, number));
+        compare_hand(&hand(SEED, number));
     }
-    assert_eq!(compared, count);
-}
-
-#[test]
-fn stored_set() {
-    compare(STORED_SEED, STORED_COUNT);
-}
-
-#[test]
-fn another_seed() {
-    compare(7_411, 20_000);
 }
 
 /// An input for measuring, taken up by the reference from its file.

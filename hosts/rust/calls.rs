@@ -1,4 +1,4 @@
-//! The calls of `libgateway.a` and the sizes of what is lent to them, as `gateway.h` declares them; nothing checks one against the other.
+//! The calls of `libgateway.a` and the sizes of what is lent to them, as `gateway.h` declares them. `tools/compare` runs them all.
 
 pub const MOST_JOBS: usize = 32;
 

@@ -2,7 +2,8 @@
 //!
 //! A [`Plan`] and a [`Run`] own the memory that the library works on. Every refusal is a [`Refusal`] with its number, its place and its words.
 
-mod calls;
+/// The bare calls, for a host that lends memory of its own.
+pub mod calls;
 
 use std::fmt;
 

@@ -1,7 +1,10 @@
 //! A small host in Rust: reads a plan file and then speeds from standard input, runs the plan slot by slot, and prints what runplan prints.
+//! With `--check` it reads a plan file alone, and says whether the plan is accepted, how much slack it has, and whether it is written again
+//! as the same file. Then the exit status is 0 for an accepted plan and 1 for any other.
 
-use gateway::{Outcome, Plan, Refusal, Run, LARGEST_FILE};
+use gateway::{Outcome, Place, Plan, Refusal, Run, LARGEST_FILE};
 use std::io::{self, Read, Write};
+use std::process::ExitCode;
 
 const OPENING_BYTES: usize = 5;
 
@@ -49,11 +52,7 @@ fn outcome_line(file: &[u8], run: &Run, plan: &Plan, job: usize) -> String {
     format!("{} {outcome} {}", name(file, job), run.carried(job).unwrap_or_default())
 }
 
-fn main() -> io::Result<()> {
-    let mut input = Vec::new();
-    io::stdin().read_to_end(&mut input)?;
-    let (file, speeds) = input.split_at(file_length(&input));
-    let mut out = io::stdout().lock();
+fn night(file: &[u8], speeds: &[u8], out: &mut impl Write) -> io::Result<()> {
     let (plan, mut run) = match open(file) {
         Ok(opened) => opened,
         Err(refusal) => return writeln!(out, "refused {}", refusal.number()),
@@ -72,4 +71,59 @@ fn main() -> io::Result<()> {
         writeln!(out, "{}", outcome_line(file, &run, &plan, job))?;
     }
     Ok(())
+}
+
+fn verdict_line(verdict: Result<(), Refusal>) -> String {
+    let refusal = match verdict {
+        Ok(()) => return "accepted".to_string(),
+        Err(refusal) => refusal,
+    };
+    let number = refusal.number();
+    match refusal.place() {
+        Place::Nowhere => format!("refused {number}"),
+        Place::JobAndInterval(job, interval) => format!("refused {number} at job {job}, interval {interval}"),
+        Place::Job(job) => format!("refused {number} at job {job}"),
+        Place::Interval(interval) => format!("refused {number} at interval {interval}"),
+        Place::IntervalAndDeadline(interval, deadline) => format!("refused {number} at interval {interval}, deadline {deadline}"),
+    }
+}
+
+fn slack_line(plan: &Plan) -> String {
+    match plan.slack() {
+        Ok(Some(slack)) => format!("slack {} at interval {}, deadline {}", slack.units, slack.interval, slack.deadline),
+        Ok(None) => "slack: no job is essential".to_string(),
+        Err(_) => "slack: none, for the same reason".to_string(),
+    }
+}
+
+fn check(file: &[u8], out: &mut impl Write) -> io::Result<bool> {
+    let plan = match Plan::read(file) {
+        Ok(plan) => plan,
+        Err(refusal) => return writeln!(out, "{}", verdict_line(Err(refusal))).map(|()| false),
+    };
+    let verdict = plan.judge();
+    let again = plan.write().unwrap_or_default();
+    writeln!(out, "{}", verdict_line(verdict))?;
+    writeln!(out, "{}", slack_line(&plan))?;
+    writeln!(out, "written again: {} {} bytes", if again == file { "the same" } else { "other" }, again.len())?;
+    Ok(verdict.is_ok())
+}
+
+fn main() -> io::Result<ExitCode> {
+    let words: Vec<String> = std::env::args().skip(1).collect();
+    let checks = words == ["--check"];
+    if !checks && !words.is_empty() {
+        eprintln!("usage: host-rust < PLAN-AND-SPEEDS\n       host-rust --check < PLAN");
+        return Ok(ExitCode::from(2));
+    }
+    let mut input = Vec::new();
+    io::stdin().read_to_end(&mut input)?;
+    let (file, speeds) = input.split_at(file_length(&input));
+    let mut out = io::stdout().lock();
+    if checks {
+        let is_accepted = check(file, &mut out)?;
+        return Ok(ExitCode::from(u8::from(!is_accepted)));
+    }
+    night(file, speeds, &mut out)?;
+    Ok(ExitCode::SUCCESS)
 }

@@ -1,7 +1,6 @@
 //! The reference program: every call on plans and runs, written by the plainest means.
 //!
-//! `generate` makes test inputs out of a seed and `verdicts` prints the full answers to them,
-//! so that another program can be compared with this one line by line.
+//! `generate` makes test inputs out of a seed, on which other programs are compared with this one.
 
 pub mod edition;
 pub mod generate;
@@ -10,9 +9,7 @@ pub mod lookup;
 pub mod plan;
 pub mod program;
 pub mod reader;
-pub mod record;
 pub mod refusal;
 pub mod run;
 pub mod slack;
-pub mod verdicts;
 pub mod writer;

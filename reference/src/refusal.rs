@@ -26,9 +26,6 @@ pub const SPEED: u8 = 20;
 pub const UNSOUND: u8 = 21;
 pub const TOO_SHORT: u8 = 22;
 
-/// The highest number there is.
-pub const LAST: u8 = TOO_SHORT;
-
 /// A refusal with its places, listed in the order in which they are named.
 ///
 /// Outside its window: job, interval. Not the size: job. Above the rate: interval.

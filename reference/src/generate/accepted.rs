@@ -110,7 +110,7 @@ pub fn accepted(prng: &mut Prng, limits: &Limits) -> Draft {
     accepted_of(prng, limits, jobs, boundaries)
 }
 
-/// An accepted plan of so many jobs, with so many boundaries or a few more.
+/// An accepted plan of this many jobs, with this many boundaries or a few more.
 pub fn accepted_of(prng: &mut Prng, limits: &Limits, jobs: usize, boundaries: usize) -> Draft {
     let mut attempts = 0;
     loop {
@@ -231,7 +231,7 @@ fn times(prng: &mut Prng, limits: &Limits, count: usize) -> Vec<u32> {
         .collect()
 }
 
-fn grades(prng: &mut Prng, jobs: usize) -> Vec<u8> {
+pub fn grades(prng: &mut Prng, jobs: usize) -> Vec<u8> {
     match prng.below(8) {
         0 => vec![LO; jobs],
         1 => vec![HI; jobs],
@@ -240,7 +240,7 @@ fn grades(prng: &mut Prng, jobs: usize) -> Vec<u8> {
 }
 
 /// Distinct names; most styles make them differ in as little as they can.
-fn names(prng: &mut Prng, jobs: usize) -> Vec<[u8; NAME_BYTES]> {
+pub fn names(prng: &mut Prng, jobs: usize) -> Vec<[u8; NAME_BYTES]> {
     let style = prng.below(4);
     let start = prng.between(0x21, 0x7E - MOST_JOBS as u64) as u8;
     (0..jobs)

@@ -204,17 +204,32 @@ impl Damage {
         let at = self.row(place);
         let row = self.file[at..at + ROW_BYTES].to_vec();
         if prng.once_in(2) || at + 2 * ROW_BYTES > self.file.len() {
-            let tail = self.file.split_off(at);
-            self.file.extend(row);
-            self.file.extend(tail);
-            self.rows += 1;
-            self.set(row_count_at(self.jobs), &(self.rows as u16).to_be_bytes());
-            seal(&mut self.file);
+            self.repeat(prng, at + ROW_BYTES, row);
         } else {
             let next = self.file[at + ROW_BYTES..at + 2 * ROW_BYTES].to_vec();
             self.set(at, &next);
             self.set(at + ROW_BYTES, &row);
         }
+    }
+
+    /// Puts in a row once more, now and then with a fault that is found before the wrong order.
+    fn repeat(&mut self, prng: &mut Prng, at: usize, mut row: Vec<u8>) {
+        match prng.below(8) {
+            0 | 1 => patch(&mut row, UNITS_IN, &[0; 4]),
+            2 => patch(
+                &mut row,
+                INTERVAL_IN,
+                &(self.intervals as u16).to_be_bytes(),
+            ),
+            3 => patch(&mut row, UNITS_IN, &u32::MAX.to_be_bytes()),
+            _ => (),
+        }
+        let tail = self.file.split_off(at);
+        self.file.extend(row);
+        self.file.extend(tail);
+        self.rows += 1;
+        self.set(row_count_at(self.jobs), &(self.rows as u16).to_be_bytes());
+        seal(&mut self.file);
     }
 }
 
@@ -257,7 +272,7 @@ pub fn damaged_twice(
     damage.file
 }
 
-/// Random bytes behind a head that is right, or not even that.
+/// Random bytes after a head that is right, or not even that.
 pub fn random_bytes(prng: &mut Prng) -> Vec<u8> {
     let length = prng.below(120) as usize;
     let mut file: Vec<u8> = (0..length).map(|_| prng.below(256) as u8).collect();
@@ -299,13 +314,14 @@ mod tests {
     //! Damage on top of damage.
 
     use super::super::draft::SMALL;
+    use super::super::prng::Purpose;
     use super::*;
 
     #[test]
     fn length_can_be_struck_twice() {
         let numbers = (refusal::CUT_OR_LENGTH, refusal::CUT_OR_LENGTH);
         for input in 0..5_000 {
-            let mut prng = Prng::new(1, input);
+            let mut prng = Prng::new(1, Purpose::File, input);
             let places = (Where::First, Where::Last);
             let file = damaged_twice(&mut prng, &SMALL, numbers, places);
             assert!(!file.is_empty());

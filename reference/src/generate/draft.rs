@@ -1,8 +1,8 @@
 //! A plan in the making: its records and table, its file, and where each field of the file stands.
 
+use super::input::Lent;
 use crate::edition::{HI, LARGEST_FILE, LO, MOST_DEADLINE, MOST_JOBS, NAME_BYTES, TABLE_PLACES};
 use crate::plan::{boundaries, intervals, place_of, Interval, Job, Plan};
-use crate::record::{Lent, MOST_LENT_GRANTS, MOST_LENT_OUTPUT, MOST_LENT_TABLE};
 use crate::writer::writer;
 
 /// Where the fields of a file stand, and how long its parts are.
@@ -25,9 +25,9 @@ pub const UNITS_IN: usize = 11;
 
 /// Lent lengths that are long enough for every plan, with places to spare.
 pub const AMPLE: Lent = Lent {
-    table: MOST_LENT_TABLE - 60,
-    output: MOST_LENT_OUTPUT - 100,
-    grants: MOST_LENT_GRANTS - 8,
+    table: TABLE_PLACES + 24,
+    output: LARGEST_FILE + 44,
+    grants: MOST_JOBS + 8,
 };
 
 /// How large a drawn plan may be, and the buffers lent with it.
@@ -68,7 +68,7 @@ pub enum Where {
 pub const EVERYWHERE: [Where; 3] = [Where::First, Where::Middle, Where::Last];
 
 impl Where {
-    /// The index meant in a list of so many, which is not empty.
+    /// The index meant in a list of this length, which is not 0.
     pub fn index(self, length: usize) -> usize {
         match self {
             Where::First => 0,

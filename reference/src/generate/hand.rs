@@ -3,14 +3,14 @@
 
 use super::accepted::{accepted, accepted_of};
 use super::draft::{row_at, Draft, Limits, Where, AMPLE, EVERYWHERE};
+use super::input::HandInput;
 use super::prng::Prng;
-use super::refused::{refused, wide_column, PLACED};
+use super::refused_draft;
 use super::speeds::speeds;
 use crate::edition::{
     LARGEST_FILE, MOST_DEADLINE, MOST_INTERVALS, MOST_JOBS, MOST_SIZE, NAME_BYTES, TABLE_PLACES,
 };
 use crate::plan::{intervals, place_of, Plan};
-use crate::record::{HandInput, MOST_LENT_TABLE};
 use crate::run::Run;
 
 /// The kinds of twists.
@@ -90,11 +90,7 @@ pub fn hand(prng: &mut Prng, limits: &Limits) -> HandInput {
 
 fn base(prng: &mut Prng, limits: &Limits) -> Draft {
     match prng.below(8) {
-        0 | 1 => {
-            let number = prng.pick(&PLACED);
-            refused(prng, limits, number, Where::Middle)
-        }
-        2 => wide_column(prng, limits),
+        0..=2 => refused_draft(prng, limits),
         3 => accepted_of(prng, limits, 1, 2),
         _ => accepted(prng, limits),
     }
@@ -223,7 +219,7 @@ fn twist_table_length(prng: &mut Prng, input: &mut HandInput) {
         TABLE_PLACES - 1,
         TABLE_PLACES,
         TABLE_PLACES + 1,
-        MOST_LENT_TABLE,
+        AMPLE.table,
     ];
     let length = prng.pick(&lengths);
     input.lent.table = length;
@@ -289,10 +285,10 @@ pub fn rubbish(prng: &mut Prng, input: &mut HandInput) {
     };
     for i in jobs..records {
         let job = &mut input.plan.jobs[i];
-        job.name = prng.next().to_be_bytes();
+        job.name = prng.word().to_be_bytes();
         job.grade = prng.below(256) as u8;
         job.release = prng.below(200) as u32;
-        job.size = prng.next();
+        job.size = prng.word();
         job.deadline = prng.below(200) as u32;
         input.run.carried[i] = prng.below(1 << 32) as u32;
     }

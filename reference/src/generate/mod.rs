@@ -1,128 +1,123 @@
-//! The generator of test inputs: a fixed part, then inputs drawn from a seed.
+//! Makes test inputs in memory: fixed ones, and others that a seed and a number determine.
 
 mod accepted;
+mod bad_inputs;
 mod damaged;
 mod draft;
-mod fixed;
+mod fixed_files;
+mod fixed_hands;
 mod hand;
+mod input;
+mod nights;
 mod prng;
 mod refused;
 mod speeds;
 
-use std::io::{self, Write};
-
 use crate::edition::TABLE_PLACES;
-use crate::record::{put, FileInput, Input, Lent, MOST_LENT_TABLE};
 use crate::refusal::{ROW_ORDER, VERSION};
 use draft::{Draft, Limits, ANY, EVERYWHERE, SMALL};
-use prng::Prng;
 use refused::PLACED;
 
-/// Seed of the stored set.
-pub const STORED_SEED: u64 = 20_260_101;
-/// Number of inputs of the stored set.
-pub const STORED_COUNT: u64 = 10_000;
+pub use bad_inputs::bad_inputs;
+pub use fixed_files::fixed_files;
+pub use fixed_hands::fixed_hands;
+pub use input::{FileInput, HandInput, Lent};
+pub use nights::night;
+pub use prng::{Prng, Purpose};
 
-/// One in so many inputs of a mixed set is drawn without limits, all others are small.
-const MIXED_CYCLE: u64 = 10;
+/// One input in this many is drawn without limits, all others are small.
+const CYCLE: u64 = 10;
 
-/// Writes so many inputs; the same seed gives the same bytes on every machine.
-pub fn generate(seed: u64, count: u64, output: &mut impl Write) -> io::Result<()> {
-    let fixed = fixed::inputs();
-    for number in 0..count {
-        match fixed.get(number as usize) {
-            Some(input) => put(input, output)?,
-            None => put(&drawn(seed, number, &ANY), output)?,
-        }
+/// The limits that the number of an input sets for it.
+fn limits_of(number: u64) -> &'static Limits {
+    if number % CYCLE == 0 {
+        &ANY
+    } else {
+        &SMALL
     }
-    Ok(())
 }
 
-/// Writes so many inputs of a mixed set from a number on: all of them drawn, nine in ten small.
-pub fn mixed(seed: u64, first: u64, count: u64, output: &mut impl Write) -> io::Result<()> {
-    for number in first..first + count {
-        let limits = if number % MIXED_CYCLE == 0 {
-            ANY
-        } else {
-            SMALL
-        };
-        put(&drawn(seed, number, &limits), output)?;
-    }
-    Ok(())
-}
-
-/// One input drawn from the seed and its own number alone.
-fn drawn(seed: u64, number: u64, limits: &Limits) -> Input {
-    let mut prng = Prng::new(seed, number);
+/// A plan file with speeds, drawn from the seed and its own number alone.
+pub fn file(seed: u64, number: u64) -> FileInput {
+    let prng = &mut Prng::new(seed, Purpose::File, number);
+    let limits = limits_of(number);
     match prng.below(100) {
-        0..=44 => {
-            let draft = accepted::accepted(&mut prng, limits);
-            run_of(&mut prng, limits, &draft)
+        0..=53 => {
+            let draft = accepted::accepted(prng, limits);
+            run_of(prng, limits, &draft)
         }
-        45..=58 => refused_input(&mut prng, limits),
-        59..=74 => damaged_input(&mut prng, limits),
-        75..=77 => of_file(limits, damaged::random_bytes(&mut prng)),
-        78..=81 => of_file(limits, damaged::sprinkled(&mut prng, limits)),
-        _ => Input::Hand(Box::new(hand::hand(&mut prng, limits))),
+        54..=71 => refused_file(prng, limits),
+        72..=91 => of_file(limits, damaged_file(prng, limits)),
+        92..=94 => of_file(limits, damaged::random_bytes(prng)),
+        _ => of_file(limits, damaged::sprinkled(prng, limits)),
     }
 }
 
-fn of_file(limits: &Limits, file: Vec<u8>) -> Input {
-    Input::File(FileInput {
+/// A plan in hand with a run and speeds, drawn from the seed and its own number alone.
+pub fn hand(seed: u64, number: u64) -> HandInput {
+    let prng = &mut Prng::new(seed, Purpose::Hand, number);
+    hand::hand(prng, limits_of(number))
+}
+
+fn of_file(limits: &Limits, file: Vec<u8>) -> FileInput {
+    FileInput {
         lent: limits.lent,
         file,
         speeds: vec![2, 1],
-    })
+    }
 }
 
 /// A draft as a file with the speeds of a run, now and then with scant buffers.
-fn run_of(prng: &mut Prng, limits: &Limits, draft: &Draft) -> Input {
+fn run_of(prng: &mut Prng, limits: &Limits, draft: &Draft) -> FileInput {
     let file = draft.file();
     let mut lent = limits.lent;
     if prng.once_in(10) {
         lent = scant(prng, file.len(), draft.jobs());
     }
-    Input::File(FileInput {
+    FileInput {
         lent,
         file,
         speeds: speeds::speeds(prng, &draft.plan),
-    })
+    }
 }
 
 /// Buffers around the lengths that a plan needs.
 fn scant(prng: &mut Prng, exact: usize, jobs: usize) -> Lent {
+    let tables = [0, TABLE_PLACES - 1, TABLE_PLACES, TABLE_PLACES + 1];
     Lent {
-        table: prng.pick(&[
-            TABLE_PLACES,
-            TABLE_PLACES,
-            TABLE_PLACES - 1,
-            MOST_LENT_TABLE,
-        ]),
+        table: prng.pick(&tables),
         output: prng.pick(&[exact, exact - 1, exact + 1, 0]),
         grants: prng.pick(&[jobs, jobs - 1, jobs + 1, 0]),
     }
 }
 
-fn refused_input(prng: &mut Prng, limits: &Limits) -> Input {
-    if prng.once_in(12) {
-        let draft = refused::wide_column(prng, limits);
-        return run_of(prng, limits, &draft);
+/// A plan that the judge refuses.
+fn refused_draft(prng: &mut Prng, limits: &Limits) -> Draft {
+    match prng.below(12) {
+        0 => refused::wide_column(prng, limits),
+        1 => refused::heavy_column(prng),
+        _ => {
+            let number = prng.pick(&PLACED);
+            let place = prng.pick(&EVERYWHERE);
+            refused::refused(prng, limits, number, place)
+        }
     }
-    let number = prng.pick(&PLACED);
-    let place = prng.pick(&EVERYWHERE);
-    let draft = refused::refused(prng, limits, number, place);
+}
+
+fn refused_file(prng: &mut Prng, limits: &Limits) -> FileInput {
+    let draft = refused_draft(prng, limits);
     run_of(prng, limits, &draft)
 }
 
-fn damaged_input(prng: &mut Prng, limits: &Limits) -> Input {
+/// A file with one fault or two of the reader's numbers.
+fn damaged_file(prng: &mut Prng, limits: &Limits) -> Vec<u8> {
     let number = |prng: &mut Prng| prng.between(u64::from(VERSION), u64::from(ROW_ORDER)) as u8;
     if prng.once_in(3) {
         let numbers = (number(prng), number(prng));
         let places = (prng.pick(&EVERYWHERE), prng.pick(&EVERYWHERE));
-        let file = damaged::damaged_twice(prng, limits, numbers, places);
-        return of_file(limits, file);
+        return damaged::damaged_twice(prng, limits, numbers, places);
     }
     let number = number(prng);
     let place = prng.pick(&EVERYWHERE);
-    of_file(limits, damaged::damaged(prng, limits, number, place))
+    damaged::damaged(prng, limits, number, place)
 }

@@ -1,21 +1,32 @@
 //! A small source of numbers that gives the same ones on every machine (splitmix64).
 
+/// What the numbers of a source are drawn for.
+#[derive(Clone, Copy)]
+pub enum Purpose {
+    Fixed,
+    File,
+    Hand,
+    Night,
+    Lending,
+}
+
 /// The state of one source.
 pub struct Prng {
     state: u64,
 }
 
 impl Prng {
-    /// A source for one input of one seed; inputs of a seed do not depend on each other.
-    pub fn new(seed: u64, input: u64) -> Prng {
+    /// A source for one input of one seed; sources of a seed do not depend on each other.
+    pub fn new(seed: u64, purpose: Purpose, input: u64) -> Prng {
         let mut prng = Prng { state: seed };
-        prng.state = prng.next() ^ input;
-        prng.state = prng.next();
+        prng.state = prng.word() ^ purpose as u64;
+        prng.state = prng.word() ^ input;
+        prng.state = prng.word();
         prng
     }
 
-    // Wrapping is what this well-known generator is made of.
-    pub fn next(&mut self) -> u64 {
+    /// The next 64 bits. Wrapping is what this well-known generator is made of.
+    pub fn word(&mut self) -> u64 {
         self.state = self.state.wrapping_add(0x9E37_79B9_7F4A_7C15);
         let mut mixed = self.state;
         mixed = (mixed ^ (mixed >> 30)).wrapping_mul(0xBF58_476D_1CE4_E5B9);
@@ -25,10 +36,10 @@ impl Prng {
 
     /// A number below a limit, which is not 0.
     pub fn below(&mut self, limit: u64) -> u64 {
-        self.next() % limit
+        self.word() % limit
     }
 
-    /// An index into a list of so many elements.
+    /// An index into a list of this length.
     pub fn index(&mut self, length: usize) -> usize {
         self.below(length as u64) as usize
     }
@@ -38,7 +49,7 @@ impl Prng {
         least + self.below(most - least + 1)
     }
 
-    /// True once in so many times.
+    /// True once in this many times.
     pub fn once_in(&mut self, times: u64) -> bool {
         self.below(times) == 0
     }
@@ -63,13 +74,13 @@ mod tests {
     #[test]
     fn first_numbers_from_state_zero_are_the_published_ones() {
         let mut prng = Prng { state: 0 };
-        assert_eq!(prng.next(), 0xE220_A839_7B1D_CDAF);
-        assert_eq!(prng.next(), 0x6E78_9E6A_A1B9_65F4);
+        assert_eq!(prng.word(), 0xE220_A839_7B1D_CDAF);
+        assert_eq!(prng.word(), 0x6E78_9E6A_A1B9_65F4);
     }
 
     #[test]
     fn numbers_stay_within_their_limits() {
-        let mut prng = Prng::new(1, 2);
+        let mut prng = Prng::new(1, Purpose::File, 2);
         assert!((0..100).all(|_| prng.below(3) < 3));
         assert!((0..100).all(|_| (5..=7).contains(&prng.between(5, 7))));
     }

@@ -1,15 +1,18 @@
 //! Makes plans that keep every rule of a file and that the judge refuses at a wanted place.
 
-use super::accepted::{accepted_of, covered, Rooms};
-use super::draft::{Draft, Limits, Where};
+use super::accepted::{accepted_of, covered, grades, names, Rooms};
+use super::draft::{job, Draft, Limits, Where};
 use super::prng::Prng;
-use crate::edition::{HI, LO, MOST_JOBS, MOST_SIZE};
+use crate::edition::{HI, LO, MOST_DEADLINE, MOST_JOBS, MOST_RATE, MOST_SIZE};
 use crate::judge::judge;
-use crate::plan::place_of;
+use crate::plan::{place_of, Job};
 use crate::refusal::{ABOVE_RATE, FLOOR_RULE, NOT_THE_SIZE, OUTSIDE_WINDOW};
 
 /// Tries for the wanted place; after them any spoilt plan will do.
 const TRIES: usize = 60;
+
+/// As few jobs as can have 2^31 units together, each of them no more than a size may be.
+const LEAST_HEAVY_JOBS: u64 = 22;
 
 /// The numbers that the judge gives with places.
 pub const PLACED: [u8; 4] = [OUTSIDE_WINDOW, NOT_THE_SIZE, ABOVE_RATE, FLOOR_RULE];
@@ -163,7 +166,7 @@ fn add(draft: &mut Draft, position: usize, interval: usize, units: u64) {
 
 /// A plan with an interval whose units are 2^32 more than they should be.
 ///
-/// No plan with right sizes can hold so many, so the sizes are found wrong before.
+/// No plan with right sizes can hold them, so the sizes are found wrong before.
 pub fn wide_column(prng: &mut Prng, limits: &Limits) -> Draft {
     let jobs = prng.between(2, 5) as usize;
     let mut draft = accepted_of(prng, limits, jobs, 2);
@@ -171,4 +174,42 @@ pub fn wide_column(prng: &mut Prng, limits: &Limits) -> Draft {
         draft.table[place_of(i, 0)] += 1 << 31;
     }
     draft
+}
+
+/// A plan whose sizes are right and whose units in one interval are about 2^31.
+///
+/// A sum that takes 2^31 for a number below 0 would find room for them.
+pub fn heavy_column(prng: &mut Prng) -> Draft {
+    let jobs = heavy_jobs(prng);
+    let n = prng.between(2, u64::from(MOST_RATE)) as u16;
+    let d = prng.between(1, u64::from(n) - 1) as u16;
+    let mut draft = Draft::new(n, d, &jobs);
+    // All windows share the interval that begins with the last release.
+    let start = jobs.iter().map(|job| job.release).max();
+    let shared = draft.boundaries().iter().position(|&t| Some(t) == start);
+    for (i, job) in jobs.iter().enumerate() {
+        draft.table[place_of(i, shared.expect("a boundary"))] = job.size as u32;
+    }
+    draft
+}
+
+/// Jobs that are all live together, with sizes that sum to 2^31, a little more or one less.
+fn heavy_jobs(prng: &mut Prng) -> Vec<Job> {
+    let count = prng.between(LEAST_HEAVY_JOBS, MOST_JOBS as u64);
+    let half = 1 << 31;
+    let little = prng.below(1_000_000);
+    let most = count * MOST_SIZE;
+    let total = prng.pick(&[half - 1, half, half, half + 1, half + little, most]);
+    let names = names(prng, count as usize);
+    let grades = grades(prng, count as usize);
+    let (first, last) = prng.pick(&[(1, 2), (1, 21), (7, 90_000), (1, MOST_DEADLINE - 1)]);
+    let mut jobs = Vec::new();
+    for i in 0..count {
+        let size = total / count + u64::from(i < total % count);
+        let (release, deadline) = (first - prng.below(2) as u32, last + prng.below(2) as u32);
+        let (name, grade) = (names[i as usize], grades[i as usize]);
+        jobs.push(job(&name, grade, release, size, deadline));
+    }
+    prng.shuffle(&mut jobs);
+    jobs
 }

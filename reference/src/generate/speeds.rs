@@ -2,8 +2,9 @@
 
 use super::prng::Prng;
 use crate::plan::{boundaries, Plan};
-use crate::record::MOST_SPEEDS;
 
+/// Most speeds of one input.
+const MOST_SPEEDS: u64 = 200;
 /// Slots after which a run of a long plan is left, to keep inputs short.
 const LONG_RUN: u64 = 40;
 
@@ -14,7 +15,7 @@ pub fn speeds(prng: &mut Prng, plan: &Plan) -> Vec<u16> {
     let count = match prng.below(12) {
         0 => prng.below(3),
         1 => prng.between(0, span.min(LONG_RUN)),
-        _ if span + 3 > MOST_SPEEDS as u64 => prng.between(1, LONG_RUN),
+        _ if span + 3 > MOST_SPEEDS => prng.between(1, LONG_RUN),
         _ => span + prng.below(4),
     };
     let change = prng.between(0, count);

@@ -1,39 +1,31 @@
 //! The floor rule: HI deadlines alone give the verdict and first place of all later boundaries.
 
-use reference::generate::generate;
+use reference::generate::{file, fixed_files, fixed_hands, hand};
 use reference::judge::{floor_rule, judge};
 use reference::plan::{boundaries, Plan};
 use reference::reader::reader;
-use reference::record::{get, Input};
 use reference::refusal::{DONE, OUTSIDE_WINDOW, TOO_SHORT, UNSOUND};
 use reference::slack::essential_deadlines;
 
-/// Inputs looked at; most of the later ones are drawn.
-const INPUTS: u64 = 8_000;
+/// Inputs drawn of each kind.
+const DRAWN: u64 = 4_000;
 const SEED: u64 = 5;
 
 /// All sound plans among generated inputs that give no job units outside its window.
 fn plans() -> Vec<(Plan, Vec<u32>)> {
-    let mut bytes = Vec::new();
-    generate(SEED, INPUTS, &mut bytes).unwrap();
-    let mut bytes = bytes.as_slice();
     let mut plans = Vec::new();
-    while let Some(input) = get(&mut bytes).unwrap() {
-        let (plan, table) = match input {
-            Input::File(input) => {
-                let mut table = vec![0; 2_016];
-                let (answer, plan) = reader(&input.file, &mut table);
-                if answer != DONE {
-                    continue;
-                }
-                (plan, table)
-            }
-            Input::Hand(input) => (input.plan, input.table),
-        };
-        if keeps_windows(&plan, &table) {
+    let drawn = (0..DRAWN).map(|number| file(SEED, number));
+    for input in fixed_files().into_iter().chain(drawn) {
+        let mut table = vec![0; 2_016];
+        let (answer, plan) = reader(&input.file, &mut table);
+        if answer == DONE {
             plans.push((plan, table));
         }
     }
+    let drawn = (0..DRAWN).map(|number| hand(SEED, number));
+    let hands = fixed_hands().into_iter().chain(drawn);
+    plans.extend(hands.map(|input| (input.plan, input.table)));
+    plans.retain(|(plan, table)| keeps_windows(plan, table));
     plans
 }
 

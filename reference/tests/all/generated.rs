@@ -1,222 +1,72 @@
-//! The stored set: its size, its limits, and that it reaches every answer of every call.
+//! The generated inputs: the same for the same seed, mostly small, and of every shape that matters.
 
 use std::collections::BTreeMap;
-use std::ops::RangeInclusive;
 
-use reference::generate::{generate, mixed, STORED_COUNT, STORED_SEED};
+use reference::edition::TABLE_PLACES;
+use reference::generate::{file, fixed_files, hand, night, FileInput};
 use reference::judge::judge;
 use reference::plan::{intervals, Plan};
 use reference::reader::reader;
-use reference::record::{
-    get, Input, MOST_BODY, MOST_LENT_GRANTS, MOST_LENT_OUTPUT, MOST_LENT_TABLE, MOST_SPEEDS,
-};
-use reference::refusal::{
-    ABOVE_RATE, DONE, FLOOR_RULE, OUTSIDE_WINDOW, ROW_ORDER, TOO_SHORT, UNSOUND, VERSION,
-};
+use reference::refusal::{ABOVE_RATE, DONE};
 use reference::slack::{slack_figure, SlackFigure};
-use reference::verdicts::checksum::Checksum;
-use reference::verdicts::verdicts;
 
-/// What every count of the stored set has to reach.
+/// How often a shape has to come among the plans that are looked at.
 const LEAST: u64 = 20;
+const SEED: u64 = 20_260_101;
+const DRAWN: u64 = 20_000;
 
-fn stored() -> Vec<u8> {
-    let mut bytes = Vec::new();
-    generate(STORED_SEED, STORED_COUNT, &mut bytes).unwrap();
-    bytes
+fn files() -> Vec<FileInput> {
+    let drawn = (0..DRAWN).map(|number| file(SEED, number));
+    fixed_files().into_iter().chain(drawn).collect()
 }
 
-fn inputs() -> Vec<Input> {
-    let bytes = stored();
-    let mut bytes = bytes.as_slice();
-    let mut inputs = Vec::new();
-    while let Some(input) = get(&mut bytes).unwrap() {
-        inputs.push(input);
-    }
-    inputs
+/// The plan and table of a file that the reader takes.
+fn read(file: &[u8]) -> Option<(Plan, Vec<u32>)> {
+    let mut table = vec![0; TABLE_PLACES];
+    let (answer, plan) = reader(file, &mut table);
+    (answer == DONE).then_some((plan, table))
 }
 
-fn text() -> String {
-    let mut text = Vec::new();
-    verdicts(&mut stored().as_slice(), &mut text).unwrap();
-    String::from_utf8(text).unwrap()
-}
-
-/// The plans of all files that the reader takes, with their tables.
 fn read_plans() -> Vec<(Plan, Vec<u32>)> {
-    let mut plans = Vec::new();
-    for input in inputs() {
-        if let Input::File(input) = input {
-            let mut table = vec![0; 2_016];
-            let (answer, plan) = reader(&input.file, &mut table);
-            if answer == DONE {
-                plans.push((plan, table));
-            }
-        }
-    }
-    plans
-}
-
-fn accepted_plans() -> Vec<(Plan, Vec<u32>)> {
-    read_plans()
-        .into_iter()
-        .filter(|(plan, table)| judge(plan, table).is_ok())
+    let inputs = files();
+    inputs
+        .iter()
+        .filter_map(|input| read(&input.file))
         .collect()
 }
 
-#[test]
-fn set_is_large_enough_and_small_enough() {
-    assert!(inputs().len() >= 5_000);
-    assert!(stored().len() <= 4_000_000, "{}", stored().len());
-    assert!(text().len() <= 4_000_000);
-}
-
-/// The checksum of the format over all bytes.
-fn sum_of(bytes: &[u8]) -> u64 {
-    let mut checksum = Checksum::new();
-    checksum.add_bytes(bytes);
-    checksum.sum
+fn accepted_plans() -> Vec<(Plan, Vec<u32>)> {
+    let mut plans = read_plans();
+    plans.retain(|(plan, table)| judge(plan, table).is_ok());
+    plans
 }
 
 #[test]
-fn set_and_verdicts_are_those_that_the_format_names() {
-    let (stored, text) = (stored(), text());
-    assert_eq!((stored.len(), sum_of(&stored)), (3_188_400, 239_666_904));
-    assert_eq!(
-        (text.len(), sum_of(text.as_bytes())),
-        (1_840_759, 548_068_875)
-    );
-}
-
-#[test]
-fn same_seed_gives_the_same_bytes_and_another_seed_does_not() {
-    let bytes = |seed| {
-        let mut bytes = Vec::new();
-        generate(seed, 2_500, &mut bytes).unwrap();
-        bytes
+fn same_seed_gives_the_same_inputs_and_another_seed_does_not() {
+    let all = |seed| {
+        let numbers = || 0..300;
+        let files: Vec<_> = numbers().map(|number| file(seed, number)).collect();
+        let hands: Vec<_> = numbers().map(|number| hand(seed, number)).collect();
+        let nights: Vec<_> = numbers().map(|number| night(seed, number)).collect();
+        (files, hands, nights)
     };
-    assert!(bytes(1) == bytes(1));
-    assert!(bytes(1) != bytes(2));
-}
-
-/// A part of a mixed set.
-fn mixed_part(first: u64, count: u64) -> Vec<u8> {
-    let mut bytes = Vec::new();
-    mixed(1, first, count, &mut bytes).unwrap();
-    bytes
+    let (first, again, other) = (all(1), all(1), all(2));
+    assert!(first == again);
+    assert!(first.0 != other.0 && first.1 != other.1 && first.2 != other.2);
 }
 
 #[test]
-fn parts_of_a_mixed_set_join() {
-    let parts = [mixed_part(20, 15), mixed_part(35, 40)].concat();
-    assert!(parts == mixed_part(20, 55));
-}
-
-/// How many jobs an input has, as far as it is right, and how many speeds.
-fn jobs_and_speeds(input: &Input) -> (usize, usize) {
-    match input {
-        Input::File(input) => {
-            let (_, plan) = reader(&input.file, &mut [0; 2_016]);
-            (plan.count as usize, input.speeds.len())
+fn nine_in_ten_are_small() {
+    let (mut small, mut large) = (0, 0);
+    for number in 0..3_000 {
+        let input = file(1, number);
+        let jobs = read(&input.file).map_or(0, |(plan, _)| plan.count);
+        if jobs <= 6 && input.speeds.len() <= 30 {
+            small += 1;
         }
-        Input::Hand(input) if input.plan.count > 32 => (0, input.speeds.len()),
-        Input::Hand(input) => (input.plan.count as usize, input.speeds.len()),
+        large += u32::from(jobs == 32);
     }
-}
-
-#[test]
-fn nine_in_ten_of_a_mixed_set_are_small() {
-    let bytes = mixed_part(0, 3_000);
-    let mut bytes = bytes.as_slice();
-    let mut number = 0;
-    let mut most = (0, 0);
-    while let Some(input) = get(&mut bytes).unwrap() {
-        let (jobs, speeds) = jobs_and_speeds(&input);
-        if number % 10 != 0 {
-            assert!(jobs <= 6 && speeds <= 30, "input {}", number);
-        }
-        most = (most.0.max(jobs), most.1.max(speeds));
-        number += 1;
-    }
-    assert_eq!(number, 3_000);
-    assert!(most.0 == 32 && most.1 > 100);
-}
-
-#[test]
-fn every_record_keeps_the_limits_of_the_format() {
-    for input in inputs() {
-        let (lent, speeds) = match &input {
-            Input::File(input) => (input.lent, &input.speeds),
-            Input::Hand(input) => (input.lent, &input.speeds),
-        };
-        assert!(speeds.len() <= MOST_SPEEDS);
-        assert!(lent.table <= MOST_LENT_TABLE && lent.output <= MOST_LENT_OUTPUT);
-        assert!(lent.grants <= MOST_LENT_GRANTS);
-        let mut bytes = Vec::new();
-        reference::record::put(&input, &mut bytes).unwrap();
-        assert!(bytes.len() - 5 <= MOST_BODY);
-    }
-}
-
-#[test]
-fn every_count_reaches_its_least() {
-    let text = text();
-    let counts: Vec<&str> = text
-        .lines()
-        .skip_while(|line| !line.starts_with("inputs "))
-        .collect();
-    assert_eq!(counts.len(), 29);
-    for line in counts {
-        let count: u64 = line.rsplit(' ').next().unwrap().parse().unwrap();
-        assert!(count >= LEAST, "{}", line);
-    }
-}
-
-/// How often each call gave each answer, by the first two words of its line.
-fn answers() -> BTreeMap<(String, String), u64> {
-    let mut answers = BTreeMap::new();
-    for line in text().lines() {
-        let words: Vec<&str> = line.split(' ').collect();
-        if words.len() > 1 {
-            *answers
-                .entry((words[0].to_string(), words[1].to_string()))
-                .or_insert(0) += 1;
-        }
-    }
-    answers
-}
-
-#[test]
-fn every_call_gives_each_of_its_numbers() {
-    let answers = answers();
-    let expect = |call: &str, numbers: RangeInclusive<u8>| {
-        for number in numbers {
-            let key = (call.to_string(), number.to_string());
-            let count = answers.get(&key).copied().unwrap_or(0);
-            assert!(count >= LEAST, "{} {}: {}", call, number, count);
-        }
-    };
-    expect("reader", VERSION..=ROW_ORDER);
-    expect("judge", OUTSIDE_WINDOW..=FLOOR_RULE);
-    expect("slack", OUTSIDE_WINDOW..=ABOVE_RATE);
-    expect("start", OUTSIDE_WINDOW..=FLOOR_RULE);
-    for call in ["writer", "judge", "slack", "start"] {
-        expect(call, UNSOUND..=TOO_SHORT);
-        expect(call, DONE..=DONE);
-    }
-    expect("reader", TOO_SHORT..=TOO_SHORT);
-    expect("reader", DONE..=DONE);
-}
-
-#[test]
-fn every_step_answer_occurs() {
-    let text = text();
-    for mark in ["N", "D", "r19", "r20", "r21", "r22"] {
-        let lines = text
-            .lines()
-            .filter(|line| line.starts_with("steps ") && line.contains(mark));
-        assert!(lines.count() as u64 >= LEAST, "{}", mark);
-    }
+    assert!(small >= 2_700 && large > 0, "{} {}", small, large);
 }
 
 #[test]
@@ -274,5 +124,32 @@ fn accepted_plans_have_every_special_shape() {
     }
     for count in [uncovered, equal, none_essential, tight] {
         assert!(count >= LEAST);
+    }
+}
+
+/// The greatest sum of units in one interval.
+fn heaviest_column(plan: &Plan, table: &[u32]) -> u64 {
+    let column = |j| {
+        (0..plan.counted().len())
+            .map(move |i| u64::from(table[63 * i + j]))
+            .sum()
+    };
+    (0..63).map(column).max().unwrap_or(0)
+}
+
+#[test]
+fn columns_of_two_to_the_31_and_a_little_are_refused_by_17() {
+    let mut heavy = BTreeMap::new();
+    for (plan, table) in read_plans() {
+        let sum = heaviest_column(&plan, &table);
+        if ((1 << 31) - 1..3_200_000_001).contains(&sum) {
+            if let Err(refusal) = judge(&plan, &table) {
+                let past = u64::from(refusal.number == ABOVE_RATE && sum >= 1 << 31);
+                *heavy.entry(sum.min((1 << 31) + 2)).or_insert(0) += past;
+            }
+        }
+    }
+    for sum in [1 << 31, (1 << 31) + 1, (1 << 31) + 2] {
+        assert!(heavy[&sum] >= LEAST, "{:?}", heavy);
     }
 }

@@ -1,6 +1,6 @@
 //! The tests of the reference, one file for each call or group of cases.
 
-mod bad_input;
+mod bad_inputs;
 mod cases;
 mod common;
 mod floor;
@@ -12,5 +12,4 @@ mod program;
 mod reader;
 mod slack;
 mod step;
-mod verdicts;
 mod writer;

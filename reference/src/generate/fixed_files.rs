@@ -1,6 +1,5 @@
-//! The inputs that stand first in every generated file, whatever the seed: the plans to try,
-//! every cut and changed byte of a small file, every bound and one past it, each fault at each
-//! place, short buffers, and each twist of a plan in hand.
+//! The plan files that are the same for every seed: the plans to try, every cut and changed byte of
+//! a small file, every bound and one past it, each fault at each place, and short buffers.
 
 use super::accepted::accepted_of;
 use super::damaged::{sound_base, Damage};
@@ -9,24 +8,21 @@ use super::draft::{
     AMPLE, ANY, DEADLINE_IN, EVERYWHERE, GRADE_IN, INTERVAL_IN, JOB_COUNT_AT, LENGTH_AT, NAME_IN,
     RATES_AT, RELEASE_IN, SIZE_IN, UNITS_IN,
 };
-use super::hand::{in_hand, rubbish, twist_input, TWISTS};
-use super::prng::Prng;
+use super::input::{FileInput, Lent};
+use super::prng::{Prng, Purpose};
 use crate::edition::{
     HI, LO, MOST_DEADLINE, MOST_INTERVALS, MOST_JOBS, MOST_ROWS, MOST_SIZE, TABLE_PLACES,
 };
 use crate::plan::{place_of, Job};
-use crate::record::{FileInput, HandInput, Input, Lent, MOST_LENT_TABLE};
 use crate::refusal::{ROW_ORDER, VERSION};
 
-/// The seed of everything in this file that is drawn.
-const SEED: u64 = 1;
+/// The seed of everything fixed that is drawn.
+pub const SEED: u64 = 1;
 /// Draws for each number and place of damage.
 const DRAWS_OF_DAMAGE: u64 = 5;
-/// Draws for each twist and place in hand.
-const DRAWS_OF_TWIST: u64 = 6;
 
 /// All of them, in their order.
-pub fn inputs() -> Vec<Input> {
+pub fn fixed_files() -> Vec<FileInput> {
     let parts = [
         cases(),
         short_runs_of_e(),
@@ -41,33 +37,31 @@ pub fn inputs() -> Vec<Input> {
         widest_files(),
         short_buffers(),
         damages(),
-        twists(),
-        hand_bounds(),
     ];
     parts.concat()
 }
 
-fn of_file(file: Vec<u8>, speeds: &[u16]) -> Input {
-    Input::File(FileInput {
+fn of_file(file: Vec<u8>, speeds: &[u16]) -> FileInput {
+    FileInput {
         lent: AMPLE,
         file,
         speeds: speeds.to_vec(),
-    })
+    }
 }
 
-fn of_draft(draft: &Draft, speeds: &[u16]) -> Input {
+fn of_draft(draft: &Draft, speeds: &[u16]) -> FileInput {
     of_file(draft.file(), speeds)
 }
 
 /// The file of plan E with some bytes replaced.
-fn patched_e(at: usize, bytes: &[u8]) -> Input {
+fn patched_e(at: usize, bytes: &[u8]) -> FileInput {
     let mut file = plan_e().file();
     patch(&mut file, at, bytes);
     of_file(file, &[2, 1])
 }
 
 /// The plans to try, each with speeds that show something.
-fn cases() -> Vec<Input> {
+fn cases() -> Vec<FileInput> {
     let run = [2, 2, 2, 1, 1, 1, 1];
     vec![
         of_draft(&plan_e(), &run),
@@ -118,7 +112,7 @@ fn later_deadline_first() -> Draft {
 }
 
 /// Plan E with every choice of three speeds, then slots at the floor or at the normal rate.
-fn short_runs_of_e() -> Vec<Input> {
+fn short_runs_of_e() -> Vec<FileInput> {
     let mut inputs = Vec::new();
     for choice in 0..128_u16 {
         let mut speeds = vec![choice % 4, choice / 4 % 4, choice / 16 % 4];
@@ -129,7 +123,7 @@ fn short_runs_of_e() -> Vec<Input> {
 }
 
 /// Every beginning of a small file, with the old length field and with one that fits.
-fn cuts() -> Vec<Input> {
+fn cuts() -> Vec<FileInput> {
     let whole = plan_e().file();
     let mut inputs = Vec::new();
     for length in 0..whole.len() {
@@ -142,7 +136,7 @@ fn cuts() -> Vec<Input> {
 }
 
 /// Every byte of a small file changed in four ways.
-fn changed_bytes() -> Vec<Input> {
+fn changed_bytes() -> Vec<FileInput> {
     let whole = plan_e().file();
     let mut inputs = Vec::new();
     for at in 0..whole.len() {
@@ -156,7 +150,7 @@ fn changed_bytes() -> Vec<Input> {
 }
 
 /// Length fields that are wrong, and bytes after the last row.
-fn wrong_lengths() -> Vec<Input> {
+fn wrong_lengths() -> Vec<FileInput> {
     let whole = plan_e().file();
     let right = whole.len() as u32 - 5;
     let mut inputs = Vec::new();
@@ -184,7 +178,7 @@ fn wrong_lengths() -> Vec<Input> {
 }
 
 /// Rates at their bounds and one past each, and the job count.
-fn rate_bounds() -> Vec<Input> {
+fn rate_bounds() -> Vec<FileInput> {
     let mut inputs = Vec::new();
     let rates: [(u16, u16); 15] = [
         (2, 1),
@@ -215,18 +209,18 @@ fn rate_bounds() -> Vec<Input> {
 }
 
 /// Plan E with each of these bytes at one place.
-fn bytes_at(at: usize, bytes: &[u8]) -> Vec<Input> {
+fn bytes_at(at: usize, bytes: &[u8]) -> Vec<FileInput> {
     bytes.iter().map(|&byte| patched_e(at, &[byte])).collect()
 }
 
 /// Plan E with each of these numbers of four bytes at one place.
-fn numbers_at(at: usize, numbers: &[u32]) -> Vec<Input> {
+fn numbers_at(at: usize, numbers: &[u32]) -> Vec<FileInput> {
     let patched = |number: &u32| patched_e(at, &number.to_be_bytes());
     numbers.iter().map(patched).collect()
 }
 
 /// Fields of the first and the last job of plan E at their bounds and one past each.
-fn job_bounds() -> Vec<Input> {
+fn job_bounds() -> Vec<FileInput> {
     let name_bytes = [0, 0x20, 0x21, 0x7E, 0x7F, 0xFF];
     let sizes = [0, 1, MOST_SIZE as u32, MOST_SIZE as u32 + 1, u32::MAX];
     let latest = [MOST_DEADLINE - 1, MOST_DEADLINE, MOST_DEADLINE + 1];
@@ -248,7 +242,7 @@ fn job_bounds() -> Vec<Input> {
 }
 
 /// The row count and the fields of each row of plan E at their bounds and one past each.
-fn row_bounds() -> Vec<Input> {
+fn row_bounds() -> Vec<FileInput> {
     let names = [b"Mirror-A", b"mirror-A", b"MIRROR-A", b"Mirror-B"];
     let mut inputs = Vec::new();
     for count in [0, 3, 5, MOST_ROWS as u16, MOST_ROWS as u16 + 1, u16::MAX] {
@@ -268,14 +262,14 @@ fn row_bounds() -> Vec<Input> {
 }
 
 /// One job that gets all its units in its only interval.
-fn one_job(rates: (u16, u16), grade: u8, window: (u32, u32), size: u32) -> Input {
+fn one_job(rates: (u16, u16), grade: u8, window: (u32, u32), size: u32) -> FileInput {
     let only = job(b"only-job", grade, window.0, u64::from(size), window.1);
     let draft = Draft::new(rates.0, rates.1, &[only]).with_rows(&[&[size]]);
     of_draft(&draft, &[rates.0, rates.0, rates.1, rates.1, 0])
 }
 
 /// Sums at the limit of the judge's rules and one past it.
-fn judge_bounds() -> Vec<Input> {
+fn judge_bounds() -> Vec<FileInput> {
     let whole = (0, MOST_DEADLINE);
     let last_slot = (MOST_DEADLINE - 1, MOST_DEADLINE);
     let mut inputs = vec![
@@ -303,7 +297,7 @@ fn judge_bounds() -> Vec<Input> {
 }
 
 /// Sums that 32 bits cannot hold, or barely.
-fn wide_sums() -> Vec<Input> {
+fn wide_sums() -> Vec<FileInput> {
     let half = 1 << 31;
     let full = u32::MAX;
     let mut inputs = vec![
@@ -334,11 +328,11 @@ fn wide_sums() -> Vec<Input> {
 }
 
 /// An accepted plan for each number of intervals, with as few jobs as can make them and one more.
-fn every_width() -> Vec<Input> {
+fn every_width() -> Vec<FileInput> {
     let mut inputs = Vec::new();
     for intervals in 1..=MOST_INTERVALS {
         let jobs = (intervals / 2 + 1 + intervals % 2).min(MOST_JOBS);
-        let mut prng = Prng::new(SEED, intervals as u64);
+        let mut prng = Prng::new(SEED, Purpose::Fixed, intervals as u64);
         let mut draft = accepted_of(&mut prng, &ANY, jobs, intervals + 1);
         while draft.intervals().len() != intervals {
             draft = accepted_of(&mut prng, &ANY, jobs, intervals + 1);
@@ -376,7 +370,7 @@ fn full_draft() -> Draft {
 }
 
 /// The largest file, the same with a leftover byte, and accepted plans of the widest shape.
-fn widest_files() -> Vec<Input> {
+fn widest_files() -> Vec<FileInput> {
     let mut largest = full_draft();
     let mut longer = largest.file();
     longer.push(14);
@@ -395,116 +389,58 @@ fn widest_files() -> Vec<Input> {
         .collect();
     inputs.push(of_draft(&largest, &run));
     for input in 0..6 {
-        let mut prng = Prng::new(SEED, input);
+        let mut prng = Prng::new(SEED, Purpose::Fixed, input);
         let draft = accepted_of(&mut prng, &ANY, MOST_JOBS, 2 * MOST_JOBS);
         inputs.push(of_draft(&draft, &[draft.plan.n; 70]));
     }
     inputs
 }
 
-/// Plan E with buffers of every length around the exact one.
-fn short_buffers() -> Vec<Input> {
-    let file = plan_e().file();
-    let exact = file.len();
-    let mut lents = Vec::new();
-    for table in [
+/// Buffers of every length around the exact one, for a plan of two jobs and the length of its file.
+pub fn lents(exact: usize) -> Vec<Lent> {
+    let tables = [
         0,
         1,
-        63,
+        MOST_INTERVALS,
         TABLE_PLACES - 1,
         TABLE_PLACES,
         TABLE_PLACES + 1,
-        MOST_LENT_TABLE,
-    ] {
-        lents.push(Lent { table, ..AMPLE });
-    }
-    for output in [0, 1, 5, exact - 1, exact, exact + 1] {
-        lents.push(Lent { output, ..AMPLE });
-    }
-    for grants in [0, 1, 2, 3, 32] {
-        lents.push(Lent { grants, ..AMPLE });
-    }
+        AMPLE.table,
+    ];
+    let outputs = [0, 1, 5, exact - 1, exact, exact + 1];
+    let mut lents: Vec<Lent> = Vec::new();
+    lents.extend(tables.map(|table| Lent { table, ..AMPLE }));
+    lents.extend(outputs.map(|output| Lent { output, ..AMPLE }));
+    lents.extend([0, 1, 2, 3, 32].map(|grants| Lent { grants, ..AMPLE }));
+    lents
+}
+
+/// Plan E and a file that is refused, with each of these buffers.
+fn short_buffers() -> Vec<FileInput> {
+    let file = plan_e().file();
     let mut inputs = Vec::new();
-    for lent in lents {
-        let whole = FileInput {
-            lent,
-            file: file.clone(),
-            speeds: vec![2, 2, 3, 1],
-        };
-        let broken = FileInput {
-            file: file[..40].to_vec(),
-            ..whole.clone()
-        };
-        let at_end = at_the_end(in_hand(&plan_e(), &[2, 3]), lent);
-        inputs.push(Input::File(whole));
-        inputs.push(Input::File(broken));
-        inputs.push(Input::Hand(Box::new(at_end)));
+    for lent in lents(file.len()) {
+        for file in [&file[..], &file[..40]] {
+            inputs.push(FileInput {
+                lent,
+                file: file.to_vec(),
+                speeds: vec![2, 2, 3, 1],
+            });
+        }
     }
     inputs
 }
 
-/// The same plan in hand with its clock at the last deadline and other buffers.
-fn at_the_end(mut input: HandInput, lent: Lent) -> HandInput {
-    input.lent = lent;
-    input.table.truncate(lent.table);
-    input.run.clock = 10;
-    input
-}
-
 /// Each number of the reader at the first, a middle and the last place.
-fn damages() -> Vec<Input> {
+fn damages() -> Vec<FileInput> {
     let mut inputs = Vec::new();
     for number in VERSION..=ROW_ORDER {
         for place in EVERYWHERE {
             for _ in 0..DRAWS_OF_DAMAGE {
-                let mut prng = Prng::new(SEED, inputs.len() as u64);
+                let mut prng = Prng::new(SEED, Purpose::Fixed, inputs.len() as u64);
                 let mut damage = Damage::new(&sound_base(&mut prng, &ANY));
                 damage.strike(&mut prng, number, place);
                 inputs.push(of_file(damage.file, &[2]));
-            }
-        }
-    }
-    inputs
-}
-
-/// Each twist of a plan in hand at the first, a middle and the last place, alone.
-fn twists() -> Vec<Input> {
-    let mut inputs = Vec::new();
-    for twist in TWISTS {
-        for place in EVERYWHERE {
-            for _ in 0..DRAWS_OF_TWIST {
-                let mut prng = Prng::new(SEED, inputs.len() as u64);
-                let draft = sound_base(&mut prng, &ANY);
-                let (n, d) = (draft.plan.n, draft.plan.d);
-                let mut input = in_hand(&draft, &[n, n, n + 1, n, d, d]);
-                twist_input(&mut prng, &mut input, twist, place);
-                inputs.push(Input::Hand(Box::new(input)));
-            }
-        }
-    }
-    inputs
-}
-
-/// Runs in hand at the bounds of clock, carried units and records beyond the count.
-fn hand_bounds() -> Vec<Input> {
-    let mut inputs = Vec::new();
-    for clock in [0, 1, 4, 5, 9, 10, 11, u32::MAX] {
-        for carried in [
-            [0, 0],
-            [6, 8],
-            [5, 8],
-            [6, 7],
-            [7, 0],
-            [0, 9],
-            [u32::MAX, 0],
-        ] {
-            for slow in [false, true] {
-                let mut input = in_hand(&plan_e(), &[2, 3, 2, 0, 1]);
-                input.run.clock = clock;
-                input.run.slow = slow;
-                input.run.carried[..2].copy_from_slice(&carried);
-                rubbish(&mut Prng::new(SEED, inputs.len() as u64), &mut input);
-                inputs.push(Input::Hand(Box::new(input)));
             }
         }
     }

@@ -1,0 +1,98 @@
+//! Calls that are refused in the middle of a night. The word that makes them so is put back, and the
+//! night goes on.
+
+use reference::edition::{MOST_DEADLINE, MOST_JOBS, MOST_RATE};
+use reference::generate::Prng;
+
+use crate::both::{Both, Difference};
+use crate::memory::Memory;
+use crate::shorts::{short, SHORTS};
+use crate::words::{
+    job_at, BELOW_FLOOR, CLOCK, DEADLINE, FLOOR, GRADE, JOB_COUNT, MARK_WORDS, NORMAL_RATE,
+    RELEASE, SIZE, SLOW,
+};
+
+/// Marks that are neither 0 nor 1, some of them with such a last byte or half.
+pub const WRONG_MARKS: [u32; 6] = [2, 3, 0x100, 0x101, 0x1_0001, u32::MAX];
+
+/// A call with a speed above the rate, a short buffer, or a wrong word in the plan or the run.
+pub fn refused(both: &mut Both, prng: &mut Prng, memory: &mut Memory) -> Result<(), Difference> {
+    memory.lend_all();
+    match prng.below(4) {
+        0 => too_fast(both, prng, memory),
+        1 => {
+            let call = prng.pick(&SHORTS);
+            short(both, prng, memory, call)
+        }
+        2 => with_wrong_plan(both, prng, memory),
+        _ => with_wrong_run(both, prng, memory),
+    }
+}
+
+fn too_fast(both: &mut Both, prng: &mut Prng, memory: &mut Memory) -> Result<(), Difference> {
+    let rate = memory.plan.contents()[NORMAL_RATE].min(u16::MAX.into());
+    let above = (rate as u16).saturating_add(1);
+    both.step(memory, prng.pick(&[above, u16::MAX]))?;
+    Ok(())
+}
+
+/// A step, an outcome or a start with a word of the plan that breaks a rule.
+fn with_wrong_plan(
+    both: &mut Both,
+    prng: &mut Prng,
+    memory: &mut Memory,
+) -> Result<(), Difference> {
+    let job = job_at(prng.index(memory.jobs().max(1)));
+    let words = memory.plan.contents();
+    let changes = [
+        (NORMAL_RATE, u64::from(MOST_RATE) + 1),
+        (NORMAL_RATE, words[NORMAL_RATE] | 1 << 16),
+        (FLOOR, 0),
+        (FLOOR, words[FLOOR] | 1 << 32),
+        (JOB_COUNT, 0),
+        (JOB_COUNT, MOST_JOBS as u64 + 1),
+        (JOB_COUNT, words[JOB_COUNT] | 1 << 8),
+        (JOB_COUNT, words[JOB_COUNT] | 1 << 32),
+        (job + GRADE, words[job + GRADE] | 1 << 8),
+        (job + RELEASE, words[job + DEADLINE]),
+        (job + SIZE, 0),
+        (job + SIZE, words[job + SIZE] | 1 << 32),
+        (job + DEADLINE, u64::from(MOST_DEADLINE) + 1),
+        (job + DEADLINE, words[job + DEADLINE] | 1 << 32),
+    ];
+    let (at, wrong) = prng.pick(&changes);
+    let right = words[at];
+    memory.plan.put(at, &[wrong]);
+    match prng.below(4) {
+        0 => both.outcome(memory, 0)?,
+        1 => both.start(memory)?,
+        _ => both.step(memory, 1)?,
+    };
+    memory.plan.put(at, &[right]);
+    Ok(())
+}
+
+/// A step or an outcome with a word of the run that cannot stand there.
+fn with_wrong_run(both: &mut Both, prng: &mut Prng, memory: &mut Memory) -> Result<(), Difference> {
+    let i = prng.index(memory.jobs().max(1));
+    let size = memory.plan.contents()[job_at(i) + SIZE].min(u64::from(u32::MAX) - 1) as u32;
+    let mark = prng.pick(&WRONG_MARKS);
+    let changes = [
+        (SLOW, mark),
+        (BELOW_FLOOR, mark),
+        (CLOCK, MOST_DEADLINE + 1),
+        (CLOCK, u32::MAX),
+        (MARK_WORDS + i, size + 1),
+        (MARK_WORDS + i, u32::MAX),
+    ];
+    let (at, wrong) = prng.pick(&changes);
+    let right = memory.run.contents()[at];
+    memory.run.put(at, &[wrong]);
+    if prng.once_in(3) {
+        both.outcome(memory, i)?;
+    } else {
+        both.step(memory, 1)?;
+    }
+    memory.run.put(at, &[right]);
+    Ok(())
+}

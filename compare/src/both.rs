@@ -1,0 +1,100 @@
+//! Compares what the archive did in a call with what the model did: the number and every lent word.
+//!
+//! The calls themselves are in `calls.rs`.
+
+use std::fmt;
+
+use crate::buffer::{Lent, Spot};
+use crate::tally::{Call, Tally};
+
+/// What the archive did otherwise than the model.
+pub struct Difference {
+    pub call: Call,
+    what: String,
+}
+
+impl fmt::Display for Difference {
+    fn fmt(&self, f: &mut fmt::Formatter<'_>) -> fmt::Result {
+        write!(f, "{}: {}", self.call, self.what)
+    }
+}
+
+/// A part of a call's answer.
+#[derive(Clone, Copy, Debug, PartialEq, Eq)]
+pub enum Part {
+    Number,
+    /// A word of one of the buffers, which are counted from 0 in the order of the call's pointers.
+    Word(usize, Spot),
+    /// What the wrapper makes of the answer.
+    Wrapped,
+}
+
+/// For the self-test: a part of one call's answers that is changed before it is compared.
+#[derive(Clone, Copy)]
+pub struct Spoil {
+    pub call: Call,
+    pub part: Part,
+}
+
+/// Makes calls by the archive and by the model.
+#[derive(Default)]
+pub struct Both {
+    pub tally: Tally,
+    pub spoil: Option<Spoil>,
+    /// Prints each call, its answer and its buffers.
+    pub tells: bool,
+}
+
+impl Both {
+    /// Compares the answers and the buffers of a call, and counts it under a number.
+    pub fn compare(
+        &mut self,
+        call: Call,
+        (mut got, expected): (u64, u64),
+        counted: u32,
+        buffers: &mut [&mut dyn Lent],
+    ) -> Result<(), Difference> {
+        match self.spoilt_part(call) {
+            Some(Part::Number) => got += 1,
+            Some(Part::Word(k, spot)) => buffers[k].spoil(spot),
+            _ => (),
+        }
+        if self.tells {
+            println!("{}: expected {}, got {}; then", call, expected, got);
+            buffers
+                .iter()
+                .for_each(|buffer| println!("{}", buffer.told()));
+        }
+        self.tally.add(call, counted, 1);
+        if got != expected {
+            let what = format!("the answer: expected {}, got {}", expected, got);
+            return Err(Difference { call, what });
+        }
+        match buffers.iter().find_map(|buffer| buffer.difference()) {
+            Some(what) => Err(Difference { call, what }),
+            None => Ok(()),
+        }
+    }
+
+    /// Compares what the wrapper makes of a call with what the call itself gave, as lists of words.
+    pub fn agree(
+        &mut self,
+        call: Call,
+        mut wrapped: Vec<u64>,
+        bare: Vec<u64>,
+    ) -> Result<(), Difference> {
+        if self.spoilt_part(call) == Some(Part::Wrapped) {
+            wrapped[0] += 1;
+        }
+        if wrapped == bare {
+            return Ok(());
+        }
+        let what = format!("the wrapper: expected {:?}, got {:?}", bare, wrapped);
+        Err(Difference { call, what })
+    }
+
+    fn spoilt_part(&self, call: Call) -> Option<Part> {
+        let spoil = self.spoil.filter(|spoil| spoil.call == call);
+        spoil.map(|spoil| spoil.part)
+    }
+}

@@ -1,0 +1,185 @@
+//! The calls for hosts: each is made by the archive and by the model, and the two are compared.
+//!
+//! What a call only hands out, and never reads, is laid over known words.
+
+use gateway::calls::*;
+
+use crate::both::{Both, Difference};
+use crate::buffer::{Buffer, Lent};
+use crate::memory::Memory;
+use crate::model;
+use crate::tally::{Call, NAME_SHOWN, NO_NAME};
+
+// SAFETY of all calls below: each pointer is a buffer's and valid for the length beside it, and no
+// two buffers overlap.
+impl Both {
+    pub fn read(&mut self, file: &mut Buffer<u8>, memory: &mut Memory) -> Result<u32, Difference> {
+        let Memory { plan, table, .. } = memory;
+        let got = unsafe {
+            gateway_read(
+                file.archive(),
+                file.lent(),
+                plan.archive_mut(),
+                plan.lent(),
+                table.archive_mut(),
+                table.lent(),
+            )
+        };
+        let expected = model::read(file.model(), plan.model_mut(), table.model_mut());
+        self.end(Call::Read, got, expected, &mut [file, plan, table])
+    }
+
+    /// Where the name begins, or 0.
+    pub fn name(&mut self, file: &mut Buffer<u8>, position: usize) -> Result<usize, Difference> {
+        let got = unsafe { gateway_name(file.archive(), file.lent(), position) };
+        let expected = model::name(file.model(), position);
+        let counted = if expected == 0 { NO_NAME } else { NAME_SHOWN };
+        let answers = (got as u64, expected as u64);
+        self.compare(Call::Name, answers, counted, &mut [file])?;
+        Ok(expected)
+    }
+
+    pub fn write(&mut self, memory: &mut Memory) -> Result<u32, Difference> {
+        memory.out.renew();
+        memory.written.renew();
+        let Memory {
+            plan,
+            table,
+            out,
+            written,
+            ..
+        } = memory;
+        let got = unsafe {
+            gateway_write(
+                plan.archive(),
+                plan.lent(),
+                table.archive(),
+                table.lent(),
+                out.archive_mut(),
+                out.lent(),
+                written.archive_mut(),
+            )
+        };
+        let length = &mut written.model_mut()[0];
+        let expected = model::write(plan.model(), table.model(), out.model_mut(), length);
+        self.end(Call::Write, got, expected, &mut [plan, table, out, written])
+    }
+
+    pub fn judge(&mut self, memory: &mut Memory) -> Result<u32, Difference> {
+        memory.place.renew();
+        let Memory {
+            plan, table, place, ..
+        } = memory;
+        let got = unsafe {
+            gateway_judge(
+                plan.archive(),
+                plan.lent(),
+                table.archive(),
+                table.lent(),
+                place.archive_mut(),
+                place.lent(),
+            )
+        };
+        let expected = model::judge(plan.model(), table.model(), place.model_mut());
+        self.end(Call::Judge, got, expected, &mut [plan, table, place])
+    }
+
+    pub fn slack(&mut self, memory: &mut Memory) -> Result<u32, Difference> {
+        memory.slack.renew();
+        memory.place.renew();
+        let Memory {
+            plan,
+            table,
+            slack,
+            place,
+            ..
+        } = memory;
+        let got = unsafe {
+            gateway_slack(
+                plan.archive(),
+                plan.lent(),
+                table.archive(),
+                table.lent(),
+                slack.archive_mut(),
+                place.archive_mut(),
+                place.lent(),
+            )
+        };
+        let figure = &mut slack.model_mut()[0];
+        let expected = model::slack(plan.model(), table.model(), figure, place.model_mut());
+        self.end(Call::Slack, got, expected, &mut [plan, table, slack, place])
+    }
+
+    pub fn start(&mut self, memory: &mut Memory) -> Result<u32, Difference> {
+        memory.place.renew();
+        let Memory {
+            plan,
+            table,
+            run,
+            place,
+            ..
+        } = memory;
+        let got = unsafe {
+            gateway_start(
+                plan.archive(),
+                plan.lent(),
+                table.archive(),
+                table.lent(),
+                run.archive_mut(),
+                run.lent(),
+                place.archive_mut(),
+                place.lent(),
+            )
+        };
+        let (run_words, place_words) = (run.model_mut(), place.model_mut());
+        let expected = model::start(plan.model(), table.model(), run_words, place_words);
+        self.end(Call::Start, got, expected, &mut [plan, table, run, place])
+    }
+
+    pub fn step(&mut self, memory: &mut Memory, speed: u16) -> Result<u32, Difference> {
+        let Memory {
+            plan,
+            table,
+            run,
+            grants,
+            ..
+        } = memory;
+        let got = unsafe {
+            gateway_step(
+                plan.archive(),
+                plan.lent(),
+                table.archive(),
+                table.lent(),
+                run.archive_mut(),
+                run.lent(),
+                speed,
+                grants.archive_mut(),
+                grants.lent(),
+            )
+        };
+        let (run_words, grant_words) = (run.model_mut(), grants.model_mut());
+        let expected = model::step(plan.model(), table.model(), run_words, speed, grant_words);
+        self.end(Call::Step, got, expected, &mut [plan, table, run, grants])
+    }
+
+    pub fn outcome(&mut self, memory: &mut Memory, position: usize) -> Result<u32, Difference> {
+        let Memory { plan, run, .. } = memory;
+        let (words, length) = (run.archive(), run.lent());
+        let got = unsafe { gateway_outcome(plan.archive(), plan.lent(), words, length, position) };
+        let expected = model::outcome(plan.model(), run.model(), position);
+        self.end(Call::Outcome, got, expected, &mut [plan, run])
+    }
+
+    /// Compares a call whose answer is a number, and gives that number.
+    fn end(
+        &mut self,
+        call: Call,
+        got: u32,
+        expected: u32,
+        buffers: &mut [&mut dyn Lent],
+    ) -> Result<u32, Difference> {
+        let answers = (got.into(), expected.into());
+        self.compare(call, answers, expected, buffers)?;
+        Ok(expected)
+    }
+}

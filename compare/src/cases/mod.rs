@@ -1,0 +1,64 @@
+//! Inputs written by hand, with the answers that the rules give them: each refusal of each call, the
+//! cases of the rules, the largest file.
+//!
+//! Archive and model are compared in these calls too, so both have to give the written answer.
+
+mod files;
+mod judged;
+mod largest;
+mod plan_e;
+mod slots;
+mod sums;
+
+use std::fmt::Debug;
+
+use crate::both::{Both, Difference};
+
+/// The cases that came out as they should.
+#[derive(Default)]
+pub struct Cases {
+    both: Both,
+    passed: u64,
+}
+
+impl Cases {
+    /// Holds an answer to the written one.
+    fn expect<T: Debug + PartialEq>(
+        &mut self,
+        case: &str,
+        got: Result<T, Difference>,
+        expected: T,
+    ) -> Result<(), String> {
+        match got {
+            Ok(got) if got == expected => {
+                self.passed += 1;
+                Ok(())
+            }
+            Ok(got) => Err(format!(
+                "case '{}': expected {:?}, got {:?}",
+                case, expected, got
+            )),
+            Err(difference) => Err(format!("case '{}': {}", case, difference)),
+        }
+    }
+}
+
+/// How many answers were as expected, or the first that was not.
+pub fn all() -> Result<u64, String> {
+    let cases = &mut Cases::default();
+    files::read(cases)?;
+    files::rows_again(cases)?;
+    files::shorts(cases)?;
+    files::names(cases)?;
+    judged::plans(cases)?;
+    judged::words(cases)?;
+    judged::shorts(cases)?;
+    slots::done(cases)?;
+    slots::refused(cases)?;
+    slots::shorts(cases)?;
+    slots::outcomes(cases)?;
+    sums::columns(cases)?;
+    sums::dues(cases)?;
+    largest::file(cases)?;
+    Ok(cases.passed)
+}

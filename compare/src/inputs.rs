@@ -1,0 +1,172 @@
+//! All calls on one input: on a plan file with speeds, and on a plan in hand with a run and speeds.
+
+use reference::edition::{LARGEST_FILE, MOST_JOBS, TABLE_PLACES};
+use reference::generate::{file, fixed_files, fixed_hands, hand};
+use reference::generate::{FileInput, HandInput, Lent, Prng, Purpose};
+use reference::refusal::{DONE, TOO_SHORT};
+
+use crate::both::{Both, Difference};
+use crate::buffer::Buffer;
+use crate::memory::Memory;
+use crate::night::{night, outcomes};
+use crate::shorts::{short, short_read, SHORTS};
+use crate::twist::twist;
+use crate::words::{words_of_plan, words_of_run};
+use crate::{plans, wrapper};
+
+/// Buffers that are just long enough for every plan.
+pub const ENOUGH: Lent = Lent {
+    table: TABLE_PLACES,
+    output: LARGEST_FILE,
+    grants: MOST_JOBS,
+};
+
+/// Calls with a short buffer on each plan.
+const SHORTS_OF_A_PLAN: usize = 2;
+
+/// The inputs that are the same for every seed.
+pub struct Fixed {
+    files: Vec<FileInput>,
+    hands: Vec<HandInput>,
+}
+
+impl Fixed {
+    pub fn new() -> Fixed {
+        Fixed {
+            files: fixed_files(),
+            hands: fixed_hands(),
+        }
+    }
+
+    /// The longer of the two lists counts.
+    pub fn count(&self) -> u64 {
+        self.files.len().max(self.hands.len()) as u64
+    }
+}
+
+/// Where inputs come from.
+pub enum Source {
+    Fixed(Fixed),
+    Seed(u64),
+}
+
+impl Source {
+    /// What it is called in messages.
+    pub fn name(&self) -> String {
+        match self {
+            Source::Fixed(_) => "fixed".to_string(),
+            Source::Seed(seed) => format!("seed {}", seed),
+        }
+    }
+
+    /// Both parts of the input of a number, where there are some.
+    pub fn parts(&self, number: u64) -> (Option<FileInput>, Option<HandInput>) {
+        match self {
+            Source::Fixed(Fixed { files, hands }) => {
+                let at = number as usize;
+                (files.get(at).cloned(), hands.get(at).cloned())
+            }
+            Source::Seed(seed) => (Some(file(*seed, number)), Some(hand(*seed, number))),
+        }
+    }
+
+    /// Makes every call on the input of a number.
+    pub fn compare(&self, both: &mut Both, number: u64) -> Result<(), Difference> {
+        let seed = match self {
+            Source::Fixed(_) => 0,
+            Source::Seed(seed) => *seed,
+        };
+        let prng = &mut Prng::new(seed, Purpose::Lending, number);
+        let (file, hand) = self.parts(number);
+        if let Some(input) = file {
+            on_file(both, prng, &input, number)?;
+        }
+        if let Some(input) = hand {
+            on_hand(both, prng, &input, number)?;
+        }
+        Ok(())
+    }
+}
+
+/// Reads the file and looks up names; then all calls on the plan that was read.
+fn on_file(
+    both: &mut Both,
+    prng: &mut Prng,
+    input: &FileInput,
+    number: u64,
+) -> Result<(), Difference> {
+    let mut file = Buffer::of("file", &input.file, input.file.len());
+    let mut memory = Memory::known(prng, &input.lent);
+    if prng.once_in(4) {
+        short_read(both, prng, &mut file, &mut memory)?;
+    }
+    let mut answer = both.read(&mut file, &mut memory)?;
+    if answer == u32::from(TOO_SHORT) {
+        memory = Memory::known(prng, &ENOUGH);
+        answer = both.read(&mut file, &mut memory)?;
+    }
+    names(both, prng, &mut file, memory.jobs())?;
+    let plan = match wrapper::read(both, &file, answer, &memory)? {
+        Some(plan) => plan,
+        None => return Ok(()),
+    };
+    let (started, run) = plans::compare(both, prng, &mut memory, Some(&plan))?;
+    shorts(both, prng, &mut memory, number)?;
+    if started != u32::from(DONE) {
+        return Ok(());
+    }
+    // The wrapper always lends enough grants: a night with too few is none for it.
+    let has_grants = memory.grants.lent() >= memory.jobs();
+    let run = run.filter(|_| has_grants).map(|run| (&plan, run));
+    night(both, prng, &mut memory, &input.speeds, run)
+}
+
+/// Names at positions that the file has, at the first that it has not, and far beyond.
+fn names(
+    both: &mut Both,
+    prng: &mut Prng,
+    file: &mut Buffer<u8>,
+    jobs: usize,
+) -> Result<(), Difference> {
+    let far = prng.pick(&[MOST_JOBS, 1 << 8, 1 << 32, usize::MAX]);
+    for position in [prng.index(jobs.max(1)), jobs.saturating_sub(1), jobs, far] {
+        let begins = both.name(file, position)?;
+        wrapper::name(both, file, position, begins)?;
+    }
+    Ok(())
+}
+
+/// All calls but the two that take a file, the slots from the run that is given.
+fn on_hand(
+    both: &mut Both,
+    prng: &mut Prng,
+    input: &HandInput,
+    number: u64,
+) -> Result<(), Difference> {
+    let mut memory = Memory::known(prng, &input.lent);
+    memory.plan.put(0, &words_of_plan(&input.plan));
+    memory.table.put(0, &input.table);
+    memory.run.put(0, &words_of_run(&input.run));
+    twist(prng, &mut memory);
+    let given = memory.run.contents().to_vec();
+    let plan = wrapper::in_hand(&memory);
+    plans::compare(both, prng, &mut memory, plan.as_ref())?;
+    memory.run.put(0, &given);
+    shorts(both, prng, &mut memory, number)?;
+    outcomes(both, prng, &mut memory, &None)?;
+    night(both, prng, &mut memory, &input.speeds, None)
+}
+
+/// Some calls with a short buffer; numbers that follow each other take turns.
+fn shorts(
+    both: &mut Both,
+    prng: &mut Prng,
+    memory: &mut Memory,
+    number: u64,
+) -> Result<(), Difference> {
+    let first = number as usize % SHORTS.len() * SHORTS_OF_A_PLAN;
+    for turn in first..first + SHORTS_OF_A_PLAN {
+        short(both, prng, memory, SHORTS[turn % SHORTS.len()])?;
+    }
+    Ok(())
+}

@@ -1,0 +1,79 @@
+//! The memory that a host lends to the calls for one plan and its run.
+
+use reference::edition::{MOST_JOBS, TABLE_PLACES};
+use reference::generate::{Lent, Prng};
+
+use crate::buffer::Buffer;
+use crate::words::{JOB_COUNT, PLACE_WORDS, PLAN_WORDS, RUN_WORDS};
+
+pub struct Memory {
+    pub plan: Buffer<u64>,
+    pub table: Buffer<u32>,
+    pub run: Buffer<u32>,
+    pub grants: Buffer<u32>,
+    pub place: Buffer<u64>,
+    pub out: Buffer<u8>,
+    pub written: Buffer<usize>,
+    pub slack: Buffer<i64>,
+    /// The length of the plan's file, once it has been written; 0 before.
+    pub exact: usize,
+}
+
+impl Memory {
+    /// Known words everywhere; plan, run and place are as long as they must be, or longer.
+    pub fn known(prng: &mut Prng, lent: &Lent) -> Memory {
+        let mut spare = || prng.pick(&[0, 0, 1, 5]);
+        Memory {
+            plan: Buffer::known("plan", PLAN_WORDS + spare()),
+            table: Buffer::known("table", lent.table),
+            run: Buffer::known("run", RUN_WORDS + spare()),
+            grants: Buffer::known("grants", lent.grants),
+            place: Buffer::known("place", PLACE_WORDS + spare()),
+            out: Buffer::known("out", lent.output),
+            written: Buffer::known("written", 1),
+            slack: Buffer::known("slack", 1),
+            exact: 0,
+        }
+    }
+
+    /// The jobs that the plan counts, as far as there are records.
+    pub fn jobs(&self) -> usize {
+        self.plan.contents()[JOB_COUNT].min(MOST_JOBS as u64) as usize
+    }
+
+    /// The places of the table that belong to a plan; fewer if the table has fewer.
+    pub fn own_places(&self) -> &[u32] {
+        let table = self.table.contents();
+        &table[..table.len().min(TABLE_PLACES)]
+    }
+
+    pub fn lend_all(&mut self) {
+        self.plan.lend_all();
+        self.table.lend_all();
+        self.run.lend_all();
+        self.grants.lend_all();
+        self.place.lend_all();
+        self.out.lend_all();
+    }
+
+    /// Lends of each buffer but the output all that there is or just what is needed.
+    pub fn lend_enough(&mut self, prng: &mut Prng) {
+        self.lend_all();
+        let jobs = self.jobs();
+        if prng.once_in(2) {
+            self.plan.lend(PLAN_WORDS);
+        }
+        if prng.once_in(2) {
+            self.table.lend(TABLE_PLACES);
+        }
+        if prng.once_in(2) {
+            self.run.lend(RUN_WORDS);
+        }
+        if prng.once_in(2) {
+            self.place.lend(PLACE_WORDS);
+        }
+        if prng.once_in(2) {
+            self.grants.lend(jobs);
+        }
+    }
+}

@@ -1,0 +1,131 @@
+//! What `gateway.h` says of each call, in terms of the reference: the number that it answers, and
+//! what it leaves in each lent buffer.
+
+use reference::judge::judge as judge_plan;
+use reference::lookup::name_lookup;
+use reference::reader::reader;
+use reference::refusal::{Refusal, DONE, TOO_SHORT, UNSOUND};
+use reference::run::{outcome as outcome_of, start as start_run, step as step_run, Outcome};
+use reference::slack::{slack_figure, SlackFigure};
+use reference::writer::writer;
+
+use crate::words::{plan_of, run_of, words_of_plan, words_of_run};
+use crate::words::{PLACE_WORDS, PLAN_WORDS, RUN_WORDS};
+
+/// Results that are no refusals.
+pub const NONE_ESSENTIAL: u32 = 256;
+pub const MET: u32 = 257;
+pub const DISCARDED: u32 = 258;
+pub const MISSED: u32 = 259;
+pub const OPEN: u32 = 260;
+
+pub fn read(file: &[u8], plan: &mut [u64], table: &mut [u32]) -> u32 {
+    if plan.len() < PLAN_WORDS {
+        return TOO_SHORT.into();
+    }
+    let (number, read) = reader(file, table);
+    plan[..PLAN_WORDS].copy_from_slice(&words_of_plan(&read));
+    number.into()
+}
+
+pub fn name(file: &[u8], position: usize) -> usize {
+    name_lookup(file, position as u64).offset
+}
+
+pub fn write(plan: &[u64], table: &[u32], out: &mut [u8], written: &mut usize) -> u32 {
+    *written = 0;
+    if plan.len() < PLAN_WORDS {
+        return TOO_SHORT.into();
+    }
+    match writer(&plan_of(plan), table, out) {
+        Ok(length) => {
+            *written = length;
+            DONE.into()
+        }
+        Err(number) => number.into(),
+    }
+}
+
+pub fn judge(plan: &[u64], table: &[u32], place: &mut [u64]) -> u32 {
+    if plan.len() < PLAN_WORDS || place.len() < PLACE_WORDS {
+        return TOO_SHORT.into();
+    }
+    match judge_plan(&plan_of(plan), table) {
+        Ok(()) => put_place(place, &[], DONE.into()),
+        Err(refusal) => put_refusal(place, &refusal),
+    }
+}
+
+pub fn slack(plan: &[u64], table: &[u32], slack: &mut i64, place: &mut [u64]) -> u32 {
+    if plan.len() < PLAN_WORDS || place.len() < PLACE_WORDS {
+        return TOO_SHORT.into();
+    }
+    *slack = 0;
+    match slack_figure(&plan_of(plan), table) {
+        Ok(SlackFigure::NoneEssential) => put_place(place, &[], NONE_ESSENTIAL),
+        Ok(SlackFigure::Least {
+            slack: least,
+            interval,
+            deadline,
+        }) => {
+            *slack = least;
+            put_place(place, &[interval, deadline.into()], DONE.into())
+        }
+        Err(refusal) => put_refusal(place, &refusal),
+    }
+}
+
+pub fn start(plan: &[u64], table: &[u32], run: &mut [u32], place: &mut [u64]) -> u32 {
+    let too_short = plan.len() < PLAN_WORDS || run.len() < RUN_WORDS || place.len() < PLACE_WORDS;
+    if too_short {
+        return TOO_SHORT.into();
+    }
+    match start_run(&plan_of(plan), table) {
+        Ok(started) => {
+            run[..RUN_WORDS].copy_from_slice(&words_of_run(&started));
+            put_place(place, &[], DONE.into())
+        }
+        Err(refusal) => put_refusal(place, &refusal),
+    }
+}
+
+pub fn step(plan: &[u64], table: &[u32], run: &mut [u32], speed: u16, grants: &mut [u32]) -> u32 {
+    if plan.len() < PLAN_WORDS || run.len() < RUN_WORDS {
+        return TOO_SHORT.into();
+    }
+    let mut record = match run_of(run) {
+        Some(record) => record,
+        None => return UNSOUND.into(),
+    };
+    let number = step_run(&plan_of(plan), table, &mut record, speed, grants);
+    run[..RUN_WORDS].copy_from_slice(&words_of_run(&record));
+    number.into()
+}
+
+pub fn outcome(plan: &[u64], run: &[u32], position: usize) -> u32 {
+    if plan.len() < PLAN_WORDS || run.len() < RUN_WORDS {
+        return TOO_SHORT.into();
+    }
+    let record = match run_of(run) {
+        Some(record) => record,
+        None => return UNSOUND.into(),
+    };
+    match outcome_of(&plan_of(plan), &record, position as u64) {
+        Ok(Outcome::Met) => MET,
+        Ok(Outcome::Discarded) => DISCARDED,
+        Ok(Outcome::Missed) => MISSED,
+        Ok(Outcome::Open) => OPEN,
+        Err(number) => number.into(),
+    }
+}
+
+/// Both words of a place: what is named, and 0 where nothing is.
+fn put_place(place: &mut [u64], named: &[u64], number: u32) -> u32 {
+    place[..PLACE_WORDS].fill(0);
+    place[..named.len()].copy_from_slice(named);
+    number
+}
+
+fn put_refusal(place: &mut [u64], refusal: &Refusal) -> u32 {
+    put_place(place, &refusal.places, refusal.number.into())
+}

@@ -1,0 +1,114 @@
+//! Calls to which one buffer is lent too short, each buffer of each call in turn.
+
+use reference::edition::TABLE_PLACES;
+use reference::generate::Prng;
+
+use crate::both::{Both, Difference};
+use crate::buffer::Buffer;
+use crate::memory::Memory;
+use crate::tally::Call;
+use crate::words::{PLACE_WORDS, PLAN_WORDS, RUN_WORDS};
+
+/// The buffers that have a least length.
+#[derive(Clone, Copy, Debug, PartialEq, Eq)]
+pub enum Which {
+    Plan,
+    Table,
+    Run,
+    Grants,
+    Place,
+    Out,
+}
+
+/// Each call on a plan in memory with each buffer that it asks for.
+pub const SHORTS: [(Call, Which); 19] = [
+    (Call::Write, Which::Plan),
+    (Call::Write, Which::Table),
+    (Call::Write, Which::Out),
+    (Call::Judge, Which::Plan),
+    (Call::Judge, Which::Table),
+    (Call::Judge, Which::Place),
+    (Call::Slack, Which::Plan),
+    (Call::Slack, Which::Table),
+    (Call::Slack, Which::Place),
+    (Call::Start, Which::Plan),
+    (Call::Start, Which::Table),
+    (Call::Start, Which::Run),
+    (Call::Start, Which::Place),
+    (Call::Step, Which::Plan),
+    (Call::Step, Which::Table),
+    (Call::Step, Which::Run),
+    (Call::Step, Which::Grants),
+    (Call::Outcome, Which::Plan),
+    (Call::Outcome, Which::Run),
+];
+
+/// No sound plan has a normal rate below 2, so a step at this speed lacks nothing but the buffer.
+const SPEED: u16 = 1;
+
+/// Makes one of these calls. Nothing happens where the buffer cannot be shorter.
+pub fn short(
+    both: &mut Both,
+    prng: &mut Prng,
+    memory: &mut Memory,
+    (call, which): (Call, Which),
+) -> Result<(), Difference> {
+    memory.lend_all();
+    if !lend_short(prng, memory, which) {
+        return Ok(());
+    }
+    match call {
+        Call::Write => both.write(memory)?,
+        Call::Judge => both.judge(memory)?,
+        Call::Slack => both.slack(memory)?,
+        Call::Start => both.start(memory)?,
+        Call::Step => both.step(memory, SPEED)?,
+        Call::Outcome => both.outcome(memory, 0)?,
+        Call::Read | Call::Name => unreachable!("these take a file"),
+    };
+    memory.lend_all();
+    Ok(())
+}
+
+/// Reads a file into a plan or a table that is too short.
+pub fn short_read(
+    both: &mut Both,
+    prng: &mut Prng,
+    file: &mut Buffer<u8>,
+    memory: &mut Memory,
+) -> Result<(), Difference> {
+    let which = prng.pick(&[Which::Plan, Which::Table]);
+    lend_short(prng, memory, which);
+    both.read(file, memory)?;
+    memory.lend_all();
+    Ok(())
+}
+
+/// Lends mostly one element less than is needed. Whether anything is needed.
+fn lend_short(prng: &mut Prng, memory: &mut Memory, which: Which) -> bool {
+    let needed = match which {
+        Which::Plan => PLAN_WORDS,
+        Which::Table => TABLE_PLACES,
+        Which::Run => RUN_WORDS,
+        Which::Grants => memory.jobs(),
+        Which::Place => PLACE_WORDS,
+        Which::Out => memory.exact,
+    };
+    if needed == 0 {
+        return false;
+    }
+    let length = if prng.once_in(4) {
+        prng.index(needed)
+    } else {
+        needed - 1
+    };
+    match which {
+        Which::Plan => memory.plan.lend(length),
+        Which::Table => memory.table.lend(length),
+        Which::Run => memory.run.lend(length),
+        Which::Grants => memory.grants.lend(length),
+        Which::Place => memory.place.lend(length),
+        Which::Out => memory.out.lend(length),
+    }
+    true
+}

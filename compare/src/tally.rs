@@ -1,0 +1,153 @@
+//! Counts what each call answered, and knows what it has to answer sooner or later.
+
+use std::collections::BTreeMap;
+use std::fmt;
+
+use reference::refusal::{
+    ABOVE_RATE, AT_LAST_DEADLINE, DONE, FLOOR_RULE, OUTSIDE_WINDOW, ROW_ORDER, TOO_SHORT, UNSOUND,
+    VERSION,
+};
+
+use crate::model::{DISCARDED, MET, MISSED, NONE_ESSENTIAL, OPEN};
+
+/// The calls for hosts.
+#[derive(Clone, Copy, Debug, PartialEq, Eq, PartialOrd, Ord)]
+pub enum Call {
+    Read,
+    Name,
+    Write,
+    Judge,
+    Slack,
+    Start,
+    Step,
+    Outcome,
+}
+
+pub const CALLS: [Call; 8] = [
+    Call::Read,
+    Call::Name,
+    Call::Write,
+    Call::Judge,
+    Call::Slack,
+    Call::Start,
+    Call::Step,
+    Call::Outcome,
+];
+
+/// How a lookup is counted: it answers where a name begins, or that there is none.
+pub const NO_NAME: u32 = 0;
+pub const NAME_SHOWN: u32 = 1;
+
+impl fmt::Display for Call {
+    fn fmt(&self, f: &mut fmt::Formatter<'_>) -> fmt::Result {
+        let word = match self {
+            Call::Read => "read",
+            Call::Name => "name",
+            Call::Write => "write",
+            Call::Judge => "judge",
+            Call::Slack => "slack",
+            Call::Start => "start",
+            Call::Step => "step",
+            Call::Outcome => "outcome",
+        };
+        f.pad(word)
+    }
+}
+
+fn wide(numbers: impl IntoIterator<Item = u8>) -> Vec<u32> {
+    numbers.into_iter().map(u32::from).collect()
+}
+
+/// Every number that a call can answer.
+fn numbers(call: Call) -> Vec<u32> {
+    let judged = |last: u8| {
+        wide(
+            [DONE, UNSOUND, TOO_SHORT]
+                .into_iter()
+                .chain(OUTSIDE_WINDOW..=last),
+        )
+    };
+    match call {
+        Call::Read => wide([DONE, TOO_SHORT].into_iter().chain(VERSION..=ROW_ORDER)),
+        Call::Name => vec![NO_NAME, NAME_SHOWN],
+        Call::Write => wide([DONE, UNSOUND, TOO_SHORT]),
+        Call::Judge | Call::Start => judged(FLOOR_RULE),
+        Call::Slack => [judged(ABOVE_RATE), vec![NONE_ESSENTIAL]].concat(),
+        Call::Step => wide([DONE].into_iter().chain(AT_LAST_DEADLINE..=TOO_SHORT)),
+        Call::Outcome => [
+            wide([UNSOUND, TOO_SHORT]),
+            vec![MET, DISCARDED, MISSED, OPEN],
+        ]
+        .concat(),
+    }
+}
+
+/// A number as people read it.
+fn shown(call: Call, number: u32) -> String {
+    match (call, number) {
+        (Call::Name, NO_NAME) => "none".to_string(),
+        (Call::Name, _) => "shown".to_string(),
+        (_, NONE_ESSENTIAL) => "none essential".to_string(),
+        (_, MET) => "met".to_string(),
+        (_, DISCARDED) => "discarded".to_string(),
+        (_, MISSED) => "missed".to_string(),
+        (_, OPEN) => "open".to_string(),
+        _ => number.to_string(),
+    }
+}
+
+/// How often each call answered each number.
+#[derive(Default)]
+pub struct Tally {
+    counts: BTreeMap<(Call, u32), u64>,
+}
+
+impl Tally {
+    pub fn add(&mut self, call: Call, number: u32, count: u64) {
+        *self.counts.entry((call, number)).or_insert(0) += count;
+    }
+
+    /// Each call and number with its count.
+    pub fn all(&self) -> impl Iterator<Item = (Call, u32, u64)> + '_ {
+        let counts = self.counts.iter();
+        counts.map(|(&(call, number), &count)| (call, number, count))
+    }
+
+    /// How many inputs a call was compared on.
+    pub fn inputs(&self, call: Call) -> u64 {
+        self.of(call).map(|(_, count)| count).sum()
+    }
+
+    fn of(&self, call: Call) -> impl Iterator<Item = (u32, u64)> + '_ {
+        let own = self.all().filter(move |(other, _, _)| *other == call);
+        own.map(|(_, number, count)| (number, count))
+    }
+
+    /// The answers that never came.
+    pub fn missing(&self) -> Vec<String> {
+        let mut missing = Vec::new();
+        for call in CALLS {
+            for number in numbers(call) {
+                if !self.counts.contains_key(&(call, number)) {
+                    missing.push(format!("{} {}", call, shown(call, number)));
+                }
+            }
+        }
+        missing
+    }
+}
+
+/// One line for each call: its inputs, then each number with how often it came.
+impl fmt::Display for Tally {
+    fn fmt(&self, f: &mut fmt::Formatter<'_>) -> fmt::Result {
+        writeln!(f, "call      inputs  answers, each with how often it came")?;
+        for call in CALLS {
+            write!(f, "{:<7} {:>8}", call, self.inputs(call))?;
+            for (number, count) in self.of(call) {
+                write!(f, "  {}: {}", shown(call, number), count)?;
+            }
+            writeln!(f)?;
+        }
+        Ok(())
+    }
+}

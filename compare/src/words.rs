@@ -1,0 +1,96 @@
+//! A plan and a run in the words that a host lends, as `gateway.h` describes them.
+
+use reference::edition::MOST_JOBS;
+use reference::plan::{Job, Plan};
+use reference::run::Run;
+
+/// n, d and the job count come first, then the words of each of 32 jobs.
+pub const HEAD_WORDS: usize = 3;
+pub const NORMAL_RATE: usize = 0;
+pub const FLOOR: usize = 1;
+pub const JOB_COUNT: usize = 2;
+
+/// The words of a job.
+pub const JOB_WORDS: usize = 5;
+pub const NAME: usize = 0;
+pub const GRADE: usize = 1;
+pub const RELEASE: usize = 2;
+pub const SIZE: usize = 3;
+pub const DEADLINE: usize = 4;
+
+pub const PLAN_WORDS: usize = HEAD_WORDS + JOB_WORDS * MOST_JOBS;
+
+/// The clock and both marks come first, then the units carried for each of 32 jobs.
+pub const CLOCK: usize = 0;
+pub const SLOW: usize = 1;
+pub const BELOW_FLOOR: usize = 2;
+pub const MARK_WORDS: usize = 3;
+
+pub const RUN_WORDS: usize = MARK_WORDS + MOST_JOBS;
+
+/// What a refusal names.
+pub const PLACE_WORDS: usize = 2;
+
+/// Where the words of a job begin.
+pub fn job_at(position: usize) -> usize {
+    HEAD_WORDS + JOB_WORDS * position
+}
+
+/// A word that is too large means the largest number of its field.
+fn narrow<T: TryFrom<u64>>(word: u64, largest: T) -> T {
+    T::try_from(word).unwrap_or(largest)
+}
+
+/// The plan that at least 163 words say.
+pub fn plan_of(words: &[u64]) -> Plan {
+    let mut plan = Plan {
+        n: narrow(words[NORMAL_RATE], u16::MAX),
+        d: narrow(words[FLOOR], u16::MAX),
+        count: words[JOB_COUNT],
+        ..Plan::zeros()
+    };
+    let words = words[HEAD_WORDS..].chunks_exact(JOB_WORDS);
+    for (job, words) in plan.jobs.iter_mut().zip(words) {
+        *job = Job {
+            name: words[NAME].to_be_bytes(),
+            grade: narrow(words[GRADE], u8::MAX),
+            release: narrow(words[RELEASE], u32::MAX),
+            size: words[SIZE],
+            deadline: narrow(words[DEADLINE], u32::MAX),
+        };
+    }
+    plan
+}
+
+pub fn words_of_plan(plan: &Plan) -> Vec<u64> {
+    let mut words = vec![plan.n.into(), plan.d.into(), plan.count];
+    for job in &plan.jobs {
+        words.push(u64::from_be_bytes(job.name));
+        words.push(job.grade.into());
+        words.push(job.release.into());
+        words.push(job.size);
+        words.push(job.deadline.into());
+    }
+    words
+}
+
+/// The run that at least 35 words say; none if a mark is neither 0 nor 1.
+pub fn run_of(words: &[u32]) -> Option<Run> {
+    if words[SLOW] > 1 || words[BELOW_FLOOR] > 1 {
+        return None;
+    }
+    let mut carried = [0; MOST_JOBS];
+    carried.copy_from_slice(&words[MARK_WORDS..RUN_WORDS]);
+    Some(Run {
+        clock: words[CLOCK],
+        slow: words[SLOW] == 1,
+        below_floor: words[BELOW_FLOOR] == 1,
+        carried,
+    })
+}
+
+pub fn words_of_run(run: &Run) -> Vec<u32> {
+    let mut words = vec![run.clock, run.slow.into(), run.below_floor.into()];
+    words.extend(run.carried);
+    words
+}

@@ -1,0 +1,248 @@
+//! The safe wrapper on the same inputs: what it hands out is what the bare calls left in memory.
+//!
+//! It lends buffers of its own that are long enough. A call that was refused for a short one has
+//! nothing to be compared with.
+
+use gateway::{Grade, Job, Outcome, Place, Plan, Refusal, Run};
+use reference::edition::{HI, LO, MOST_INTERVALS, NAME_BYTES, TABLE_PLACES};
+use reference::refusal::{DONE, TOO_SHORT};
+
+use crate::both::{Both, Difference};
+use crate::buffer::Buffer;
+use crate::memory::Memory;
+use crate::model::{DISCARDED, MET, MISSED, NONE_ESSENTIAL, OPEN};
+use crate::tally::Call;
+use crate::words::{
+    job_at, DEADLINE, FLOOR, GRADE, JOB_COUNT, MARK_WORDS, NAME, NORMAL_RATE, PLACE_WORDS, RELEASE,
+    RUN_WORDS, SIZE,
+};
+
+fn is_done(number: u32) -> bool {
+    number == u32::from(DONE)
+}
+
+fn is_too_short(number: u32) -> bool {
+    number == u32::from(TOO_SHORT)
+}
+
+fn number_of<T>(result: &Result<T, Refusal>) -> u64 {
+    match result {
+        Ok(_) => DONE.into(),
+        Err(refusal) => refusal.number().into(),
+    }
+}
+
+/// Number and place of a refusal; the place is two zeros where none is named.
+fn refusal_words(refusal: &Refusal) -> Vec<u64> {
+    let (first, second) = match refusal.place() {
+        Place::Nowhere => (0, 0),
+        Place::JobAndInterval(job, interval) => (job as u64, interval as u64),
+        Place::Job(job) => (job as u64, 0),
+        Place::Interval(interval) => (interval as u64, 0),
+        Place::IntervalAndDeadline(interval, deadline) => (interval as u64, deadline.into()),
+    };
+    vec![refusal.number().into(), first, second]
+}
+
+fn place_words(number: u32, memory: &Memory) -> Vec<u64> {
+    let place = &memory.place.contents()[..PLACE_WORDS];
+    [&[number.into()], place].concat()
+}
+
+/// The clock, both marks, and the units carried.
+fn run_words(run: &Run) -> Vec<u64> {
+    let mut words = vec![
+        run.clock().into(),
+        run.is_slow().into(),
+        run.is_below_floor().into(),
+    ];
+    let carried = (0..RUN_WORDS - MARK_WORDS).map(|i| run.carried(i).map_or(u64::MAX, u64::from));
+    words.extend(carried);
+    words
+}
+
+fn bare_run_words(memory: &Memory) -> Vec<u64> {
+    let words = &memory.run.contents()[..RUN_WORDS];
+    words.iter().map(|&word| word.into()).collect()
+}
+
+/// The plan in memory, if the wrapper can hold it: each word fits its field, and there are as many
+/// records as are counted.
+pub fn in_hand(memory: &Memory) -> Option<Plan> {
+    let words = memory.plan.contents();
+    let n = u16::try_from(words[NORMAL_RATE]).ok()?;
+    let d = u16::try_from(words[FLOOR]).ok()?;
+    if words[JOB_COUNT] != memory.jobs() as u64 || memory.own_places().len() < TABLE_PLACES {
+        return None;
+    }
+    let jobs: Option<Vec<Job>> = (0..memory.jobs())
+        .map(|i| job(&words[job_at(i)..]))
+        .collect();
+    let mut plan = Plan::new(n, d, &jobs?).ok()?;
+    for (place, &units) in memory.own_places().iter().enumerate() {
+        plan.allot(place / MOST_INTERVALS, place % MOST_INTERVALS, units);
+    }
+    Some(plan)
+}
+
+fn job(words: &[u64]) -> Option<Job> {
+    Some(Job {
+        name: words[NAME].to_be_bytes(),
+        grade: match u8::try_from(words[GRADE]) {
+            Ok(LO) => Grade::Lo,
+            Ok(HI) => Grade::Hi,
+            _ => return None,
+        },
+        release: u32::try_from(words[RELEASE]).ok()?,
+        size: words[SIZE],
+        deadline: u32::try_from(words[DEADLINE]).ok()?,
+    })
+}
+
+/// Reads the file once more; gives the plan if there is one.
+pub fn read(
+    both: &mut Both,
+    file: &Buffer<u8>,
+    number: u32,
+    memory: &Memory,
+) -> Result<Option<Plan>, Difference> {
+    if is_too_short(number) {
+        return Ok(None);
+    }
+    let result = Plan::read(file.contents());
+    let (mut wrapped, mut bare) = (vec![number_of(&result)], vec![number.into()]);
+    if let (Ok(plan), true) = (&result, is_done(number)) {
+        wrapped.push(plan.job_count() as u64);
+        bare.push(memory.plan.contents()[JOB_COUNT]);
+        for (place, &units) in memory.own_places().iter().enumerate() {
+            let allotment = plan.allotment(place / MOST_INTERVALS, place % MOST_INTERVALS);
+            wrapped.push(allotment.map_or(u64::MAX, u64::from));
+            bare.push(units.into());
+        }
+    }
+    both.agree(Call::Read, wrapped, bare)?;
+    Ok(result.ok())
+}
+
+/// Looks up a name, of which the bare call told where it begins.
+pub fn name(
+    both: &mut Both,
+    file: &Buffer<u8>,
+    position: usize,
+    begins: usize,
+) -> Result<(), Difference> {
+    let file = file.contents();
+    let words = |name: Option<&[u8]>| -> Vec<u64> {
+        let bytes = name.map(|name| name.iter().map(|&byte| byte.into()).collect());
+        bytes.unwrap_or_else(|| vec![0])
+    };
+    let shown = (begins > 0).then(|| &file[begins..begins + NAME_BYTES]);
+    both.agree(
+        Call::Name,
+        words(gateway::name(file, position)),
+        words(shown),
+    )
+}
+
+pub fn write(both: &mut Both, plan: &Plan, number: u32, memory: &Memory) -> Result<(), Difference> {
+    if is_too_short(number) {
+        return Ok(());
+    }
+    let result = plan.write();
+    let mut wrapped = vec![number_of(&result)];
+    wrapped.extend(result.iter().flatten().map(|&byte| u64::from(byte)));
+    let mut bare = vec![number.into()];
+    let written = memory.written.contents()[0];
+    bare.extend(
+        memory.out.contents()[..written]
+            .iter()
+            .map(|&byte| u64::from(byte)),
+    );
+    both.agree(Call::Write, wrapped, bare)
+}
+
+pub fn judge(both: &mut Both, plan: &Plan, number: u32, memory: &Memory) -> Result<(), Difference> {
+    let wrapped = match plan.judge() {
+        Ok(()) => vec![DONE.into(), 0, 0],
+        Err(refusal) => refusal_words(&refusal),
+    };
+    both.agree(Call::Judge, wrapped, place_words(number, memory))
+}
+
+pub fn slack(both: &mut Both, plan: &Plan, number: u32, memory: &Memory) -> Result<(), Difference> {
+    let mut units = 0;
+    let mut wrapped = match plan.slack() {
+        Ok(None) => vec![NONE_ESSENTIAL.into(), 0, 0],
+        Ok(Some(slack)) => {
+            units = slack.units;
+            vec![DONE.into(), slack.interval as u64, slack.deadline.into()]
+        }
+        Err(refusal) => refusal_words(&refusal),
+    };
+    wrapped.push(units as u64);
+    let mut bare = place_words(number, memory);
+    bare.push(memory.slack.contents()[0] as u64);
+    both.agree(Call::Slack, wrapped, bare)
+}
+
+/// Starts once more; gives the run if there is one.
+pub fn start(
+    both: &mut Both,
+    plan: &Plan,
+    number: u32,
+    memory: &Memory,
+) -> Result<Option<Run>, Difference> {
+    let mut bare = place_words(number, memory);
+    let result = plan.start();
+    let wrapped = match &result {
+        Ok(run) => {
+            bare.extend(bare_run_words(memory));
+            [vec![DONE.into(), 0, 0], run_words(run)].concat()
+        }
+        Err(refusal) => refusal_words(refusal),
+    };
+    both.agree(Call::Start, wrapped, bare)?;
+    Ok(result.ok())
+}
+
+/// Takes the slot once more that the bare call took.
+pub fn step(
+    both: &mut Both,
+    plan: &Plan,
+    run: &mut Run,
+    speed: u16,
+    number: u32,
+    memory: &Memory,
+) -> Result<(), Difference> {
+    let result = run.step(plan, speed);
+    let mut wrapped = vec![number_of(&result)];
+    let mut bare = vec![number.into()];
+    if let (Ok(grants), true) = (&result, is_done(number)) {
+        wrapped.extend(grants.iter().map(|&grant| u64::from(grant)));
+        bare.extend(
+            memory.grants.contents()[..memory.jobs()]
+                .iter()
+                .map(|&grant| u64::from(grant)),
+        );
+    }
+    wrapped.extend(run_words(run));
+    bare.extend(bare_run_words(memory));
+    both.agree(Call::Step, wrapped, bare)
+}
+
+pub fn outcome(
+    both: &mut Both,
+    plan: &Plan,
+    run: &Run,
+    position: usize,
+    number: u32,
+) -> Result<(), Difference> {
+    let wrapped = match run.outcome(plan, position) {
+        Ok(Outcome::Met) => MET,
+        Ok(Outcome::Discarded) => DISCARDED,
+        Ok(Outcome::Missed) => MISSED,
+        Ok(Outcome::Open) => OPEN,
+        Err(refusal) => refusal.number().into(),
+    };
+    both.agree(Call::Outcome, vec![wrapped.into()], vec![number.into()])
+}

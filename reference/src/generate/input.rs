@@ -1,0 +1,31 @@
+//! Test inputs, and the lengths of the buffers that are lent with them.
+
+use crate::plan::Plan;
+use crate::run::Run;
+
+/// How long the lent buffers are.
+#[derive(Clone, Copy, Debug, PartialEq, Eq)]
+pub struct Lent {
+    pub table: usize,
+    pub output: usize,
+    pub grants: usize,
+}
+
+/// A plan file, right or wrong, and the speeds of a run.
+#[derive(Clone, Debug, PartialEq, Eq)]
+pub struct FileInput {
+    pub lent: Lent,
+    pub file: Vec<u8>,
+    pub speeds: Vec<u16>,
+}
+
+/// A plan in hand with its table, a run record made by hand, and speeds.
+#[derive(Clone, Debug, PartialEq, Eq)]
+pub struct HandInput {
+    pub lent: Lent,
+    pub plan: Plan,
+    /// The lent places that belong to the plan: at most 2,016, fewer if fewer are lent.
+    pub table: Vec<u32>,
+    pub run: Run,
+    pub speeds: Vec<u16>,
+}
