@@ -1,8 +1,8 @@
-pub mod Line
+pub mod Queues
 pub mod Shares
-pub mod Sound
-pub mod Stands
-pub mod Fills
-pub mod Told
-pub mod Never
-pub mod Fresh
+pub mod SlotSoundness
+pub mod Readiness
+pub mod RowShares
+pub mod Injective
+pub mod SlotLimits
+pub mod StartEffect

@@ -1,4 +1,5 @@
--- The closed form of a slot is the turn-by-turn rule, for all plans, tables, runs and speeds; and what a slot never does.
+-- The closed form of a slot is its rule, for all plans, tables, runs and
+-- speeds; and the totals that follow from it.
 use mathlib.Core.Path.{_≡_, refl, sym, _∙_, ap, ap₂}
 use mathlib.Core.Bool.{Bool, true, false, not, cond, _&&_, _||_}
 use mathlib.Core.List.{List, _++_}
@@ -7,18 +8,19 @@ use native.Mathlib.Omega.{arith}
 use borrow.Author.Tests.{lt-ltb}
 use lib.Dec.{leb}
 use lib.ListN.{length, getD, drop, replicate, length-append, length-replicate, getD-replicate, List·getD-append}
-use Rattle.sums.specs.Sum.{sum, on}
-use Rattle.sums.proofs.Laws.{sum-ext, sum-add}
+use Rattle.base.proofs.Choice.{on-zero}
+use Rattle.base.specs.Sum.{sum, on}
+use Rattle.base.proofs.SumLaws.{sum-ext, sum-add}
 use Rattle.plan.specs.Rules.{counted, deadline, isHi}
 use Rattle.plan.specs.declared.kinds.Plan.{Plan}
 use Rattle.dispatch.specs.declared.Run.{Run}
 use Rattle.dispatch.specs.Dues.{live, slowAfter, due}
-use Rattle.dispatch.specs.Turns.{line, order, serve}
-use Rattle.dispatch.specs.Shares.{served, claim, ahead, share}
+use Rattle.dispatch.specs.Order.{queue, order, serve}
+use Rattle.dispatch.specs.inner.Shares.{served, claim, ahead, share}
 use Rattle.dispatch.specs.Step.{granted}
-use Rattle.dispatch.proofs.Line.{over, front, stands, gets, if-true, line-in-order, line-stands, line-once, over-line, front-line, serve-absent, serve-gets, gets-share, serve-both, serve-length, first-get, all-get}
+use Rattle.dispatch.proofs.Queues.{over, front, queued, gets, if-true, queue-in-order, queue-queued, queue-once, over-queue, front-queue, serve-absent, serve-gets, gets-share, serve-both, serve-length, first-get, all-get}
 
--- What is claimed before a HI job is claimed by the HI jobs ahead of it.
+-- The claims served before a HI job are those of the HI jobs that precede it.
 before-hi : (alive h slow b : Bool) (x : ℕ) → on (cond h b false) (on (alive && (h || not slow)) x) ≡ on (alive && h && b) x
 before-hi true true slow b x = refl
 before-hi true false slow b x = refl
@@ -26,7 +28,7 @@ before-hi false true slow true x = refl
 before-hi false true slow false x = refl
 before-hi false false slow b x = refl
 
--- What is claimed before a LO job is claimed by all HI jobs, and by the LO jobs ahead of it.
+-- The claims served before a LO job are those of all HI jobs, and of the LO jobs that precede it.
 before-lo : (alive h slow b : Bool) (x : ℕ)
     → on (cond h true b) (on (alive && (h || not slow)) x) ≡ on (alive && h) x + on (alive && not h && not slow && b) x
 before-lo true true slow b x = omega arith
@@ -38,24 +40,19 @@ before-lo false true slow b x = refl
 before-lo false false slow true x = refl
 before-lo false false slow false x = refl
 
--- What nothing is let through of is nothing.
-pub on-nothing : (b : Bool) → on b 0 ≡ 0
-on-nothing true = refl
-on-nothing false = refl
-
--- A HI job of a class claims its due if it is live.
+-- The claim of a HI job that passes b is its due if it is live, otherwise 0.
 class-claim : (alive h slow b : Bool) (x : ℕ) → on (alive && h) (on b x) ≡ on (h && b) (on (alive && (h || not slow)) x)
 class-claim true true slow b x = refl
 class-claim true false slow b x = refl
-class-claim false true slow b x = sym (on-nothing b)
+class-claim false true slow b x = sym (on-zero b)
 class-claim false false slow b x = refl
 
--- A job's claim is its due in one of the two lines.
-line-claim : (alive h slow : Bool) (x : ℕ) → on (alive && h) x + on (alive && not h && not slow) x ≡ on (alive && (h || not slow)) x
-line-claim true true slow x = omega arith
-line-claim true false true x = refl
-line-claim true false false x = omega arith
-line-claim false h slow x = refl
+-- A job's claim is its due in one of the two queues.
+queue-claim : (alive h slow : Bool) (x : ℕ) → on (alive && h) x + on (alive && not h && not slow) x ≡ on (alive && (h || not slow)) x
+queue-claim true true slow x = omega arith
+queue-claim true false true x = refl
+queue-claim true false false x = omega arith
+queue-claim false h slow x = refl
 
 module _ (p : Plan) (table : List ℕ) (run : Run) (v : ℕ) (grants : List ℕ) where
   abbrev n : ℕ
@@ -79,11 +76,11 @@ module _ (p : Plan) (table : List ℕ) (run : Run) (v : ℕ) (grants : List ℕ)
   abbrev loTest : ℕ → Bool
   loTest k = alive k && not (isHi p k) && not slow
 
-  abbrev hiLine : List ℕ
-  hiLine = line hiTest (deadline p) n
+  abbrev hiQueue : List ℕ
+  hiQueue = queue hiTest (deadline p) n
 
-  abbrev loLine : List ℕ
-  loLine = line loTest (deadline p) n
+  abbrev loQueue : List ℕ
+  loQueue = queue loTest (deadline p) n
 
   abbrev blank : List ℕ
   blank = replicate n 0 ++ drop n grants
@@ -91,14 +88,14 @@ module _ (p : Plan) (table : List ℕ) (run : Run) (v : ℕ) (grants : List ℕ)
   abbrev grant : ℕ → ℕ
   grant i = getD (granted p table run v grants) i 0
 
-  -- The grants, as the two lines' turns.
-  pub two-lines : granted p table run v grants ≡ serve dues (v - over dues hiLine) loLine (serve dues v hiLine blank)
+  -- The grants are those of serving the HI queue and then, with the rest of v, the LO queue.
+  pub two-lines : granted p table run v grants ≡ serve dues (v - over dues hiQueue) loQueue (serve dues v hiQueue blank)
   unfolding granted order
-  two-lines = serve-both dues v hiLine loLine blank
+  two-lines = serve-both dues v hiQueue loQueue blank
 
-  -- A counted job stands in a line where that line's test lets it in.
-  in-line : (i : ℕ) → i < n → (test : ℕ → Bool) (b : Bool) → test i ≡ b → stands i (line test (deadline p) n) ≡ b
-  in-line i counts test b e = line-stands test (deadline p) i n ∙ rw (lt-ltb i n counts, e) refl
+  -- A counted job is in a queue exactly if it passes the queue's test.
+  in-queue : (i : ℕ) → i < n → (test : ℕ → Bool) (b : Bool) → test i ≡ b → queued i (queue test (deadline p) n) ≡ b
+  in-queue i counts test b e = queue-queued test (deadline p) i n ∙ rw (lt-ltb i n counts, e) refl
 
   blank-long : (i : ℕ) → i < n → i < length blank
   blank-long i counts = rw (length-append (replicate n 0) (drop n grants), length-replicate {A = ℕ} n 0) (omega arith)
@@ -107,44 +104,44 @@ module _ (p : Plan) (table : List ℕ) (run : Run) (v : ℕ) (grants : List ℕ)
   blank-none i counts =
       List·getD-append (replicate n 0) (drop n grants) 0 i (rw (length-replicate {A = ℕ} n 0) counts) ∙ getD-replicate n i 0 0 counts
 
-  -- What a job is granted, by the line that it stands in.
-  hi-grant : (i : ℕ) → i < n → isHi p i ≡ true → alive i ≡ true → grant i ≡ gets dues v hiLine i
+  -- A job's grant, by the queue that it is in.
+  hi-grant : (i : ℕ) → i < n → isHi p i ≡ true → alive i ≡ true → grant i ≡ gets dues v hiQueue i
   hi-grant i counts h a =
       ap (λ l. getD l i 0) two-lines
-      ∙ serve-absent dues (v - over dues hiLine) loLine (serve dues v hiLine blank) i (in-line i counts loTest false (rw (a, h) refl))
-      ∙ serve-gets dues v hiLine blank i (line-once hiTest (deadline p) n) (blank-long i counts) (in-line i counts hiTest true (rw (a, h) refl))
+      ∙ serve-absent dues (v - over dues hiQueue) loQueue (serve dues v hiQueue blank) i (in-queue i counts loTest false (rw (a, h) refl))
+      ∙ serve-gets dues v hiQueue blank i (queue-once hiTest (deadline p) n) (blank-long i counts) (in-queue i counts hiTest true (rw (a, h) refl))
 
-  lo-grant : (i : ℕ) → i < n → loTest i ≡ true → grant i ≡ gets dues (v - over dues hiLine) loLine i
+  lo-grant : (i : ℕ) → i < n → loTest i ≡ true → grant i ≡ gets dues (v - over dues hiQueue) loQueue i
   lo-grant i counts let-in =
       ap (λ l. getD l i 0) two-lines
-      ∙ serve-gets dues (v - over dues hiLine) loLine (serve dues v hiLine blank) i (line-once loTest (deadline p) n)
-      (rw (serve-length dues v hiLine blank) (blank-long i counts)) (in-line i counts loTest true let-in)
+      ∙ serve-gets dues (v - over dues hiQueue) loQueue (serve dues v hiQueue blank) i (queue-once loTest (deadline p) n)
+      (rw (serve-length dues v hiQueue blank) (blank-long i counts)) (in-queue i counts loTest true let-in)
 
   no-grant : (i : ℕ) → i < n → hiTest i ≡ false → loTest i ≡ false → grant i ≡ 0
   no-grant i counts hi-out lo-out =
       ap (λ l. getD l i 0) two-lines
-      ∙ serve-absent dues (v - over dues hiLine) loLine (serve dues v hiLine blank) i (in-line i counts loTest false lo-out)
-      ∙ serve-absent dues v hiLine blank i (in-line i counts hiTest false hi-out) ∙ blank-none i counts
+      ∙ serve-absent dues (v - over dues hiQueue) loQueue (serve dues v hiQueue blank) i (in-queue i counts loTest false lo-out)
+      ∙ serve-absent dues v hiQueue blank i (in-queue i counts hiTest false hi-out) ∙ blank-none i counts
 
   hi-share : (i : ℕ) → i < n → isHi p i ≡ true → alive i ≡ true → grant i ≡ share p table run v i
   unfolding share
   hi-share i counts h a =
       hi-grant i counts h a
-      ∙ gets-share dues v hiLine i (in-line i counts hiTest true (rw (a, h) refl))
+      ∙ gets-share dues v hiQueue i (in-queue i counts hiTest true (rw (a, h) refl))
       ∙ ap₂ (λ x s. min x (v - s)) (rw (a, h) refl)
-      (front-line hiTest (deadline p) dues i n counts (rw (a, h) refl)
+      (front-queue hiTest (deadline p) dues i n counts (rw (a, h) refl)
       ∙ sum-ext _ _ n (λ k l. rw h (sym (before-hi (alive k) (isHi p k) slow (ahead (deadline p) k i) (dues k)))))
 
   lo-share : (i : ℕ) → i < n → isHi p i ≡ false → alive i ≡ true → slow ≡ false → grant i ≡ share p table run v i
   unfolding share
   lo-share i counts h a s =
       let let-in : loTest i ≡ true = rw (a, h, s) refl in
-      let room : v - over dues hiLine - front dues loLine i ≡ v - (over dues hiLine + front dues loLine i) = omega arith in
+      let room : v - over dues hiQueue - front dues loQueue i ≡ v - (over dues hiQueue + front dues loQueue i) = omega arith in
       lo-grant i counts let-in
-      ∙ gets-share dues (v - over dues hiLine) loLine i (in-line i counts loTest true let-in)
+      ∙ gets-share dues (v - over dues hiQueue) loQueue i (in-queue i counts loTest true let-in)
       ∙ ap₂ min (rw (a, h, s) refl)
       (room ∙ ap (λ x. v - x)
-      (ap₂ _+_ (over-line hiTest (deadline p) dues n) (front-line loTest (deadline p) dues i n counts let-in)
+      (ap₂ _+_ (over-queue hiTest (deadline p) dues n) (front-queue loTest (deadline p) dues i n counts let-in)
       ∙ sym (sum-add (λ k. on (hiTest k) (dues k)) (λ k. on (loTest k && ahead (deadline p) k i) (dues k)) n)
       ∙ sum-ext _ _ n (λ k l. rw h (sym (before-lo (alive k) (isHi p k) slow (ahead (deadline p) k i) (dues k))))))
 
@@ -152,7 +149,7 @@ module _ (p : Plan) (table : List ℕ) (run : Run) (v : ℕ) (grants : List ℕ)
   unfolding share
   no-share i counts e hi-out lo-out = no-grant i counts hi-out lo-out ∙ rw e (omega arith)
 
-  -- What a counted job is granted turn by turn is its share.
+  -- The grant of a counted job is its share.
   pub granted-is-share : (i : ℕ) → i < n → grant i ≡ share p table run v i
   granted-is-share i counts =
       if-true (alive i)
@@ -163,48 +160,49 @@ module _ (p : Plan) (table : List ℕ) (run : Run) (v : ℕ) (grants : List ℕ)
       (λ s. lo-share i counts h a s)))
       (λ a. no-share i counts (rw a refl) (rw a refl) (rw a refl))
 
-  -- No job is granted more than it claims.
+  -- No job is granted more than its claim.
   pub within-claim : (i : ℕ) → i < n → grant i ≤ claims i
   unfolding share
   within-claim i counts = rw (granted-is-share i counts) (omega arith)
 
-  -- The HI jobs with deadline at most D come first: together they get the lesser of v and their claims.
+  -- The HI jobs with deadline at most D are served first: they get
+  -- in total the lesser of v and their claims.
   pub first-served : (D : ℕ)
       → sum (λ k. on (isHi p k && leb (deadline p k) D) (grant k)) n
       ≡ min v (sum (λ k. on (isHi p k && leb (deadline p k) D) (claims k)) n)
   first-served D =
-      sum-ext _ _ n (λ k l. sym (class-grant k l)) ∙ sym (over-line hiTest (deadline p) (λ k. on (leb (deadline p k) D) (gets dues v hiLine k)) n)
-      ∙ first-get dues (deadline p) v D hiLine (line-in-order hiTest (deadline p) n) (line-once hiTest (deadline p) n)
+      sum-ext _ _ n (λ k l. sym (class-grant k l)) ∙ sym (over-queue hiTest (deadline p) (λ k. on (leb (deadline p k) D) (gets dues v hiQueue k)) n)
+      ∙ first-get dues (deadline p) v D hiQueue (queue-in-order hiTest (deadline p) n) (queue-once hiTest (deadline p) n)
       ∙ ap (min v)
-      (over-line hiTest (deadline p) (λ k. on (leb (deadline p k) D) (dues k)) n
+      (over-queue hiTest (deadline p) (λ k. on (leb (deadline p k) D) (dues k)) n
       ∙ sum-ext _ _ n (λ k l. class-claim (alive k) (isHi p k) slow (leb (deadline p k) D) (dues k)))
     where
       class-grant : (k : ℕ) → k < n
-          → on (hiTest k) (on (leb (deadline p k) D) (gets dues v hiLine k)) ≡ on (isHi p k && leb (deadline p k) D) (grant k)
+          → on (hiTest k) (on (leb (deadline p k) D) (gets dues v hiQueue k)) ≡ on (isHi p k && leb (deadline p k) D) (grant k)
       class-grant k l =
           if-true (alive k)
           (λ a. if-true (isHi p k) (λ h. rw (a, h, hi-grant k l h a) refl) (λ h. rw (a, h) refl))
-          (λ a. rw (a, no-grant k l (rw a refl) (rw a refl)) (sym (on-nothing (isHi p k && leb (deadline p k) D))))
+          (λ a. rw (a, no-grant k l (rw a refl) (rw a refl)) (sym (on-zero (isHi p k && leb (deadline p k) D))))
 
-  -- All jobs together get the lesser of v and all claims.
+  -- All jobs get in total the lesser of v and their claims.
   pub all-served : sum grant n ≡ min v (sum claims n)
   all-served =
       sum-ext _ _ n each
-      ∙ sum-add (λ k. on (hiTest k) (gets dues v hiLine k)) (λ k. on (loTest k) (gets dues (v - over dues hiLine) loLine k)) n
+      ∙ sum-add (λ k. on (hiTest k) (gets dues v hiQueue k)) (λ k. on (loTest k) (gets dues (v - over dues hiQueue) loQueue k)) n
       ∙ ap₂ _+_
-      (sym (over-line hiTest (deadline p) (gets dues v hiLine) n) ∙ all-get dues v hiLine (line-once hiTest (deadline p) n))
-      (sym (over-line loTest (deadline p) (gets dues (v - over dues hiLine) loLine) n)
-      ∙ all-get dues (v - over dues hiLine) loLine (line-once loTest (deadline p) n))
+      (sym (over-queue hiTest (deadline p) (gets dues v hiQueue) n) ∙ all-get dues v hiQueue (queue-once hiTest (deadline p) n))
+      (sym (over-queue loTest (deadline p) (gets dues (v - over dues hiQueue) loQueue) n)
+      ∙ all-get dues (v - over dues hiQueue) loQueue (queue-once loTest (deadline p) n))
       ∙ both
       ∙ ap (min v)
-      (ap₂ _+_ (over-line hiTest (deadline p) dues n) (over-line loTest (deadline p) dues n)
+      (ap₂ _+_ (over-queue hiTest (deadline p) dues n) (over-queue loTest (deadline p) dues n)
       ∙ sym (sum-add (λ k. on (hiTest k) (dues k)) (λ k. on (loTest k) (dues k)) n)
-      ∙ sum-ext _ _ n (λ k l. line-claim (alive k) (isHi p k) slow (dues k)))
+      ∙ sum-ext _ _ n (λ k l. queue-claim (alive k) (isHi p k) slow (dues k)))
     where
-      both : min v (over dues hiLine) + min (v - over dues hiLine) (over dues loLine) ≡ min v (over dues hiLine + over dues loLine)
+      both : min v (over dues hiQueue) + min (v - over dues hiQueue) (over dues loQueue) ≡ min v (over dues hiQueue + over dues loQueue)
       both = omega arith
 
-      each : (k : ℕ) → k < n → grant k ≡ on (hiTest k) (gets dues v hiLine k) + on (loTest k) (gets dues (v - over dues hiLine) loLine k)
+      each : (k : ℕ) → k < n → grant k ≡ on (hiTest k) (gets dues v hiQueue k) + on (loTest k) (gets dues (v - over dues hiQueue) loQueue k)
       each k l =
           if-true (alive k)
           (λ a. if-true (isHi p k)

@@ -1,7 +1,9 @@
--- What the calls' answers say, in the rules' own terms. (proofs/Told: answers that say the same are the same.)
+-- The answers of the calls in the rules' terms. Their views are injective
+-- (`answerView-injective`, `outcomeView-injective`).
 use mathlib.Core.Path.{_≡_}
 use mathlib.Core.List.{List, [], _∷_}
 use Prim.Native.Nat.{ℕ}
+use Rattle.plan.specs.Kinds.{Position, Row, Speed, Table}
 use Rattle.plan.specs.declared.kinds.Plan.{Plan}
 use Rattle.judge.specs.Verdict.{Report, judged}
 use Rattle.judge.specs.Answers as verdict
@@ -14,27 +16,28 @@ use Rattle.dispatch.specs.declared.answers.Outcome.the-variants.{Met, Di
 use Rattle.dispatch.specs.declared.start.Started.{Started}
 use Rattle.dispatch.specs.declared.step.Stepped.{Stepped}
 
--- The report of a slot's answer: empty for done, and else the refusal's number.
-abbrev pub report : Answer → Report
-report answer.Done = []
-report (answer.Refused n) = n ∷ []
+-- The view of a slot's answer: empty if done, otherwise the refusal number.
+abbrev pub answerView : Answer → Report
+answerView answer.Done = []
+answerView (answer.Refused n) = n ∷ []
 
--- The ending that an outcome names.
-abbrev pub ending : Outcome → Ending
-ending Met = met
-ending Discarded = discarded
-ending Missed = missed
-ending Open = stillOpen
-ending (Refused n) = refused n
+-- The view of an outcome.
+abbrev pub outcomeView : Outcome → Ending
+outcomeView Met = met
+outcomeView Discarded = discarded
+outcomeView Missed = missed
+outcomeView Open = stillOpen
+outcomeView (Refused n) = refused n
 
--- What `start` promises: the judge's verdict, and beside it the run at its start or, after a refusal, none.
-abbrev pub Starts : Plan → List ℕ → Started → Type 0
-Starts p table r = (verdict.report (r .verdict) ≡ judged p table) × (r .run ≡ startFrom (judged p table) (started p) noRun)
+-- The contract of `start`: the judge's verdict, with the started run or, after a refusal, `noRun`.
+abbrev pub Starts : (p : Plan) (table : Table) (r : Started) → Type 0
+Starts p table r = (verdict.verdictView (r .verdict) ≡ judged p table) × (r .run ≡ startFrom (judged p table) (started p) noRun)
 
--- What `step` promises: its answer, the run and the grant row at exit are those that a slot's call leaves.
-abbrev pub Steps : Plan → List ℕ → Run → ℕ → List ℕ → Stepped → List ℕ → Type 0
-Steps p table run v grants r left = record { answer = report (r .answer); run = r .run; grants = left } ≡ stepped p table run v grants
+-- The contract of `step`: its answer, the run and the grant row
+-- at exit are the effect of the slot's call.
+abbrev pub Steps : (p : Plan) (table : Table) (run : Run) (v : Speed) (grants : Row) (r : Stepped) (left : List ℕ) → Type 0
+Steps p table run v grants r left = record { answer = answerView (r .answer); run = r .run; grants = left } ≡ stepped p table run v grants
 
--- What `outcome` promises of its answer.
-abbrev pub Ends : Plan → Run → ℕ → Outcome → Type 0
-Ends p run position r = ending r ≡ outcome p run position
+-- The contract of `outcome`: the view of its answer is the outcome of the job at the position.
+abbrev pub Ends : (p : Plan) (run : Run) (position : Position) (r : Outcome) → Type 0
+Ends p run position r = outcomeView r ≡ outcome p run position

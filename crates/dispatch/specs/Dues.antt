@@ -1,10 +1,11 @@
--- What each job is due in a slot.
+-- What is due to each job in a slot.
 use mathlib.Core.Bool.{Bool, cond, _&&_, _||_}
 use mathlib.Core.List.{List}
 use Prim.Native.Nat.{ℕ, suc, _-_, min}
 use lib.Dec.{leb, ltb}
 use lib.ListN.{getD}
-use Rattle.sums.specs.Sum.{sum}
+use Rattle.plan.specs.Kinds.{Amount, Position, Speed, Table, Time}
+use Rattle.base.specs.Sum.{sum}
 use Rattle.plan.specs.Edition.{mostIntervals}
 use Rattle.plan.specs.Rules.{release, size, deadline}
 use Rattle.plan.specs.Boundaries.{present}
@@ -13,29 +14,30 @@ use Rattle.plan.specs.declared.kinds.Plan.{Plan}
 use Rattle.dispatch.specs.declared.Run.{Run}
 
 -- The units carried for job i so far.
-abbrev pub carriedOf : Run → ℕ → ℕ
+abbrev pub carriedOf : (run : Run) (i : Position) → Amount
 carriedOf run i = getD (run .carried) i 0
 
--- A job is live when its release has come and its deadline has not.
-abbrev pub live : Plan → ℕ → ℕ → Bool
+-- Job i is live at time t: its release is at or before t, and its deadline is after t.
+abbrev pub live : (p : Plan) (t : Time) (i : Position) → Bool
 live p t i = leb (release p i) t && ltb t (deadline p i)
 
--- The allotments of job i up to and including the present interval of time t.
-abbrev pub allottedBy : Plan → List ℕ → ℕ → ℕ → ℕ
+-- The allotments of job i in the intervals up to and including the present one at time t.
+abbrev pub allottedBy : (p : Plan) (table : Table) (t : Time) (i : Position) → Amount
 allottedBy p table t i = sum (allotment mostIntervals table i) (suc (present p t))
 
--- The slow mark after a slot at a speed: set by a speed below n, and never cleared.
-abbrev pub slowAfter : Plan → Run → ℕ → Bool
+-- The slow mark after a slot at speed v: set by a speed below n, and never cleared.
+abbrev pub slowAfter : (p : Plan) (run : Run) (v : Speed) → Bool
 slowAfter p run v = run .slow || ltb v (p .n .0)
 
--- The below-floor mark after a slot at a speed: set by a speed below d, and never cleared.
-abbrev pub belowAfter : Plan → Run → ℕ → Bool
+-- The below-floor mark after a slot at speed v: set by a speed below d, and never cleared.
+abbrev pub belowAfter : (p : Plan) (run : Run) (v : Speed) → Bool
 belowAfter p run v = run .below || ltb v (p .d .0)
 
--- What a job may have in all by this slot: its size under the slow mark; while it is clear, no more than is allotted so far.
-abbrev pub goal : Plan → List ℕ → ℕ → Bool → ℕ → ℕ
+-- The goal of job i for the units carried after this slot: its size under the slow mark, otherwise
+-- its allotments so far but at most its size.
+abbrev pub goal : (p : Plan) (table : Table) (t : Time) (slow : Bool) (i : Position) → Amount
 goal p table t slow i = cond slow (size p i) (min (size p i) (allottedBy p table t i))
 
--- What job i is due: its goal less what is carried.
-abbrev pub due : Plan → List ℕ → Run → Bool → ℕ → ℕ
+-- What is due to job i: its goal less what is carried, or 0 if more is carried.
+abbrev pub due : (p : Plan) (table : Table) (run : Run) (slow : Bool) (i : Position) → Amount
 due p table run slow i = goal p table (run .clock .0) slow i - carriedOf run i

@@ -1,6 +1,5 @@
 pub mod Dues
-pub mod Turns
-pub mod Shares
+pub mod Order
 pub mod Step
-pub mod Standing
 pub mod Answers
+pub mod inner

@@ -1,9 +1,10 @@
--- A run: its start, a slot's call with all that it leaves, and the outcome of each transfer.
+-- A run: its start, the effect of a slot's call, and the outcome of each job.
 use mathlib.Core.Bool.{Bool, false, not, cond, _&&_, _||_}
 use mathlib.Core.List.{List, [], _∷_, _++_}
 use Prim.Native.Nat.{ℕ, zero, suc, _+_}
 use lib.Dec.{leb, ltb, eqb}
 use lib.ListN.{length, getD, drop, replicate}
+use Rattle.plan.specs.Kinds.{Position, Row, Speed, Table, Time}
 use Rattle.plan.specs.Edition.{mostJobs, places}
 use Rattle.plan.specs.Refusal.{clockAtEnd, speedAboveNormal, unsound, bufferTooShort}
 use Rattle.plan.specs.Below.{every}
@@ -13,64 +14,65 @@ use Rattle.plan.specs.declared.kinds.Plan.{Plan}
 use Rattle.judge.specs.Verdict.{Report, orElse, fault, judged}
 use Rattle.dispatch.specs.declared.Run.{Run}
 use Rattle.dispatch.specs.Dues.{carriedOf, slowAfter, belowAfter, due}
-use Rattle.dispatch.specs.Turns.{order, serve}
+use Rattle.dispatch.specs.Order.{order, serve}
 
 -- A run at its start: the clock at the first release, nothing carried, both marks clear.
 unfoldable pub started : Plan → Run
 started p =
     record { clock = record { 0 = firstRelease p }; slow = false; below = false; carried = replicate mostJobs 0 }
 
--- No run: what stands beside a refused start.
+-- The all-zero record that comes with a refused start.
 abbrev pub noRun : Run
 noRun = record { clock = record { 0 = 0 }; slow = false; below = false; carried = replicate mostJobs 0 }
 
--- The record that a start leaves: the new run where the judge accepts, and else what was there.
+-- The record that a start leaves: the new run if the judge accepts, otherwise the record as it was.
 abbrev pub startFrom : Report → Run → Run → Run
 startFrom [] run was = run
 startFrom (number ∷ places) run was = was
 
--- A lent record after start.
-unfoldable pub startIn : Plan → List ℕ → Run → Run
+-- A lent record after a start.
+unfoldable pub startIn : (p : Plan) (table : Table) (was : Run) → Run
 startIn p table was = startFrom (judged p table) (started p) was
 
--- A plan is sound for a slot at time t with those carried units: rules 4, 5, 8 and 9 hold, the time lies from first release to last
--- deadline, and no job has more carried than its size.
-abbrev pub soundAt : Plan → ℕ → List ℕ → Bool
+-- A plan is sound for a slot at time t with given carried units: rules 4, 5, 8 and 9 hold, t lies
+-- from the first release to the last deadline, and no job has more carried than its size.
+abbrev pub soundAt : (p : Plan) (t : Time) (carried : Row) → Bool
 soundAt p t carried =
     ratesHold p && countHolds p && gradesHold p && boundsHold p && leb (firstRelease p) t
     && leb t (lastDeadline p) && every (λ i. leb (getD carried i 0) (size p i)) (counted p)
 
--- A plan and a run are sound for a slot: the plan is, at the run's clock and with what it carries.
+-- A plan and a run are sound for a slot: the plan is, at the run's clock with its carried units.
 unfoldable pub slotSound : Plan → Run → Bool
 slotSound p run = soundAt p (run .clock .0) (run .carried)
 
--- The first of a slot's refusals that applies, in their order: 21, 22, 19, 20.
+-- The first refusal of a slot's call that applies, in the order 21, 22, 19, 20; empty if none does.
 abbrev pub refusedBy : Bool → Bool → Bool → Bool → Report
 refusedBy bad short ended fast =
     orElse (fault bad (unsound ∷ []))
     (orElse (fault short (bufferTooShort ∷ [])) (orElse (fault ended (clockAtEnd ∷ [])) (fault fast (speedAboveNormal ∷ []))))
 
--- What a slot's call is refused by.
-unfoldable pub slotFault : Plan → List ℕ → Run → ℕ → List ℕ → Report
+-- The refusal of a slot's call; empty if there is none.
+unfoldable pub slotFault : (p : Plan) (table : Table) (run : Run) (v : Speed) (grants : Row) → Report
 slotFault p table run v grants =
     refusedBy (not (slotSound p run)) (ltb (length table) places || ltb (length grants) (counted p))
     (eqb (run .clock .0) (lastDeadline p)) (ltb (p .n .0) v)
 
--- A slot's grants: zeros for the jobs, each served in turn; places beyond the jobs stay.
-unfoldable pub granted : Plan → List ℕ → Run → ℕ → List ℕ → List ℕ
+-- The grant row after a slot: zeros for the jobs, overwritten by what the served jobs
+-- get; entries past the jobs are unchanged.
+unfoldable pub granted : (p : Plan) (table : Table) (run : Run) (v : Speed) (grants : Row) → Row
 granted p table run v grants =
     serve (due p table run (slowAfter p run v)) v (order p (run .clock .0) (slowAfter p run v))
     (replicate (counted p) 0 ++ drop (counted p) grants)
 
--- The first n numbers of a list with those of another added; the rest stays.
-unfoldable pub added : ℕ → List ℕ → List ℕ → List ℕ
+-- Adds the first n numbers of a second list to those of l; the rest of l is unchanged.
+unfoldable pub added : (n : ℕ) (l : List ℕ) (grants : Row) → List ℕ
 added zero l grants = l
 added (suc n) [] grants = []
 added (suc n) (x ∷ l) [] = x ∷ l
 added (suc n) (x ∷ l) (g ∷ grants) = (x + g) ∷ added n l grants
 
--- The run after a slot: marks, carried units and clock, and nothing else.
-unfoldable pub advanced : Plan → List ℕ → Run → ℕ → List ℕ → Run
+-- The run after a slot: its clock, marks and carried units.
+unfoldable pub advanced : (p : Plan) (table : Table) (run : Run) (v : Speed) (grants : Row) → Run
 advanced p table run v grants =
     record {
       clock = record { 0 = run .clock .0 + 1 };
@@ -79,23 +81,23 @@ advanced p table run v grants =
       carried = added (counted p) (run .carried) (granted p table run v grants);
     }
 
--- What a slot's call leaves: its answer (empty for done), the run and the grant row.
-pub record Slot : Type 0 where
+-- The effect of a slot's call: its answer (empty if done), the run and the grant row.
+pub record SlotEffect : Type 0 where
   pub answer : Report
   pub run : Run
   pub grants : List ℕ
 
--- A refused call leaves run and grants as they were.
-abbrev pub slotBy : Report → Plan → List ℕ → Run → ℕ → List ℕ → Slot
+-- The effect by the refusal found: a refused call leaves run and grants as they were.
+abbrev pub slotBy : Report → Plan → Table → Run → Speed → Row → SlotEffect
 slotBy [] p table run v grants =
     record { answer = []; run = advanced p table run v grants; grants = granted p table run v grants }
 slotBy (number ∷ rest) p table run v grants = record { answer = number ∷ rest; run = run; grants = grants }
 
--- A slot's call.
-unfoldable pub stepped : Plan → List ℕ → Run → ℕ → List ℕ → Slot
+-- The effect of a slot's call.
+unfoldable pub stepped : (p : Plan) (table : Table) (run : Run) (v : Speed) (grants : Row) → SlotEffect
 stepped p table run v grants = slotBy (slotFault p table run v grants) p table run v grants
 
--- How a transfer ended, or that the plan, the run or the position is refused.
+-- The outcome of a job, or the refusal of the plan, the run or the position.
 pub data Ending : Type 0 where
   met : Ending
   discarded : Ending
@@ -103,8 +105,9 @@ pub data Ending : Type 0 where
   stillOpen : Ending
   refused : ℕ → Ending
 
--- The outcome of job i: 21 on the slot's grounds and for a position not below the count; then met, discarded, missed, open.
-unfoldable pub outcome : Plan → Run → ℕ → Ending
+-- The outcome of job i: 21 on the slot's grounds and for a position not below the count; otherwise
+-- the first that applies of met, discarded, missed and open.
+unfoldable pub outcome : (p : Plan) (run : Run) (i : Position) → Ending
 outcome p run i =
     cond (not (slotSound p run && ltb i (p .count))) (refused unsound)
     (cond (eqb (carriedOf run i) (size p i)) met

@@ -1,12 +1,12 @@
-// What the calls on a run answer; a refusal holds its number.
+// The answers of the calls on a run; a refusal holds its number.
 
-// What a slot's call answers.
+// The answer of a slot's call.
 pub enum Answer {
     Done,
     Refused(u8),
 }
 
-// How a transfer ended, or that it is still open.
+// The outcome of a job, or a refusal.
 pub enum Outcome {
     Met,
     Discarded,

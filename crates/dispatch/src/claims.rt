@@ -1,4 +1,4 @@
-// What a job can take of a slot: its due if it is served, and never more than the speed.
+// A job's claim on a slot: its due if it is served, capped at the speed.
 use plan::kinds::HI;
 use plan::kinds::Job;
 use plan::kinds::Slots;
@@ -7,10 +7,10 @@ ghost use mathlib.Core.Path.{_≡_};
 ghost use mathlib.Core.Bool.{not, cond, _&&_, _||_};
 ghost use Prim.Native.Nat.{_-_, min};
 ghost use lib.Dec.{leb, ltb, eqb};
-ghost use Rattle.sums.specs.Sum.{on};
+ghost use Rattle.base.specs.Sum.{on};
 ghost use Rattle.plan.specs.Rules.{hi};
 
-// Whether a job is served: it is live, and HI unless the slow mark is clear.
+// Whether a job is served: it is live, and HI if the slow mark is set.
 fn is_served(job: Job, clock: Slots, slow: bool) -> bool
     ensures { λ r. ⌜ r ≡ (leb (job .release .0) (clock .0) && ltb (clock .0) (job .deadline .0) && (eqb (job .grade) hi || not slow)) ⌝ }
 {
@@ -19,14 +19,15 @@ fn is_served(job: Job, clock: Slots, slow: bool) -> bool
     (release.0 <= clock.0) & (clock.0 < deadline.0) & ((job.grade == HI) | !slow)
 }
 
-// A stored number, read out as units.
+// A stored 32-bit number as units.
 pub(crate) fn units(stored: u32) -> Units
     ensures { λ r. ⌜ r ≡ record { 0 = stored } ⌝ }
 {
     Units(stored as u64)
 }
 
-// What a job may have in all by this slot.
+// The goal of a job: its size under the slow mark, otherwise
+// its allotments so far but at most its size.
 fn goal_of(slow: bool, size: Units, allotted: Units) -> Units
     ensures { λ r. ⌜ r ≡ record { 0 = cond slow (size .0) (min (size .0) (allotted .0)) } ⌝ }
 {
@@ -36,7 +37,7 @@ fn goal_of(slow: bool, size: Units, allotted: Units) -> Units
     if size.0 <= allotted.0 { size } else { allotted }
 }
 
-// What is due to a job: its goal less what is carried, if it is served.
+// What is due to a job: its goal less what is carried if it is served, otherwise 0.
 fn due_of(served: bool, goal: Units, carried: Units) -> Units
     ensures { λ r. ⌜ r ≡ record { 0 = on served (goal .0 - carried .0) } ⌝ }
 {
@@ -49,7 +50,7 @@ fn due_of(served: bool, goal: Units, carried: Units) -> Units
     Units(goal.0 - carried.0)
 }
 
-// As much of what is due as the speed allows, which over one slot is a count of units.
+// The lesser of what is due and the speed, which in one slot is a number of units.
 fn capped_at(due: Units, v: u16) -> u32
     ensures { λ r. ⌜ r ≡ min (due .0) v ⌝ }
 {
@@ -60,7 +61,7 @@ fn capped_at(due: Units, v: u16) -> u32
     }
 }
 
-// A job's claim on a slot, with what is allotted to it so far and what is carried.
+// A job's claim on a slot, from its allotments so far and the units carried.
 pub(crate) fn claim_of(
     job: Job,
     clock: Slots,

@@ -1,18 +1,19 @@
-// One slot, one run: the run record, its start, a slot's grants, and how each transfer ended.
+// One slot, one run: the run record, its start, the grants of a slot, and the outcome of each job.
 pub mod answers;
 mod choice;
 mod claims;
 pub mod outcome;
+mod ranks;
 mod slot;
 pub mod soundness;
 pub mod start;
 pub mod step;
-mod turns;
 
 use plan::edition::Edition;
 use plan::kinds::Slots;
 
-// A run: the clock, the two marks, and the units carried for each job. Places from the job count on are zero at start, and then left alone.
+// A run: the clock, the two marks, and the units carried for each job. Entries from the job count
+// on are zero at the start, and no slot changes them.
 pub struct Run {
     pub clock: Slots,
     pub slow: bool,

@@ -1,4 +1,4 @@
-// How a transfer ended.
+// The outcome of a job.
 use crate::Run;
 use crate::answers::Outcome;
 use crate::soundness::slot_sound;

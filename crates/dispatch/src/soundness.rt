@@ -1,4 +1,4 @@
-// How a plan and a run stand for a slot: unsound, at the plan's end, or inside its time.
+// The readiness of a plan and a run for a slot: unsound, at the plan's end, or running.
 use crate::Run;
 use crate::claims::units;
 use plan::boundaries::first_release;
@@ -20,13 +20,13 @@ ghost use Rattle.plan.specs.Below.{every};
 ghost use Rattle.plan.specs.Rules.{counted, size};
 ghost use Rattle.plan.specs.Boundaries.{present};
 ghost use Rattle.dispatch.specs.Step.{slotSound};
-ghost use Rattle.dispatch.specs.Standing.{standing, isSound, isEnded, begun};
+ghost use Rattle.dispatch.specs.inner.Readiness.{readiness, isSound, isEnded, begun};
 
-pub(crate) enum Standing {
+pub(crate) enum Readiness {
     Unsound,
     // The clock is at the last deadline.
     Ended,
-    // So many intervals have begun.
+    // The number of intervals begun.
     Running(u32),
 }
 
@@ -47,17 +47,17 @@ fn carried_within(p: Plan, carried: &[u32; Edition::MOST_JOBS]) -> bool
     within
 }
 
-// The intervals up to and including the present one.
+// The number of intervals up to and including the present one.
 fn spans_by(p: Plan, clock: Slots) -> u32
     ensures { λ r. ⌜ r ≡ suc (present p (clock .0)) ⌝ }
 {
     present_of(p, clock) as u32 + 1
 }
 
-// Where a clock stands with what is carried by then: sound if rules 4, 5, 8 and 9 hold, the clock lies in the plan's time, and no job
-// has more carried than its size.
-pub(crate) fn standing_of(p: Plan, clock: Slots, carried: &[u32; Edition::MOST_JOBS]) -> Standing
-    ensures { λ r. ⌜ r ≡ standing p (clock .0) (now (carried .entry)) ⌝ }
+// The readiness at a clock with given carried units: sound if rules 4, 5, 8 and 9 hold, the clock
+// lies from the first release to the last deadline, and no job has more carried than its size.
+pub(crate) fn readiness_of(p: Plan, clock: Slots, carried: &[u32; Edition::MOST_JOBS]) -> Readiness
+    ensures { λ r. ⌜ r ≡ readiness p (clock .0) (now (carried .entry)) ⌝ }
 {
     let first = first_release(p);
     let last = last_deadline(p);
@@ -69,42 +69,42 @@ pub(crate) fn standing_of(p: Plan, clock: Slots, carried: &[u32; Edition::MOST_J
         & (clock.0 <= last.0)
         & carried_within(p, carried);
     if !sound {
-        return Standing::Unsound;
+        return Readiness::Unsound;
     }
     if clock.0 == last.0 {
-        return Standing::Ended;
+        return Readiness::Ended;
     }
-    Standing::Running(spans_by(p, clock))
+    Readiness::Running(spans_by(p, clock))
 }
 
-pub(crate) fn is_sound(s: Standing) -> bool
+pub(crate) fn is_sound(s: Readiness) -> bool
     ensures { λ r. ⌜ r ≡ isSound s ⌝ }
 {
     match s {
-        Standing::Unsound => false,
-        Standing::Ended => true,
-        Standing::Running(_) => true,
+        Readiness::Unsound => false,
+        Readiness::Ended => true,
+        Readiness::Running(_) => true,
     }
 }
 
-pub(crate) fn is_ended(s: Standing) -> bool
+pub(crate) fn is_ended(s: Readiness) -> bool
     ensures { λ r. ⌜ r ≡ isEnded s ⌝ }
 {
     match s {
-        Standing::Unsound => false,
-        Standing::Ended => true,
-        Standing::Running(_) => false,
+        Readiness::Unsound => false,
+        Readiness::Ended => true,
+        Readiness::Running(_) => false,
     }
 }
 
-// How many intervals have begun for a run inside the plan's time; none else.
-pub(crate) fn begun_in(s: Standing) -> u32
+// The number of intervals begun; 0 unless running.
+pub(crate) fn begun_in(s: Readiness) -> u32
     ensures { λ r. ⌜ r ≡ begun s ⌝ }
 {
     match s {
-        Standing::Unsound => 0,
-        Standing::Ended => 0,
-        Standing::Running(spans) => spans,
+        Readiness::Unsound => 0,
+        Readiness::Ended => 0,
+        Readiness::Running(spans) => spans,
     }
 }
 
@@ -113,5 +113,5 @@ pub fn slot_sound(p: Plan, run: Run) -> bool
     ensures { λ r. ⌜ r ≡ slotSound p run ⌝ }
 {
     let carried = run.carried;
-    is_sound(standing_of(p, run.clock, &carried))
+    is_sound(readiness_of(p, run.clock, &carried))
 }

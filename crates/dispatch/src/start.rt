@@ -1,4 +1,4 @@
-// The start of a run, by value: the judge's verdict beside the run.
+// The start of a run, by value: the judge's verdict and the run.
 use crate::Run;
 use judge::answers::Verdict;
 use judge::answers::is_accepted;
@@ -13,13 +13,13 @@ ghost use lib.ListN.{replicate};
 ghost use Rattle.plan.specs.Edition.{mostJobs};
 ghost use Rattle.dispatch.specs.Answers.{Starts};
 
-// What a start hands back; beside a refusal stands no run, which is all zeros.
+// The result of a start; with a refusal the run is all zeros.
 pub struct Started {
     pub verdict: Verdict,
     pub run: Run,
 }
 
-// A run at a clock with nothing carried and both marks clear.
+// A run at a given clock, with nothing carried and both marks clear.
 fn fresh(clock: Slots) -> Run
     ensures { λ r. ⌜ r ≡ record { clock = clock; slow = false; below = false; carried = replicate mostJobs 0 } ⌝ }
 {
@@ -32,7 +32,7 @@ fn fresh(clock: Slots) -> Run
     }
 }
 
-// Judges a plan, and starts its run if it is accepted.
+// Judges a plan and starts its run if it is accepted.
 pub fn start(p: Plan, table: &[u32]) -> Started
     ensures { λ r. ⌜ Starts p (now (table .entry)) r ⌝ }
 {

@@ -1,4 +1,5 @@
--- The laws that the calls lean on: what is known past a test of two lengths, what a start leaves, and which names are shown.
+-- Laws for the calls: what follows from the length tests, what a
+-- start leaves, and which names are shown.
 use mathlib.Core.Path.{_≡_, refl, sym, ap}
 use mathlib.Core.Bool.{Bool, true, false, true≢false, _||_}
 use mathlib.Core.List.{List, [], _∷_}
@@ -8,12 +9,12 @@ use lib.Dec.{ltb}
 use lib.ListN.{length}
 use Rattle.plan.specs.declared.kinds.Plan.{Plan}
 use Rattle.judge.specs.Verdict.{Report, isNone}
-use Rattle.planfile.specs.Reading.{readFile, nameShown}
-use Rattle.planfile.specs.Answers.{countOf}
-use Rattle.planfile.proofs.Whole.{shown-none}
+use Rattle.planfile.specs.Reader.{readFile, nameShown}
+use Rattle.planfile.specs.inner.Parts.{countOf}
+use Rattle.planfile.proofs.WholeFile.{shown-none}
 use Rattle.dispatch.specs.Step.{started}
-use Rattle.dispatch.proofs.Line.{neither}
-use Rattle.hostwords.specs.Memory.{runPut}
+use Rattle.dispatch.proofs.Queues.{neither}
+use Rattle.hostmemory.specs.Memory.{runPut}
 use Rattle.gateway.specs.Calls.{startWords}
 
 -- Neither of two buffers is too short.
@@ -30,7 +31,7 @@ all-long a b c m n o e =
     let two = both-long a b m n (so .0) in
     (two .0, two .1, ltb-false (length c) o (so .1))
 
--- What a start leaves in the lent words, by whether something is refused.
+-- The lent run after a start, with and without a refusal.
 pub starts : (r : Report) (p : Plan) (run : List ℕ) → isNone r ≡ true → startWords r p run ≡ runPut run (started p)
 starts [] p run e = refl
 starts (number ∷ places) p run e = absurd (true≢false (sym e))
@@ -39,7 +40,7 @@ pub stays : (r : Report) (p : Plan) (run : List ℕ) → isNone r ≡ false → 
 stays [] p run e = absurd (true≢false e)
 stays (number ∷ places) p run e = refl
 
--- A name is shown only below the job count.
+-- A name is shown only for a position below the job count.
 pub some-shown : (file : List ℕ) (k : ℕ) → (length (nameShown file k) ≡ 0 → ⊥) → k < countOf (readFile file)
 unfolding nameShown
 some-shown file k some = go (ltb k (countOf (readFile file))) refl

@@ -1,3 +1,3 @@
 pub mod Laws
-pub mod One
-pub mod Back
+pub mod Determined
+pub mod RefusedStep

@@ -1,4 +1,5 @@
-// What the calls answer, as numbers: 0 for done, a refusal's own number, and numbers beyond one byte for the rest.
+// The calls' answers as numbers: 0 for done, a refusal's own number,
+// and numbers above one byte for the rest.
 use dispatch::answers::Answer;
 use dispatch::answers::Outcome;
 use judge::answers::Slack;
@@ -12,7 +13,7 @@ use plan::refusal::WRONG_TOTAL;
 use planfile::reader::Answer as Reader;
 use planwriter::writer::Written;
 ghost use mathlib.Core.Path.{_≡_};
-ghost use Rattle.judge.specs.Answers.{report, figure};
+ghost use Rattle.judge.specs.Answers.{verdictView, slackView};
 ghost use Rattle.planfile.specs.Answers as files;
 ghost use Rattle.planwriter.specs.Answers as written;
 ghost use Rattle.dispatch.specs.Answers as slots;
@@ -31,7 +32,7 @@ pub const MISSED: u32 = 259;
 pub const OPEN: u32 = 260;
 
 pub(crate) fn number_of(v: Verdict) -> u32
-    ensures { λ r. ⌜ r ≡ numberOf (report v) ⌝ }
+    ensures { λ r. ⌜ r ≡ numberOf (verdictView v) ⌝ }
 {
     match v {
         Verdict::Accepted => DONE,
@@ -44,9 +45,9 @@ pub(crate) fn number_of(v: Verdict) -> u32
     }
 }
 
-// The first part of the place that a verdict names; 0 where it names none.
+// The first part of the location that a verdict names; 0 if it names none.
 pub(crate) fn first_of(v: Verdict) -> u64
-    ensures { λ r. ⌜ r ≡ firstOf (report v) ⌝ }
+    ensures { λ r. ⌜ r ≡ firstOf (verdictView v) ⌝ }
 {
     match v {
         Verdict::Accepted => 0,
@@ -59,9 +60,9 @@ pub(crate) fn first_of(v: Verdict) -> u64
     }
 }
 
-// The second part of that place.
+// The second part of that location; 0 if it has none.
 pub(crate) fn second_of(v: Verdict) -> u64
-    ensures { λ r. ⌜ r ≡ secondOf (report v) ⌝ }
+    ensures { λ r. ⌜ r ≡ secondOf (verdictView v) ⌝ }
 {
     match v {
         Verdict::Accepted => 0,
@@ -75,7 +76,7 @@ pub(crate) fn second_of(v: Verdict) -> u64
 }
 
 pub(crate) fn answer_number(a: Answer) -> u32
-    ensures { λ r. ⌜ r ≡ numberOf (slots.report a) ⌝ }
+    ensures { λ r. ⌜ r ≡ numberOf (slots.answerView a) ⌝ }
 {
     match a {
         Answer::Done => DONE,
@@ -84,7 +85,7 @@ pub(crate) fn answer_number(a: Answer) -> u32
 }
 
 pub(crate) fn outcome_number(o: Outcome) -> u32
-    ensures { λ r. ⌜ r ≡ endingNumber (slots.ending o) ⌝ }
+    ensures { λ r. ⌜ r ≡ endingNumber (slots.outcomeView o) ⌝ }
 {
     match o {
         Outcome::Met => MET,
@@ -96,7 +97,7 @@ pub(crate) fn outcome_number(o: Outcome) -> u32
 }
 
 pub(crate) fn slack_number(s: Slack) -> u32
-    ensures { λ r. ⌜ r ≡ figureNumber (figure s) ⌝ }
+    ensures { λ r. ⌜ r ≡ figureNumber (slackView s) ⌝ }
 {
     match s {
         Slack::NoneEssential => NONE_ESSENTIAL,
@@ -106,7 +107,7 @@ pub(crate) fn slack_number(s: Slack) -> u32
 }
 
 pub(crate) fn slack_figure(s: Slack) -> i64
-    ensures { λ r. ⌜ r ≡ figureSlack (figure s) ⌝ }
+    ensures { λ r. ⌜ r ≡ figureSlack (slackView s) ⌝ }
 {
     match s {
         Slack::NoneEssential => 0,
@@ -115,9 +116,10 @@ pub(crate) fn slack_figure(s: Slack) -> i64
     }
 }
 
-// The place of a figure: interval and deadline of the least slack, or the place of a refusal.
+// The location of a slack figure: interval and deadline of the least slack,
+// or the location of a refusal; otherwise 0.
 pub(crate) fn slack_first(s: Slack) -> u64
-    ensures { λ r. ⌜ r ≡ figureFirst (figure s) ⌝ }
+    ensures { λ r. ⌜ r ≡ figureFirst (slackView s) ⌝ }
 {
     match s {
         Slack::NoneEssential => 0,
@@ -127,7 +129,7 @@ pub(crate) fn slack_first(s: Slack) -> u64
 }
 
 pub(crate) fn slack_second(s: Slack) -> u64
-    ensures { λ r. ⌜ r ≡ figureSecond (figure s) ⌝ }
+    ensures { λ r. ⌜ r ≡ figureSecond (slackView s) ⌝ }
 {
     match s {
         Slack::NoneEssential => 0,
@@ -137,7 +139,7 @@ pub(crate) fn slack_second(s: Slack) -> u64
 }
 
 pub(crate) fn read_number(a: Reader) -> u32
-    ensures { λ r. ⌜ r ≡ numberOf (files.answerTold a) ⌝ }
+    ensures { λ r. ⌜ r ≡ numberOf (files.answerView a) ⌝ }
 {
     match a {
         Reader::Read => DONE,
@@ -146,7 +148,7 @@ pub(crate) fn read_number(a: Reader) -> u32
 }
 
 pub(crate) fn written_number(w: Written) -> u32
-    ensures { λ r. ⌜ r ≡ writtenNumber (written.writtenTold w) ⌝ }
+    ensures { λ r. ⌜ r ≡ writtenNumber (written.writtenView w) ⌝ }
 {
     match w {
         Written::Length(_) => DONE,
@@ -156,7 +158,7 @@ pub(crate) fn written_number(w: Written) -> u32
 
 // The length of a written file; 0 after a refusal.
 pub(crate) fn written_length(w: Written) -> usize
-    ensures { λ r. ⌜ r ≡ writtenLength (written.writtenTold w) ⌝ }
+    ensures { λ r. ⌜ r ≡ writtenLength (written.writtenView w) ⌝ }
 {
     match w {
         Written::Length(n) => n,

@@ -1,10 +1,10 @@
-// The plan file's calls for hosts.
+// The calls for hosts on plan files.
 use crate::answers::read_number;
 use crate::answers::written_length;
 use crate::answers::written_number;
-use hostwords::plans::plan_of;
-use hostwords::plans::put_plan;
-use hostwords::sizes::Sizes;
+use hostmemory::plans::plan_of;
+use hostmemory::plans::put_plan;
+use hostmemory::sizes::Sizes;
 use plan::edition::Edition;
 use plan::refusal::BUFFER_TOO_SHORT;
 use planfile::lookup::name_of;
@@ -27,7 +27,7 @@ pub extern "C" fn gateway_read(file: &[u8], plan: &mut [u64], table: &mut [u32])
     read_number(answer)
 }
 
-// Writes the plan file of a sound plan and its table, and its length.
+// Writes the plan file of a sound plan and its table, and returns its length in `length`.
 #[no_mangle]
 pub extern "C" fn gateway_write(
     plan: &[u64],
@@ -46,7 +46,7 @@ pub extern "C" fn gateway_write(
     written_number(written)
 }
 
-// Where in the file a job's name begins; 0 where no name is shown.
+// The offset in the file at which a job's name begins; 0 if no name is shown.
 #[no_mangle]
 pub extern "C" fn gateway_name(file: &[u8], position: usize) -> usize
     ensures { λ r. ⌜ HostShows (now (file .entry)) position r ⌝ }

@@ -6,8 +6,8 @@ use crate::answers::slack_figure;
 use crate::answers::slack_first;
 use crate::answers::slack_number;
 use crate::answers::slack_second;
-use hostwords::plans::plan_of;
-use hostwords::sizes::Sizes;
+use hostmemory::plans::plan_of;
+use hostmemory::sizes::Sizes;
 use judge::figure::slack;
 use judge::judge;
 use plan::refusal::BUFFER_TOO_SHORT;
@@ -15,15 +15,15 @@ ghost use Rattle.gateway.specs.Answers.{HostJudges, HostMeasures};
 
 // The verdict on a plan and its table.
 #[no_mangle]
-pub extern "C" fn gateway_judge(plan: &[u64], table: &[u32], place: &mut [u64]) -> u32
-    ensures { λ r. ⌜ HostJudges (now (plan .entry)) (now (table .entry)) (now (place .entry)) r (now (place .exit)) ⌝ }
+pub extern "C" fn gateway_judge(plan: &[u64], table: &[u32], location: &mut [u64]) -> u32
+    ensures { λ r. ⌜ HostJudges (now (plan .entry)) (now (table .entry)) (now (location .entry)) r (now (location .exit)) ⌝ }
 {
-    if (plan.len() < Sizes::PLAN) | (place.len() < Sizes::PLACE) {
+    if (plan.len() < Sizes::PLAN) | (location.len() < Sizes::LOCATION) {
         return BUFFER_TOO_SHORT as u32;
     }
     let verdict = judge(plan_of(plan), table);
-    place[0] = first_of(verdict);
-    place[1] = second_of(verdict);
+    location[0] = first_of(verdict);
+    location[1] = second_of(verdict);
     number_of(verdict)
 }
 
@@ -33,16 +33,16 @@ pub extern "C" fn gateway_slack(
     plan: &[u64],
     table: &[u32],
     least: &mut i64,
-    place: &mut [u64],
+    location: &mut [u64],
 ) -> u32
-    ensures { λ r. ⌜ HostMeasures (now (plan .entry)) (now (table .entry)) (now (least .entry)) (now (place .entry)) r (now (least .exit)) (now (place .exit)) ⌝ }
+    ensures { λ r. ⌜ HostMeasures (now (plan .entry)) (now (table .entry)) (now (least .entry)) (now (location .entry)) r (now (least .exit)) (now (location .exit)) ⌝ }
 {
-    if (plan.len() < Sizes::PLAN) | (place.len() < Sizes::PLACE) {
+    if (plan.len() < Sizes::PLAN) | (location.len() < Sizes::LOCATION) {
         return BUFFER_TOO_SHORT as u32;
     }
     let figure = slack(plan_of(plan), table);
     *least = slack_figure(figure);
-    place[0] = slack_first(figure);
-    place[1] = slack_second(figure);
+    location[0] = slack_first(figure);
+    location[1] = slack_second(figure);
     slack_number(figure)
 }

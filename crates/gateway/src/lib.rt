@@ -1,4 +1,5 @@
-// For hosts in C and Rust: the libraries' calls on numbers and slices. A plan and a run live in words that the host lends.
+// For hosts in C and Rust: the libraries' calls on numbers and slices. A plan and a
+// run are kept in words that the host lends.
 mod answers;
 mod files;
 mod judging;

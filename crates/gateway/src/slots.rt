@@ -1,4 +1,4 @@
-// The run's calls for hosts.
+// The calls for hosts on a run.
 use crate::answers::answer_number;
 use crate::answers::first_of;
 use crate::answers::number_of;
@@ -7,11 +7,11 @@ use crate::answers::second_of;
 use dispatch::outcome::outcome;
 use dispatch::start::start;
 use dispatch::step::step;
-use hostwords::plans::plan_of;
-use hostwords::runs::marks_hold;
-use hostwords::runs::put_run;
-use hostwords::runs::run_of;
-use hostwords::sizes::Sizes;
+use hostmemory::plans::plan_of;
+use hostmemory::runs::marks_hold;
+use hostmemory::runs::put_run;
+use hostmemory::runs::run_of;
+use hostmemory::sizes::Sizes;
 use judge::answers::Verdict;
 use judge::answers::is_accepted;
 use plan::kinds::Plan;
@@ -19,13 +19,13 @@ use plan::refusal::BUFFER_TOO_SHORT;
 use plan::refusal::UNSOUND;
 ghost use mathlib.Core.Path.{_≡_};
 ghost use Rattle.judge.specs.Verdict.{judged};
-ghost use Rattle.judge.specs.Answers.{report};
+ghost use Rattle.judge.specs.Answers.{verdictView};
 ghost use Rattle.gateway.specs.Calls.{startWords};
 ghost use Rattle.gateway.specs.Answers.{HostStarts, HostSteps, HostEnds};
 
-// Judges a plan, and puts its run into the lent words if it is accepted.
+// Judges a plan, and writes its run to the lent words if it is accepted.
 fn start_in(run: &mut [u32], p: Plan, table: &[u32]) -> Verdict
-    ensures { λ r. ⌜ (report r ≡ judged p (now (table .entry))) × (now (run .exit) ≡ startWords (judged p (now (table .entry))) p (now (run .entry))) ⌝ }
+    ensures { λ r. ⌜ (verdictView r ≡ judged p (now (table .entry))) × (now (run .exit) ≡ startWords (judged p (now (table .entry))) p (now (run .entry))) ⌝ }
 {
     let s = start(p, table);
     let verdict = s.verdict;
@@ -43,20 +43,20 @@ pub extern "C" fn gateway_start(
     plan: &[u64],
     table: &[u32],
     run: &mut [u32],
-    place: &mut [u64],
+    location: &mut [u64],
 ) -> u32
-    ensures { λ r. ⌜ HostStarts (now (plan .entry)) (now (table .entry)) (now (run .entry)) (now (place .entry)) r (now (run .exit)) (now (place .exit)) ⌝ }
+    ensures { λ r. ⌜ HostStarts (now (plan .entry)) (now (table .entry)) (now (run .entry)) (now (location .entry)) r (now (run .exit)) (now (location .exit)) ⌝ }
 {
-    if (plan.len() < Sizes::PLAN) | (run.len() < Sizes::RUN) | (place.len() < Sizes::PLACE) {
+    if (plan.len() < Sizes::PLAN) | (run.len() < Sizes::RUN) | (location.len() < Sizes::LOCATION) {
         return BUFFER_TOO_SHORT as u32;
     }
     let verdict = start_in(run, plan_of(plan), table);
-    place[0] = first_of(verdict);
-    place[1] = second_of(verdict);
+    location[0] = first_of(verdict);
+    location[1] = second_of(verdict);
     number_of(verdict)
 }
 
-// Carries one slot at speed v. The run is advanced in place, and the grants go into the lent row.
+// Carries one slot at speed v: advances the lent run, and writes the grants to the lent row.
 #[no_mangle]
 pub extern "C" fn gateway_step(
     plan: &[u64],

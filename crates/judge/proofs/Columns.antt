@@ -1,4 +1,4 @@
--- The laws of column sums: rows added in place, sums taken from the last interval back, and the lowest interval that falls short.
+-- Laws of column sums: rows added in place, sums built backwards, and the lowest violating interval.
 use mathlib.Core.Path.{_≡_, refl, sym, _∙_, ap, ap₂}
 use mathlib.Core.Bool.{Bool, true, false, not, cond}
 use mathlib.Core.List.{List}
@@ -11,20 +11,20 @@ use borrow.Author.Tests.{lt-ltb, le-ltb, not-true}
 use lib.Dec.{ltb, eqb}
 use lib.ListN.{length, getD, set, length-set}
 use lib.Seq.{getD-set-same, getD-set-other}
-use Rattle.sums.specs.Sum.{sum, on}
-use Rattle.sums.proofs.Laws.{sum-ext, sum-none, sum-split, sum-start, sum-step}
+use Rattle.base.specs.Sum.{sum, on}
+use Rattle.base.proofs.SumLaws.{sum-ext, sum-none, sum-split, sum-start, sum-step}
 use Rattle.plan.proofs.Below.{every-at}
-use Rattle.plan.proofs.Rising.{by-order}
+use Rattle.plan.proofs.BoundaryOrder.{by-order}
 use Rattle.plan.specs.Rules.{isAbsent}
-use Rattle.judge.specs.Columns.{lowest, asksMore}
+use Rattle.judge.specs.inner.Columns.{lowest, asksMore}
 
--- Numbers were added to the first n of a list, and the rest stays.
+-- `new` is `old` with `add k` added at each index k below n, and unchanged from n on.
 pub record Added (old : List ℕ) (add : ℕ → ℕ) (n : ℕ) (new : List ℕ) : Type 0 where
   pub long : length new ≡ length old
   pub done : (k : ℕ) → k < n → getD new k 0 ≡ getD old k 0 + add k
   pub rest : (k : ℕ) → n ≤ k → getD new k 0 ≡ getD old k 0
 
--- Nothing was added yet, or one number more.
+-- At the start nothing is added; writing index n extends the range to n + 1.
 pub added-start : (old : List ℕ) (add : ℕ → ℕ) → Added old add 0 old
 added-start old add = record { long = refl; done = λ k l. absurd (omega arith); rest = λ k l. refl }
 
@@ -43,7 +43,7 @@ added-next old new add n x h so e =
         let last : k ≡ n = omega arith in
         rw (last, getD-set-same new n x 0 h, e) (ap (λ y. y + add n) (so .rest n (omega arith)))
 
--- A sum from one index earlier has one term more, in front.
+-- A sum that begins one index earlier has one more term.
 pub sum-back : (g : ℕ → ℕ) (l m : ℕ) → l < m → sum (λ k. g (l + k)) (m - l) ≡ sum (λ k. g (suc l + k)) (m - suc l) + g l
 sum-back g l m h =
     let one : m - l ≡ 1 + (m - suc l) = omega arith in
@@ -53,7 +53,8 @@ sum-back g l m h =
     = sum-ext _ _ (m - suc l) (λ k b. let e : l + (1 + k) ≡ suc l + k = omega arith in ap g e) in
     omega (arith, ap (sum (λ k. g (l + k))) one, sum-split (λ k. g (l + k)) 1 (m - suc l), first, rest)
 
--- The lowest from one number earlier: that number where the test holds.
+-- The lowest of no numbers is `other`; the lowest from l on is l if the test holds
+-- there, otherwise the lowest from l + 1 on.
 pub lowest-end : (test : ℕ → Bool) (other m : ℕ) → other ≡ lowest test other m (m - m)
 unfolding lowest
 lowest-end test other m = let e : m - m ≡ 0 = omega arith in rw e refl
@@ -63,7 +64,7 @@ pub lowest-back : (test : ℕ → Bool) (other l m : ℕ) → l < m
 unfolding lowest
 lowest-back test other l m h = let e : m - l ≡ suc (m - suc l) = omega arith in rw e refl
 
--- A turn of the way back: the sum and the lowest interval, from one interval earlier.
+-- One iteration of the backward loop: the sum and the lowest violating interval from l − 1 on.
 pub column-next : (d : ℕ) (sums times : List ℕ) (m other l asked low r : ℕ) → 0 < l → l ≤ m → asked ≡ sum (λ k. getD sums (l + k) 0) (m - l)
     → low ≡ lowest (asksMore d sums times m) other l (m - l)
     → r ≡ cond (ltb (d * (getD times m 0 - getD times (l - 1) 0)) (asked + getD sums (l - 1) 0)) (l - 1) low
@@ -77,7 +78,7 @@ column-next d sums times m other (suc l) asked low r h b p q e =
       rw back (rw back at e ∙ ap₂ (λ s n. cond (ltb (d * (getD times m 0 - getD times l 0)) s) l n) whole q ∙ lowest-back (asksMore d sums times m) other l m (omega arith)),
     )
 
--- Before the lowest the test fails; and it is the other number, or the test holds at it.
+-- Below the lowest the test fails; and the lowest is `other`, or the test holds at it.
 pub lowest-before : (test : ℕ → Bool) (other l n k : ℕ) → l ≤ k → k < l + n → k < lowest test other l n → test k ≡ false
 unfolding lowest
 lowest-before test other l zero k a b c = absurd (omega arith)
@@ -101,7 +102,7 @@ lowest-at test other l (suc n) = go (test l) refl (lowest-at test other (suc l) 
     go false e (inl q) = inl q
     go false e (inr q) = inr (omega (arith, q .0), q .1)
 
--- The lesser of two numbers, by a test.
+-- The number that the test x < y chooses is the minimum.
 pub lesser-is : (x y : ℕ) → cond (ltb x y) x y ≡ min y x
 lesser-is x y = go (decLt x y)
   where
@@ -109,7 +110,7 @@ lesser-is x y = go (decLt x y)
     go (yes h) = rw (lt-ltb x y h) (omega arith)
     go (no h) = rw (le-ltb x y (omega arith)) (omega arith)
 
--- Where a time is none of some deadlines, nothing is due at it.
+-- If a time is absent from the deadlines, the sum over the jobs due at it is 0.
 pub none-due : (deadlines : List ℕ) (time : ℕ) (f : ℕ → ℕ) → isAbsent deadlines time ≡ true
     → sum (λ i. on (eqb (getD deadlines i 0) time) (f i)) (length deadlines) ≡ 0
 unfolding isAbsent
@@ -117,7 +118,7 @@ none-due deadlines time f h =
     sum-none (λ i. on (eqb (getD deadlines i 0) time) (f i)) (length deadlines)
     (λ i b. ap (λ t. on t (f i)) (not-true (eqb (getD deadlines i 0) time) (every-at (λ k. not (eqb (getD deadlines k 0) time)) (length deadlines) i h b)))
 
--- One number more of a row stands as it must.
+-- Writing f n at index n extends the agreement of a row with f from the first n indices to n + 1.
 pub stands-next : (f : ℕ → ℕ) (row : List ℕ) (n x : ℕ) → n < length row → ((k : ℕ) → k < n → getD row k 0 ≡ f k) → x ≡ f n
     → (k : ℕ) → k < n + 1 → getD (set row n x) k 0 ≡ f k
 stands-next f row n x h so e k l = go (decLt k n)

@@ -1,4 +1,4 @@
--- The laws of the demand on the floor: from an interval to a boundary it is a sum of whole parts of rows.
+-- Laws of the demand: it is a sum over contiguous parts of table rows.
 use mathlib.Core.Path.{_≡_, sym, _∙_, ap, ap₂}
 use mathlib.Core.Bool.{true, false, _&&_, and-false}
 use mathlib.Core.List.{List}
@@ -7,29 +7,29 @@ use native.Mathlib.Omega.{arith}
 use borrow.Author.Tests.{lt-ltb, le-ltb}
 use lib.Dec.{leb, ltb, leb·suc-suc}
 use lib.ListN.{length, getD}
-use Rattle.sums.specs.Sum.{sum, on, strided}
-use Rattle.sums.proofs.Laws.{sum-ext}
+use Rattle.base.specs.Sum.{sum, on, strided}
+use Rattle.base.proofs.SumLaws.{sum-ext}
 use Rattle.plan.specs.Edition.{mostIntervals}
 use Rattle.plan.specs.Rules.{counted, deadline, isHi}
 use Rattle.plan.specs.Boundaries.{boundaries, boundary, intervals, present, come}
 use Rattle.plan.specs.declared.kinds.Plan.{Plan}
-use Rattle.plan.proofs.Rising.{boundaries-rise}
-use Rattle.plan.proofs.Come.{come-few}
+use Rattle.plan.proofs.BoundaryOrder.{boundaries-rise}
+use Rattle.plan.proofs.BoundaryCount.{come-few}
 use Rattle.judge.specs.Constraints.{units, unitsBetween, demand}
 use Rattle.judge.specs.Verdict.{isHiDeadline, isPair}
-use Rattle.judge.proofs.Running.{sum-window}
-use Rattle.judge.proofs.Times.{ends-by, come-first}
+use Rattle.judge.proofs.RunningSums.{sum-window}
+use Rattle.judge.proofs.IncreasingTimes.{ends-by, come-first}
 
--- The first e intervals are those that end by a time.
+-- The intervals that end at or before time D are the first e.
 abbrev pub EndBy : Plan → ℕ → ℕ → Type 0
 EndBy p D e = (e ≤ intervals p) × ((j : ℕ) → j < intervals p → leb (boundary p (suc j)) D ≡ ltb j e)
 
--- Those that end by boundary m are the first m.
+-- The intervals that end at or before boundary m are the first m.
 pub end-by-boundary : (p : Plan) (m : ℕ) → m < length (boundaries p) → EndBy p (boundary p m) m
 end-by-boundary p m h =
     (omega arith, λ j l. ends-by 0 j m (boundaries p) (boundaries-rise p (counted p)) (omega arith) h)
 
--- Those that end by any time are those before its present interval, or all of them after the end.
+-- The intervals that end at or before time D are the first `present p D`.
 pub end-by-present : (p : Plan) (D : ℕ) → EndBy p D (present p D)
 end-by-present p D = (
   omega (arith, come-few D (boundaries p)),
@@ -40,7 +40,8 @@ end-by-present p D = (
     one-less j zero = le-ltb (suc j) 0 (omega arith) ∙ sym (le-ltb j 0 (omega arith))
     one-less j (suc n) = let e : n ≡ suc n - 1 = omega arith in leb·suc-suc (suc j) n ∙ ap (ltb j) e
 
--- The units of job i between interval l and a time stand in a row, from l on, in the intervals that end by then.
+-- The units of job i from interval l to time D are the sum of e − l
+-- consecutive places of its row from l on.
 between-is : (p : Plan) (table : List ℕ) (l D e i : ℕ) → EndBy p D e
     → unitsBetween p table l D i ≡ sum (strided table (mostIntervals * i + l) 1) (e - l)
 between-is p table l D e i h =
@@ -57,7 +58,7 @@ pub demand-is : (p : Plan) (table : List ℕ) (l D e : ℕ) → EndBy p D e
 demand-is p table l D e h =
     sum-ext _ _ (counted p) (λ i b. ap (on (isHi p i && leb (deadline p i) D)) (sym (between-is p table l D e i h)))
 
--- A pair of the floor rule: not where the boundary comes no later, not where it is no HI deadline, and else it is one.
+-- Interval l and boundary m are no pair if m ≤ l or if m is no HI deadline; otherwise they are.
 pub early-pair : (p : Plan) (l m : ℕ) → m ≤ l → isPair p l m ≡ false
 early-pair p l m h = ap (λ b. b && isHiDeadline p (boundary p m)) (le-ltb l m h)
 

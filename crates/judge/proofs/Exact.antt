@@ -1,4 +1,4 @@
--- The judge accepts a plan exactly when it is sound and the constraints of figure 2 hold.
+-- The judge accepts a plan exactly if it is sound and the constraints of figure 2 hold.
 use mathlib.Core.Path.{_≡_, refl, sym, _∙_, ap}
 use mathlib.Core.Bool.{Bool, true, false, not, _&&_, _||_, false≢true}
 use mathlib.Core.List.{List, [], _∷_}
@@ -16,17 +16,18 @@ use Rattle.plan.specs.Boundaries.{boundary, intervals}
 use Rattle.plan.specs.Table.{sound}
 use Rattle.plan.specs.declared.kinds.Plan.{Plan}
 use Rattle.plan.proofs.Below.{every-ext, both, every-at, every-all}
-use Rattle.judge.specs.Constraints.{units, inWindow, span, total, load, demand, floorCarries, Accepted}
-use Rattle.judge.specs.Verdict.{Report, orElse, fault, isNone, first, isStray, isHiDeadline, isPair, fallsShort, outsideFault, totalFault, capacityFault, floorFault, handFault, constraintFault, judged}
-use Rattle.judge.proofs.First.{none-empty, empty-none, none-plain, none-fault, none-first, none-faults}
-use Rattle.judge.proofs.Hand.{hand-none, hand-sound}
-use Rattle.judge.proofs.Enough.{hi-deadlines-are-enough}
+use Rattle.judge.specs.Constraints.{units, inWindow, intervalLength, total, load, demand, floorCapacity, Figure2}
+use Rattle.judge.specs.Verdict.{Report, orElse, fault, isNone, first, isOutside, isHiDeadline, isPair, fallsShort, outsideFault, totalFault, capacityFault, floorFault, handFault, constraintFault, judged}
+use Rattle.judge.proofs.Reports.{none-empty, empty-none, none-plain, none-fault, none-first, none-faults}
+use Rattle.judge.proofs.HandFault.{hand-none, hand-sound}
+use Rattle.judge.proofs.HiDeadlinesSuffice.{hi-deadlines-are-enough}
 
--- Tests that hold everywhere below a length, and nowhere fail.
+-- A nested first report is empty exactly if all reports in it are.
 two-deep : (f : ℕ → ℕ → Report) (n m : ℕ) → isNone (first (λ i. first (f i) m) n) ≡ every (λ i. every (λ j. isNone (f i j)) m) n
 two-deep f n m = none-first (λ i. first (f i) m) n ∙ every-ext _ _ n (λ i l. none-first (f i) m)
 
--- One of two tests holds, if the second does where the first fails.
+-- A disjunction holds if its second part holds whenever the first fails; a conjunction fails if its
+-- second part fails whenever the first holds.
 or-else : (a b : Bool) → (a ≡ false → b ≡ true) → (a || b) ≡ true
 or-else true b h = refl
 or-else false b h = h refl
@@ -35,19 +36,19 @@ and-no : (a b : Bool) → (a ≡ true → b ≡ false) → (a && b) ≡ false
 and-no true b h = h refl
 and-no false b h = refl
 
--- Neither of two reports.
+-- If `orElse` of two reports is empty, both reports are.
 none-parts : (a b : Report) → orElse a b ≡ [] → (a ≡ []) × (b ≡ [])
 none-parts [] b h = (refl, h)
 none-parts (number ∷ places) b h = absurd (false≢true (ap isNone h))
 
 module _ (p : Plan) (table : List ℕ) where
-  -- 15 is not given exactly when nothing lies outside a window.
+  -- There is no report 15 exactly if no job has units outside its window.
   pub outside-none : (outsideFault p table ≡ [])
       ↔ ((i j : ℕ) → i < counted p → j < intervals p → inWindow p i j ≡ false → units table i j ≡ 0)
   unfolding outsideFault
   outside-none = (
     λ h i j a b o.
-        let tests = sym (two-deep (λ i j. fault (isStray p table i j) (outsideWindow ∷ i ∷ j ∷ [])) (counted p) (intervals p))
+        let tests = sym (two-deep (λ i j. fault (isOutside p table i j) (outsideWindow ∷ i ∷ j ∷ [])) (counted p) (intervals p))
         ∙ empty-none (outsideFault p table) h in
         let here = every-at _ (intervals p) j (every-at _ (counted p) i tests a) b in
         eqb-true (units table i j) 0
@@ -59,7 +60,7 @@ module _ (p : Plan) (table : List ℕ) where
         ∙ or-else (inWindow p i j) (eqb (units table i j) 0) (λ o. eq-eqb (units table i j) 0 (h i j a b o))))),
   )
 
-  -- 16 is not given exactly when every job has its size.
+  -- There is no report 16 exactly if every job's total is its size.
   pub total-none : (totalFault p table ≡ []) ↔ ((i : ℕ) → i < counted p → total p table i ≡ size p i)
   unfolding totalFault
   total-none = (
@@ -69,39 +70,39 @@ module _ (p : Plan) (table : List ℕ) where
         ∙ every-all _ (counted p) (λ i a. eq-eqb (total p table i) (size p i) (h i a))),
   )
 
-  -- 17 is not given exactly when every interval is within the normal rate.
-  pub capacity-none : (capacityFault p table ≡ []) ↔ ((j : ℕ) → j < intervals p → load p table j ≤ p .n .0 * span p j)
+  -- There is no report 17 exactly if every interval's load is within the normal rate's capacity.
+  pub capacity-none : (capacityFault p table ≡ []) ↔ ((j : ℕ) → j < intervals p → load p table j ≤ p .n .0 * intervalLength p j)
   unfolding capacityFault
   capacity-none = (
     λ h j b.
-        let here = every-at _ (intervals p) j (sym (none-first (λ k. fault (ltb (p .n .0 * span p k) (load p table k)) (overCapacity ∷ k ∷ [])) (intervals p)) ∙ empty-none (capacityFault p table) h) b in
-        ltb-false (p .n .0 * span p j) (load p table j)
-        (not-true _ (sym (none-plain (ltb (p .n .0 * span p j) (load p table j)) overCapacity (j ∷ [])) ∙ here)),
+        let here = every-at _ (intervals p) j (sym (none-first (λ k. fault (ltb (p .n .0 * intervalLength p k) (load p table k)) (overCapacity ∷ k ∷ [])) (intervals p)) ∙ empty-none (capacityFault p table) h) b in
+        ltb-false (p .n .0 * intervalLength p j) (load p table j)
+        (not-true _ (sym (none-plain (ltb (p .n .0 * intervalLength p j) (load p table j)) overCapacity (j ∷ [])) ∙ here)),
     λ h. none-empty (capacityFault p table) (none-first _ (intervals p)
-        ∙ every-all _ (intervals p) (λ j b. none-plain (ltb (p .n .0 * span p j) (load p table j)) overCapacity (j ∷ [])
-        ∙ ap not (le-ltb (p .n .0 * span p j) (load p table j) (h j b)))),
+        ∙ every-all _ (intervals p) (λ j b. none-plain (ltb (p .n .0 * intervalLength p j) (load p table j)) overCapacity (j ∷ [])
+        ∙ ap not (le-ltb (p .n .0 * intervalLength p j) (load p table j) (h j b)))),
   )
 
-  -- 18 is not given exactly when no pair falls short.
+  -- There is no report 18 exactly if the floor rule holds for every pair.
   pub floor-none : (floorFault p table ≡ [])
-      ↔ ((l m : ℕ) → m ≤ intervals p → l < intervals p → isPair p l m ≡ true → demand p table l (boundary p m) ≤ floorCarries p l (boundary p m))
+      ↔ ((l m : ℕ) → m ≤ intervals p → l < intervals p → isPair p l m ≡ true → demand p table l (boundary p m) ≤ floorCapacity p l (boundary p m))
   unfolding floorFault
   floor-none = (
     λ h l m a b t.
         let tests = sym (two-deep (λ l m. fault (isPair p l m && fallsShort p table l m) (belowFloorRule ∷ l ∷ boundary p m ∷ [])) (intervals p) (suc (intervals p)))
         ∙ empty-none (floorFault p table) h in
         let here = every-at _ (suc (intervals p)) m (every-at _ (intervals p) l tests b) (omega arith) in
-        ltb-false (floorCarries p l (boundary p m)) (demand p table l (boundary p m))
+        ltb-false (floorCapacity p l (boundary p m)) (demand p table l (boundary p m))
         (sym (ap (λ x. x && fallsShort p table l m) t)
         ∙ not-true _ (sym (none-plain (isPair p l m && fallsShort p table l m) belowFloorRule (l ∷ boundary p m ∷ [])) ∙ here)),
     λ h. none-empty (floorFault p table) (two-deep _ (intervals p) (suc (intervals p))
         ∙ every-all _ (intervals p) (λ l b. every-all _ (suc (intervals p)) (λ m a.
         none-plain (isPair p l m && fallsShort p table l m) belowFloorRule (l ∷ boundary p m ∷ [])
         ∙ ap not (and-no (isPair p l m) (fallsShort p table l m)
-        (λ t. le-ltb (floorCarries p l (boundary p m)) (demand p table l (boundary p m)) (h l m (omega arith) b t)))))),
+        (λ t. le-ltb (floorCapacity p l (boundary p m)) (demand p table l (boundary p m)) (h l m (omega arith) b t)))))),
   )
 
-  -- Where nothing is refused, each of the tests has passed.
+  -- If the judge reports nothing, none of its tests does.
   pub accepted-parts : judged p table ≡ []
       → (handFault p table ≡ []) × (outsideFault p table ≡ []) × (totalFault p table ≡ []) × (capacityFault p table ≡ []) × (floorFault p table ≡ [])
   unfolding judged
@@ -112,8 +113,9 @@ module _ (p : Plan) (table : List ℕ) where
       let four = none-parts (totalFault p table) (capacityFault p table) (three .1) in
       (one .0, three .0, four .0, four .1, two .1)
 
-  -- The judge accepts exactly the sound plans that meet figure 2, at all later boundaries.
-  pub exact : places ≤ length table → ((judged p table ≡ []) ↔ ((sound p table ≡ true) × Accepted p table))
+  -- The judge accepts exactly the sound plans that meet figure 2, which
+  -- tests the floor rule at all later boundaries.
+  pub exact : places ≤ length table → ((judged p table ≡ []) ↔ ((sound p table ≡ true) × Figure2 p table))
   unfolding judged
   exact long = (
     λ h.

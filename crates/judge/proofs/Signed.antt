@@ -1,4 +1,4 @@
--- The laws of signed numbers: their order, and a difference of two small numbers fits 64 bits.
+-- Laws of signed numbers: their order, and that the difference of two numbers below 2^62 fits 64 bits.
 use mathlib.Core.Path.{_≡_, refl, sym, _∙_, ap, ap₂}
 use mathlib.Core.Bool.{Bool, true, false, cond, true≢false, false≢true}
 use Prim.Native.Nat.{ℕ, zero, suc, _-_, _^_, _≤_, _<_}
@@ -11,13 +11,13 @@ use lib.Signed.{ltZ, leZ}
 use mir.Syntax.{w64}
 use mir.Val.{SFits, toZ, ofZ, sel}
 use mir.Facts.{toZ-ofZ}
-use Rattle.judge.specs.Constraints.{mostSide}
+use Rattle.judge.specs.inner.Widths.{mostSide}
 
--- A number below half of 64 bits reads as itself.
+-- A number below 2^62 reads as itself in 64 signed bits.
 reads-itself : (a : ℕ) → a < mostSide → toZ w64 a ≡ pos a
 reads-itself a h = ap (λ b. sel b (pos a) (negsuc (2 ^ 64 - suc a))) (lt-ltb a (2 ^ 63) (omega arith))
 
--- A difference of two numbers, as signed numbers have it.
+-- The signed difference of two naturals is `subℕ`; for numbers below 2^62 it fits 64 bits.
 difference : (a b : ℕ) → pos a -ℤ pos b ≡ subℕ a b
 difference a zero = ap pos (add-zero a) ∙ sym (ap (λ t. cond t (negsuc (zero - suc a)) (pos (a - zero))) (le-ltb a zero (omega arith)) ∙ ap pos (sub-zero a))
 difference a (suc b) = refl
@@ -32,16 +32,16 @@ difference-fits a b h k = go (ltb a b) refl
     go true e = rw e (record { sfits = omega arith })
     go false e = rw e (record { sfits = omega arith })
 
--- A difference that was kept in its 64 bits is read back as itself.
+-- A difference stored in 64 bits reads back unchanged.
 pub kept-difference : (a b : ℕ) (s : ℤ) → a < mostSide → b < mostSide → s ≡ subℕ a b → toZ w64 (ofZ w64 s) ≡ subℕ a b
 kept-difference a b s h k e = ap (λ z. toZ w64 (ofZ w64 z)) e ∙ toZ-ofZ (difference-fits a b h k)
 
--- So is one of two signed numbers.
+-- So does a choice of two signed numbers that fit.
 pub kept-choice : (x : Bool) (s t r : ℤ) → SFits w64 s → SFits w64 t → r ≡ cond x s t → (toZ w64 (ofZ w64 r) ≡ cond x s t) × SFits w64 (toZ w64 (ofZ w64 r))
 kept-choice true s t r f g e = rw (e, toZ-ofZ f) (refl, f)
 kept-choice false s t r f g e = rw (e, toZ-ofZ g) (refl, g)
 
--- A difference is at most what is at least its first number.
+-- If a ≤ c, then a − b ≤ c.
 pub difference-at-most : (a b c : ℕ) → a ≤ c → leZ (subℕ a b) (pos c) ≡ true
 difference-at-most a b c h = go (ltb a b)
   where
@@ -49,7 +49,7 @@ difference-at-most a b c h = go (ltb a b)
     go true = refl
     go false = le-leb (a - b) c (omega arith)
 
--- No number is below itself, and each is at most itself.
+-- `ltZ` is irreflexive and `leZ` is reflexive.
 pub not-below-self : (s : ℤ) → ltZ s s ≡ false
 not-below-self (pos a) = le-ltb a a (omega arith)
 not-below-self (negsuc a) = le-ltb a a (omega arith)
@@ -58,7 +58,7 @@ pub at-most-self : (s : ℤ) → leZ s s ≡ true
 at-most-self (pos a) = le-leb a a (omega arith)
 at-most-self (negsuc a) = le-leb a a (omega arith)
 
--- What is below or at most a number, that number is not below.
+-- If s < t or s ≤ t, then t is not below s.
 pub below-not : (s t : ℤ) → ltZ s t ≡ true → ltZ t s ≡ false
 below-not (pos a) (pos b) h = le-ltb b a (omega (arith, ltb-true a b h))
 below-not (pos a) (negsuc b) h = absurd (false≢true h)
@@ -71,7 +71,7 @@ at-most-not (pos a) (negsuc b) h = absurd (false≢true h)
 at-most-not (negsuc a) (pos b) h = refl
 at-most-not (negsuc a) (negsuc b) h = le-ltb a b (leb-true b a h)
 
--- Of two numbers one is at most the other, or the other is below it.
+-- The order is total: s ≤ t if t is not below s, and t < s if not s ≤ t.
 pub not-below-at-most : (s t : ℤ) → ltZ t s ≡ false → leZ s t ≡ true
 not-below-at-most (pos a) (pos b) h = le-leb a b (ltb-false b a h)
 not-below-at-most (pos a) (negsuc b) h = absurd (true≢false h)
@@ -85,7 +85,7 @@ not-at-most-below s t h = go (ltZ t s) refl
     go true e = refl
     go false e = absurd (true≢false (sym (not-below-at-most s t e) ∙ h))
 
--- Three numbers none of which is below the one before.
+-- The relation "not below" is transitive.
 pub not-below-two : (a b c : ℤ) → ltZ b a ≡ false → ltZ c b ≡ false → ltZ c a ≡ false
 not-below-two (pos a) (pos b) (pos c) h k = le-ltb c a (omega (arith, ltb-false b a h, ltb-false c b k))
 not-below-two (pos a) (pos b) (negsuc c) h k = absurd (true≢false k)
@@ -94,7 +94,7 @@ not-below-two (negsuc a) b (pos c) h k = refl
 not-below-two (negsuc a) (pos b) (negsuc c) h k = absurd (true≢false k)
 not-below-two (negsuc a) (negsuc b) (negsuc c) h k = le-ltb a c (omega (arith, ltb-false a b h, ltb-false b c k))
 
--- Neither of two numbers is below the other only where they are the same.
+-- Two numbers of which neither is below the other are equal.
 pub same-both : (s t : ℤ) → ltZ s t ≡ false → ltZ t s ≡ false → s ≡ t
 same-both (pos a) (pos b) h k = ap pos (omega (arith, ltb-false a b h, ltb-false b a k))
 same-both (pos a) (negsuc b) h k = absurd (true≢false k)

@@ -1,6 +1,6 @@
 pub mod Constraints
 pub mod Verdict
 pub mod Slack
-pub mod Columns
 pub mod Answers
 pub mod Decided
+pub mod inner

@@ -1,35 +1,35 @@
-// What the judge and the slack figure answer.
+// The answers of `judge` and `slack`.
 use plan::kinds::Slots;
 ghost use mathlib.Core.Path.{_≡_};
 ghost use Rattle.judge.specs.Verdict.{isNone};
-ghost use Rattle.judge.specs.Answers.{report};
+ghost use Rattle.judge.specs.Answers.{verdictView};
 
-// The verdict on a plan: accepted, or the first fault in the judge's order with its first place.
+// The verdict on a plan: accepted, or the first fault in the judge's order with its first location.
 pub enum Verdict {
     Accepted,
     BufferTooShort,
     Unsound,
-    // A job and an interval.
+    // The job and the interval.
     OutsideWindow(usize, usize),
-    // A job.
+    // The job.
     WrongTotal(usize),
-    // An interval.
+    // The interval.
     OverCapacity(usize),
-    // An interval and a deadline.
+    // The interval and the deadline.
     BelowFloor(usize, Slots),
 }
 
-// The slack figure: none for a plan without HI jobs; the least slack with its first interval and deadline; or what the judge refuses,
-// but for the floor rule.
+// The slack figure: none if no job is HI; the least slack with its first interval and deadline; or
+// a refusal as by the judge, except for the floor rule.
 pub enum Slack {
     NoneEssential,
     Least(i64, usize, Slots),
     Refused(Verdict),
 }
 
-// Whether a verdict is that nothing is to be refused.
+// Whether a verdict is acceptance.
 pub fn is_accepted(v: Verdict) -> bool
-    ensures { λ r. ⌜ r ≡ isNone (report v) ⌝ }
+    ensures { λ r. ⌜ r ≡ isNone (verdictView v) ⌝ }
 {
     match v {
         Verdict::Accepted => true,

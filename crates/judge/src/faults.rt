@@ -1,4 +1,4 @@
-// What judge and slack refuse alike: 22 and 21, then rules 15 to 17.
+// The refusals that `judge` and `slack` share: 22 and 21, then rules 15 to 17.
 use crate::answers::Verdict;
 use crate::answers::is_accepted;
 use crate::totals::over_capacity;
@@ -14,12 +14,12 @@ ghost use lib.ListN.{length};
 ghost use Rattle.plan.specs.Edition.{places};
 ghost use Rattle.plan.specs.Boundaries.{boundaries, intervals};
 ghost use Rattle.judge.specs.Verdict.{orElse, handFault, constraintFault};
-ghost use Rattle.judge.specs.Answers.{report};
+ghost use Rattle.judge.specs.Answers.{verdictView};
 
-// What is refused before the constraints are looked at: 22, then 21; told how many boundaries there are.
+// The refusals before the constraints: 22, then 21. `count` is the number of boundaries.
 fn in_hand(p: Plan, table: &[u32], count: usize) -> Verdict
     requires { ⌜ count ≡ length (boundaries p) ⌝ }
-    ensures { λ r. ⌜ report r ≡ handFault p (now (table .entry)) ⌝ }
+    ensures { λ r. ⌜ verdictView r ≡ handFault p (now (table .entry)) ⌝ }
 {
     if table.len() < Edition::PLACES {
         return Verdict::BufferTooShort;
@@ -36,7 +36,7 @@ fn in_hand(p: Plan, table: &[u32], count: usize) -> Verdict
 // Rules 15 to 17.
 fn constraints(p: Plan, table: &[u32], times: &[u32], spans: usize) -> Verdict
     requires { ⌜ (now times ≡ boundaries p) × (spans ≡ intervals p) × (spans < length (now times)) × (places ≤ length (now table)) ⌝ }
-    ensures { λ r. ⌜ report r ≡ constraintFault p (now (table .entry)) ⌝ }
+    ensures { λ r. ⌜ verdictView r ≡ constraintFault p (now (table .entry)) ⌝ }
 {
     let outside = outside_window(p, table, times, spans);
     if !is_accepted(outside) {
@@ -49,10 +49,10 @@ fn constraints(p: Plan, table: &[u32], times: &[u32], spans: usize) -> Verdict
     over_capacity(p.n, counted_of(p), table, times, spans)
 }
 
-// All that judge and slack refuse alike.
+// All refusals that `judge` and `slack` share.
 pub(crate) fn refusal_of(p: Plan, table: &[u32], times: &[u32]) -> Verdict
     requires { ⌜ now times ≡ boundaries p ⌝ }
-    ensures { λ r. ⌜ report r ≡ orElse (handFault p (now (table .entry))) (constraintFault p (now (table .entry))) ⌝ }
+    ensures { λ r. ⌜ verdictView r ≡ orElse (handFault p (now (table .entry))) (constraintFault p (now (table .entry))) ⌝ }
 {
     let hand = in_hand(p, table, times.len());
     if !is_accepted(hand) {

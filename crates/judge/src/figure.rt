@@ -7,7 +7,7 @@ use crate::pair::start_of;
 use crate::rows::add_rows;
 use crate::rows::hi_deadlines_of;
 use crate::rows::pick;
-use crate::totals::carried;
+use crate::totals::capacity;
 use plan::boundaries::boundaries_of;
 use plan::edition::Edition;
 use plan::kinds::Plan;
@@ -23,12 +23,12 @@ ghost use lib.Signed.{leZ};
 ghost use Rattle.plan.specs.Edition.{mostJobs, mostIntervals, places};
 ghost use Rattle.plan.specs.Rules.{rulesHold};
 ghost use Rattle.plan.specs.Boundaries.{boundaries, intervals};
-ghost use Rattle.judge.specs.Constraints.{mostAtPlace, mostSide};
+ghost use Rattle.judge.specs.inner.Widths.{mostAtPlace, mostSide};
 ghost use Rattle.judge.specs.Slack.{leastSlack, slackFigure};
-ghost use Rattle.judge.specs.Columns.{sooner, columnTaken};
-ghost use Rattle.judge.specs.Answers.{figure, Measures, MeasuresPair};
+ghost use Rattle.judge.specs.inner.Columns.{sooner, columnTaken};
+ghost use Rattle.judge.specs.Answers.{slackView, Measures, MeasuresPair};
 
-// What the floor carries less what is asked of it.
+// The slack: the floor's capacity less the demand.
 fn slack_from(carries: Units, asked: Units) -> i64
     requires { ⌜ (carries .0 < mostSide) × (asked .0 < mostSide) ⌝ }
     ensures { λ r. ⌜ r ≡ subℕ (carries .0) (asked .0) ⌝ }
@@ -36,21 +36,23 @@ fn slack_from(carries: Units, asked: Units) -> i64
     carries.0 as i64 - asked.0 as i64
 }
 
-// The slack of an interval and a deadline, for any plan, table, interval and time: what the floor carries from the interval's start
-// to the deadline, less the HI units between them of jobs with deadline at most that. No sum of 32 bits and no product here passes 62 bits.
+// The slack of an interval and a deadline, for any plan, table, interval and time:
+// the floor's capacity from the interval's start to the deadline, less the demand.
+// Both are below 2^62, so nothing overflows.
 pub fn slack_of(p: Plan, table: &[u32], interval: usize, deadline: Slots) -> i64
     ensures { λ r. ⌜ MeasuresPair p (now (table .entry)) interval deadline r ⌝ }
 {
     let start = start_of(p, interval);
     let d = p.d;
-    let carries = carried(d, start.0, deadline.0);
+    let carries = capacity(d, start.0, deadline.0);
     let asked = demand_of(p, table, interval, deadline);
     slack_from(carries, asked)
 }
 
-// Of the figure so far and a pair at a deadline no earlier, the lesser; where they are equal, the one of the lower interval.
+// The lesser of the figure so far and a pair at a deadline no earlier; if the slacks are equal, the
+// lower interval; if the intervals are equal too, the figure so far.
 fn sooner_of(known: Slack, slack: i64, l: usize, time: Slots) -> Slack
-    ensures { λ r. ⌜ figure r ≡ sooner (figure known) slack l (time .0) ⌝ }
+    ensures { λ r. ⌜ slackView r ≡ sooner (slackView known) slack l (time .0) ⌝ }
 {
     match known {
         Slack::NoneEssential => Slack::Least(slack, l, time),
@@ -72,13 +74,15 @@ fn lesser_of(a: i64, b: i64) -> i64
     if a <= b { a } else { b }
 }
 
-// The figure with every interval before boundary m taken in, from the last back, where the boundary is a HI deadline. The column's
-// least slack is kept as numbers, from one above all of them, and taken in once behind the loop: a third of the instructions for a pair.
+// The figure `known`, updated with boundary m and every interval before it, from the last to
+// the first, if the boundary is a HI deadline (`due`). The loop keeps the column's least
+// slack in plain numbers, starting above every slack, and the figure is updated once after
+// it: a third of the instructions per pair.
 fn column_taken_in(due: bool, d: Rate, sums: &[u64], times: &[u32], m: usize, known: Slack) -> Slack
     requires { ⌜ (m < length (now times)) × (m ≤ length (now sums)) × (m ≤ mostIntervals) × ((j : ℕ) → j < m → getD (now sums) j 0 ≤ mostJobs * mostAtPlace) ⌝ }
-    ensures { λ r. ⌜ figure r ≡ cond due (columnTaken (d .0) (now (sums .entry)) (now (times .entry)) m m (figure known)) (figure known) ⌝ }
+    ensures { λ r. ⌜ slackView r ≡ cond due (columnTaken (d .0) (now (sums .entry)) (now (times .entry)) m m (slackView known)) (slackView known) ⌝ }
 {
-    // Before the first boundary there is no interval, and so no slack.
+    // No interval lies before boundary 0, so there is no slack.
     if !due | (m == 0) {
         return known;
     }
@@ -90,7 +94,7 @@ fn column_taken_in(due: bool, d: Rate, sums: &[u64], times: &[u32], m: usize, kn
     while l > 0 {
         l -= 1;
         asked = Units(asked.0 + sums[l]);
-        let carries = carried(d, times[l], time);
+        let carries = capacity(d, times[l], time);
         let slack = slack_from(carries, asked);
         at = pick(slack <= best, l, at);
         best = lesser_of(slack, best);
@@ -98,11 +102,11 @@ fn column_taken_in(due: bool, d: Rate, sums: &[u64], times: &[u32], m: usize, kn
     sooner_of(known, best, at, Slots(time))
 }
 
-// The least slack over all pairs. One pass over the boundaries: the column sums take in the rows of the HI jobs due at each, and each
-// HI deadline is looked at from its last interval back.
+// The least slack over all pairs, in one pass over the boundaries: at each, the rows of the HI jobs
+// due there are added to the column sums, and from a HI deadline the intervals are scanned backwards.
 fn least_slack(p: Plan, table: &[u32], times: &[u32], spans: usize) -> Slack
     requires { ⌜ (now times ≡ boundaries p) × (spans ≡ intervals p) × (spans < length (now times)) × (places ≤ length (now table)) × (rulesHold p ≡ true) ⌝ }
-    ensures { λ r. ⌜ figure r ≡ leastSlack p (now (table .entry)) ⌝ }
+    ensures { λ r. ⌜ slackView r ≡ leastSlack p (now (table .entry)) ⌝ }
 {
     let deadlines = hi_deadlines_of(p);
     let mut sums = [0u64; Edition::MOST_INTERVALS];
@@ -118,10 +122,10 @@ fn least_slack(p: Plan, table: &[u32], times: &[u32], spans: usize) -> Slack
     best
 }
 
-// The slack figure of a plan with its boundaries.
+// The slack figure of a plan, given its boundaries.
 fn slack_at(p: Plan, table: &[u32], times: &[u32]) -> Slack
     requires { ⌜ now times ≡ boundaries p ⌝ }
-    ensures { λ r. ⌜ figure r ≡ slackFigure p (now (table .entry)) ⌝ }
+    ensures { λ r. ⌜ slackView r ≡ slackFigure p (now (table .entry)) ⌝ }
 {
     let refusal = refusal_of(p, table, times);
     if !is_accepted(refusal) {

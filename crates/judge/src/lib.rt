@@ -1,4 +1,4 @@
-// Is a plan good, and by how much: the judge's verdict and the slack figure.
+// The judge's verdict on a plan, and the slack figure: is a plan good, and by how much.
 pub mod answers;
 mod faults;
 pub mod figure;
@@ -17,12 +17,12 @@ use plan::kinds::Plan;
 ghost use mathlib.Core.Path.{_≡_};
 ghost use Rattle.plan.specs.Boundaries.{boundaries};
 ghost use Rattle.judge.specs.Verdict.{judged};
-ghost use Rattle.judge.specs.Answers.{report, Judges};
+ghost use Rattle.judge.specs.Answers.{verdictView, Judges};
 
-// The verdict on a plan with its boundaries.
+// The verdict on a plan, given its boundaries.
 fn judge_at(p: Plan, table: &[u32], times: &[u32]) -> Verdict
     requires { ⌜ now times ≡ boundaries p ⌝ }
-    ensures { λ r. ⌜ report r ≡ judged p (now (table .entry)) ⌝ }
+    ensures { λ r. ⌜ verdictView r ≡ judged p (now (table .entry)) ⌝ }
 {
     let refusal = refusal_of(p, table, times);
     if !is_accepted(refusal) {

@@ -1,4 +1,5 @@
-// The two sides of one pair, for its slack: where an interval starts, and the demand on the floor from there to a time.
+// The parts of a pair's slack: the start of an interval, and the demand from it to a time.
+use base::sum_of;
 use plan::boundaries::boundaries_of;
 use plan::boundaries::present_of;
 use plan::edition::Edition;
@@ -7,18 +8,18 @@ use plan::kinds::Plan;
 use plan::kinds::Slots;
 use plan::kinds::Units;
 use plan::rules::counted_of;
-use sums::sum_of;
 ghost use mathlib.Core.Path.{_≡_};
 ghost use mathlib.Core.Bool.{_&&_};
 ghost use Prim.Native.Nat.{_+_, _*_, _≤_, _<_};
 ghost use lib.Dec.{leb};
-ghost use Rattle.sums.specs.Sum.{sum, on, strided};
+ghost use Rattle.base.specs.Sum.{sum, on, strided};
 ghost use Rattle.plan.specs.Edition.{mostIntervals};
 ghost use Rattle.plan.specs.Rules.{counted, deadline, isHi};
 ghost use Rattle.plan.specs.Boundaries.{boundary};
-ghost use Rattle.judge.specs.Constraints.{mostAtPlace, mostSide, demand};
+ghost use Rattle.judge.specs.Constraints.{demand};
+ghost use Rattle.judge.specs.inner.Widths.{mostAtPlace, mostSide};
 
-// The sum of some numbers of a table in a row, where they are wanted.
+// The sum of `count` consecutive numbers of a table from place `start` on if wanted, otherwise 0.
 fn wanted_sum(wanted: bool, table: &[u32], start: usize, count: u32) -> Units
     requires { ⌜ count ≤ mostIntervals ⌝ }
     ensures { λ r. ⌜ (r .0 ≡ on wanted (sum (strided (now (table .entry)) start 1) count)) × (r .0 ≤ mostIntervals * mostAtPlace) ⌝ }
@@ -30,7 +31,7 @@ fn wanted_sum(wanted: bool, table: &[u32], start: usize, count: u32) -> Units
     }
 }
 
-// The HI units of jobs with deadline at most a time, in some intervals from interval l on.
+// The units of HI jobs with deadline at most `time` in the `count` intervals from l on.
 fn hi_units(p: Plan, table: &[u32], l: usize, count: u32, time: u32) -> Units
     requires { ⌜ (l ≤ mostIntervals) × (count ≤ mostIntervals) ⌝ }
     ensures { λ r. ⌜ (r .0 ≡ sum (λ i. on (isHi p i && leb (deadline p i) time) (sum (strided (now (table .entry)) (mostIntervals * i + l) 1) count)) (counted p)) × (r .0 ≤ counted p * (mostIntervals * mostAtPlace)) ⌝ }
@@ -49,7 +50,8 @@ fn hi_units(p: Plan, table: &[u32], l: usize, count: u32, time: u32) -> Units
     total
 }
 
-// The demand on the floor from an interval to a time: the HI units of jobs with deadline at most that, in the intervals that end by then.
+// The demand from an interval to a time: the units of HI jobs with deadline at or before that time,
+// in the intervals that end at or before it.
 pub(crate) fn demand_of(p: Plan, table: &[u32], interval: usize, time: Slots) -> Units
     ensures { λ r. ⌜ (r .0 ≡ demand p (now (table .entry)) interval (time .0)) × (r .0 < mostSide) ⌝ }
 {
@@ -60,7 +62,7 @@ pub(crate) fn demand_of(p: Plan, table: &[u32], interval: usize, time: Slots) ->
     hi_units(p, table, interval, (ended - interval) as u32, time.0)
 }
 
-// The boundary at which an interval starts; 0 for one that the plan has not.
+// The boundary at which an interval starts; 0 if the plan has no such boundary.
 pub(crate) fn start_of(p: Plan, interval: usize) -> Slots
     ensures { λ r. ⌜ r .0 ≡ boundary p interval ⌝ }
 {

@@ -1,4 +1,5 @@
-// What the passes over the boundaries share: the HI jobs' deadlines in a row, rows of the table added to column sums, and a choice.
+// Shared by the passes over the boundaries: the row of HI deadlines,
+// rows added to column sums, and a choice.
 use plan::boundaries::is_absent_time;
 use plan::edition::Edition;
 use plan::kinds::HI;
@@ -10,13 +11,14 @@ ghost use mathlib.Core.Bool.{not, cond};
 ghost use Prim.Native.Nat.{ℕ, _+_, _*_, _≤_, _<_};
 ghost use lib.Dec.{eqb};
 ghost use lib.ListN.{length, getD};
-ghost use Rattle.sums.specs.Sum.{sum, on};
+ghost use Rattle.base.specs.Sum.{sum, on};
 ghost use Rattle.plan.specs.Edition.{mostJobs, mostIntervals, places};
 ghost use Rattle.plan.specs.Rules.{isAbsent};
-ghost use Rattle.judge.specs.Constraints.{mostAtPlace, mostSide, units};
-ghost use Rattle.judge.specs.Columns.{never, hiDeadline};
+ghost use Rattle.judge.specs.Constraints.{units};
+ghost use Rattle.judge.specs.inner.Widths.{mostAtPlace, mostSide};
+ghost use Rattle.judge.specs.inner.Columns.{never, hiDeadline};
 
-// Adds a row's numbers to column sums, where they are wanted.
+// Adds the `spans` numbers of the row that begins at place `start` to the column sums, if wanted.
 fn add_row(sums: &mut [u64], wanted: bool, table: &[u32], start: usize, spans: usize)
     requires { ⌜ (spans ≤ length (now sums)) × (start + spans ≤ length (now table)) × ((j : ℕ) → j < spans → getD (now sums) j 0 ≤ mostSide) ⌝ }
     ensures { λ r. ⌜ (length (now (sums .exit)) ≡ length (now (sums .entry))) × ((j : ℕ) → j < spans → getD (now (sums .exit)) j 0 ≡ getD (now (sums .entry)) j 0 + on wanted (getD (now (table .entry)) (start + j) 0)) ⌝ }
@@ -32,7 +34,7 @@ fn add_row(sums: &mut [u64], wanted: bool, table: &[u32], start: usize, spans: u
     }
 }
 
-// Adds the rows of all jobs with a deadline to column sums; whether there are any.
+// Adds the rows of all jobs whose deadline is `time` to the column sums; returns whether there are any.
 pub(crate) fn add_rows(
     sums: &mut [u64],
     table: &[u32],
@@ -55,14 +57,15 @@ pub(crate) fn add_rows(
     true
 }
 
-// A deadline where it is wanted, and else a time that no sound plan reaches.
+// The deadline if wanted, otherwise a time that no sound plan reaches.
 fn deadline_if(wanted: bool, deadline: u32) -> u32
     ensures { λ r. ⌜ r ≡ cond wanted deadline never ⌝ }
 {
     if wanted { deadline } else { u32::MAX }
 }
 
-// The deadlines of the HI jobs in a row, at the places of their records.
+// The deadline of each counted HI job at its record's index; other
+// records get a time that no sound plan reaches.
 pub(crate) fn hi_deadlines_of(p: Plan) -> [u32; Edition::MOST_JOBS]
     ensures { λ r. ⌜ (length r ≡ mostJobs) × ((k : ℕ) → k < mostJobs → getD r k 0 ≡ hiDeadline p k) ⌝ }
 {
@@ -78,7 +81,7 @@ pub(crate) fn hi_deadlines_of(p: Plan) -> [u32; Edition::MOST_JOBS]
     row
 }
 
-// One of two numbers, by a test.
+// `a` if the test holds, otherwise `b`.
 pub(crate) fn pick(test: bool, a: usize, b: usize) -> usize
     ensures { λ r. ⌜ r ≡ cond test a b ⌝ }
 {

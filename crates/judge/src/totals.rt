@@ -1,26 +1,28 @@
-// Rules 16 and 17: each job has its size exactly, and no interval holds more than the normal rate carries in it.
+// Rules 16 and 17: each job's total is exactly its size, and no interval's
+// load exceeds the normal rate's capacity.
 use crate::answers::Verdict;
+use base::sum_of;
 use plan::edition::Edition;
 use plan::kinds::Plan;
 use plan::kinds::Rate;
 use plan::kinds::Slots;
 use plan::kinds::Units;
 use plan::rules::counted_of;
-use sums::sum_of;
 ghost use mathlib.Core.Path.{_≡_};
 ghost use mathlib.Core.List.{[], _∷_};
 ghost use Prim.Native.Nat.{suc, _*_, _-_, _≤_, _<_};
 ghost use lib.Dec.{ltb};
 ghost use lib.ListN.{length, getD};
-ghost use Rattle.sums.specs.Sum.{sum};
+ghost use Rattle.base.specs.Sum.{sum};
 ghost use Rattle.plan.specs.Edition.{mostJobs};
 ghost use Rattle.plan.specs.Refusal.{overCapacity};
 ghost use Rattle.plan.specs.Boundaries.{intervals};
-ghost use Rattle.judge.specs.Constraints.{mostSide, units};
+ghost use Rattle.judge.specs.Constraints.{units};
+ghost use Rattle.judge.specs.inner.Widths.{mostSide};
 ghost use Rattle.judge.specs.Verdict.{first, fault, totalFault};
-ghost use Rattle.judge.specs.Answers.{report};
+ghost use Rattle.judge.specs.Answers.{verdictView};
 
-// The time from one boundary to another, none where the other comes before.
+// The slots from one time to another; 0 if the second is earlier.
 fn elapsed(from: u32, to: u32) -> Slots
     ensures { λ r. ⌜ r ≡ record { 0 = to - from } ⌝ }
 {
@@ -31,8 +33,8 @@ fn elapsed(from: u32, to: u32) -> Slots
     }
 }
 
-// The units that a rate carries from one time to another.
-pub(crate) fn carried(rate: Rate, from: u32, to: u32) -> Units
+// The capacity of a rate from one time to another.
+pub(crate) fn capacity(rate: Rate, from: u32, to: u32) -> Units
     ensures { λ r. ⌜ (r .0 ≡ rate .0 * (to - from)) × (r .0 < mostSide) ⌝ }
 {
     rate.over(elapsed(from, to))
@@ -41,7 +43,7 @@ pub(crate) fn carried(rate: Rate, from: u32, to: u32) -> Units
 // Rule 16 over all jobs.
 pub(crate) fn wrong_total(p: Plan, table: &[u32], spans: usize) -> Verdict
     requires { ⌜ spans ≡ intervals p ⌝ }
-    ensures { λ r. ⌜ report r ≡ totalFault p (now (table .entry)) ⌝ }
+    ensures { λ r. ⌜ verdictView r ≡ totalFault p (now (table .entry)) ⌝ }
 {
     let jobs = counted_of(p);
     let mut i = 0;
@@ -57,12 +59,13 @@ pub(crate) fn wrong_total(p: Plan, table: &[u32], spans: usize) -> Verdict
     Verdict::Accepted
 }
 
-// Whether the units of the first jobs in interval j are more than a rate carries from one time to another.
+// Whether the units of the first `jobs` jobs in interval j exceed a
+// rate's capacity from one time to another.
 fn is_over(n: Rate, jobs: usize, table: &[u32], from: u32, to: u32, j: usize) -> bool
     requires { ⌜ jobs ≤ mostJobs ⌝ }
     ensures { λ r. ⌜ r ≡ ltb (n .0 * (to - from)) (sum (λ i. units (now (table .entry)) i j) jobs) ⌝ }
 {
-    let most = carried(n, from, to);
+    let most = capacity(n, from, to);
     let load = Units(sum_of(table, j, Edition::MOST_INTERVALS, jobs as u32));
     most.0 < load.0
 }
@@ -76,7 +79,7 @@ pub(crate) fn over_capacity(
     spans: usize,
 ) -> Verdict
     requires { ⌜ (jobs ≤ mostJobs) × (spans < length (now times)) ⌝ }
-    ensures { λ r. ⌜ report r ≡ first (λ j. fault (ltb (n .0 * (getD (now (times .entry)) (suc j) 0 - getD (now (times .entry)) j 0)) (sum (λ i. units (now (table .entry)) i j) jobs)) (overCapacity ∷ j ∷ [])) spans ⌝ }
+    ensures { λ r. ⌜ verdictView r ≡ first (λ j. fault (ltb (n .0 * (getD (now (times .entry)) (suc j) 0 - getD (now (times .entry)) j 0)) (sum (λ i. units (now (table .entry)) i j) jobs)) (overCapacity ∷ j ∷ [])) spans ⌝ }
 {
     let mut j = 0;
     while j < spans {

@@ -1,4 +1,4 @@
-// Rule 15: no allotment lies outside its job's window.
+// Rule 15: no job has units outside its window.
 use crate::answers::Verdict;
 use plan::edition::Edition;
 use plan::kinds::Plan;
@@ -15,16 +15,17 @@ ghost use Rattle.plan.specs.Below.{every};
 ghost use Rattle.plan.specs.Boundaries.{boundaries, intervals};
 ghost use Rattle.judge.specs.Constraints.{within};
 ghost use Rattle.judge.specs.Verdict.{first, fault, outsideFault};
-ghost use Rattle.judge.specs.Answers.{report};
+ghost use Rattle.judge.specs.Answers.{verdictView};
 
-// Whether the units of one interval, from one time to another, are inside a window or none.
+// Whether the interval between two times lies inside a window or has 0 units.
 fn place_inside(from: u32, to: u32, units: u32, release: u32, deadline: u32) -> bool
     ensures { λ r. ⌜ r ≡ (leb release from && leb to deadline || eqb units 0) ⌝ }
 {
     (release <= from) & (to <= deadline) | (units == 0)
 }
 
-// Whether the units of a row stand inside a window only. It looks at all of them, which is faster than to stop early.
+// Whether every interval of a row lies inside the window or has 0 units. It tests them
+// all, which is faster than stopping early.
 fn row_inside(
     table: &[u32],
     start: usize,
@@ -45,7 +46,8 @@ fn row_inside(
     inside
 }
 
-// The first interval of job i's row with units outside a window: the first up to which the row isn't inside.
+// The first interval of job i's row with units outside the window: the first j for
+// which the row up to and including j fails.
 fn outside_in_row(
     table: &[u32],
     start: usize,
@@ -56,7 +58,7 @@ fn outside_in_row(
     i: usize,
 ) -> Verdict
     requires { ⌜ (spans < length (now times)) × (start + spans ≤ length (now table)) ⌝ }
-    ensures { λ r. ⌜ report r ≡ first (λ j. fault (not (within (now (times .entry)) release deadline j || eqb (getD (now (table .entry)) (start + j) 0) 0)) (outsideWindow ∷ i ∷ j ∷ [])) spans ⌝ }
+    ensures { λ r. ⌜ verdictView r ≡ first (λ j. fault (not (within (now (times .entry)) release deadline j || eqb (getD (now (table .entry)) (start + j) 0) 0)) (outsideWindow ∷ i ∷ j ∷ [])) spans ⌝ }
 {
     let mut j = 0;
     while j < spans {
@@ -69,10 +71,10 @@ fn outside_in_row(
     Verdict::Accepted
 }
 
-// Rule 15 over all jobs: a row is searched for its place only where the whole row says that it has one.
+// Rule 15 over all jobs. A row is searched for its first interval only if the row as a whole fails.
 pub(crate) fn outside_window(p: Plan, table: &[u32], times: &[u32], spans: usize) -> Verdict
     requires { ⌜ (now times ≡ boundaries p) × (spans ≡ intervals p) × (spans < length (now times)) × (places ≤ length (now table)) ⌝ }
-    ensures { λ r. ⌜ report r ≡ outsideFault p (now (table .entry)) ⌝ }
+    ensures { λ r. ⌜ verdictView r ≡ outsideFault p (now (table .entry)) ⌝ }
 {
     let jobs = counted_of(p);
     let mut i = 0;

@@ -1,4 +1,5 @@
--- The laws of numbers in decimal: how the digits are found from the last, and how many there are.
+-- Laws of decimal numbers: how the digits are computed from the
+-- last to the first, and how many there are.
 use mathlib.Core.Path.{_≡_, sym, _∙_, ap}
 use mathlib.Core.Bool.{Bool, true, false, cond}
 use mathlib.Core.List.{List, [], _∷_}
@@ -8,12 +9,12 @@ use native.Mathlib.Decide.{decLt}
 use native.Mathlib.Omega.{arith}
 use borrow.Author.Tests.{lt-ltb, le-ltb}
 use lib.Dec.{ltb}
-use lib.ListN.{length, drop, set, take}
-use lib.Seq.{set-split, drop-at, length-take-le}
+use lib.ListN.{length, drop, set}
+use Rattle.base.proofs.Stores.{drop-set}
 use Rattle.lines.specs.Text.{digits, digit, decimal}
-use Rattle.lines.specs.Growth.{mostDigits}
+use Rattle.lines.specs.inner.Growth.{mostDigits}
 
--- The digits of a number that has one, and of a number that has more.
+-- The digits of a number with one digit, and of a number with more.
 pub digits-one : (most n : ℕ) (tail : List ℕ) → n < 10 → digits (suc most) n tail ≡ digit n ∷ tail
 unfolding digits
 digits-one most n tail h = rw (lt-ltb n 10 h)
@@ -22,11 +23,11 @@ pub digits-more : (most n : ℕ) (tail : List ℕ) → 10 ≤ n → digits (suc 
 unfolding digits
 digits-more most n tail h = rw (le-ltb n 10 h)
 
--- A number without its last digit has one digit less.
+-- Dropping the last digit leaves one digit less.
 pub shorter : (most n : ℕ) → n < 10 ^ suc most → n / 10 < 10 ^ most
 shorter most n h = div-lt-iff-lt-mul {k = 10} {x = n} {y = 10 ^ most} (omega arith) .1 (rw (pow-suc 10 most) at h)
 
--- Where there is room for all digits, more room changes nothing.
+-- If there is room for all digits, more room changes nothing.
 digits-room : (most more n : ℕ) (tail : List ℕ) → n < 10 ^ suc most → most ≤ more → digits (suc most) n tail ≡ digits (suc more) n tail
 digits-room zero more n tail h l = digits-one 0 n tail h ∙ sym (digits-one more n tail h)
 digits-room (suc most) zero n tail h l = absurd (omega arith)
@@ -39,12 +40,12 @@ digits-room (suc most) (suc more) n tail h l =
     go (yes p) e = digits-one (suc most) n tail p ∙ sym (digits-one (suc more) n tail p)
     go (no p) e = digits-more (suc most) n tail (omega arith) ∙ e ∙ sym (digits-more (suc more) n tail (omega arith))
 
--- No number has more digits than its own value and one.
+-- A number n has at most n + 1 digits.
 few-digits : (n : ℕ) → n < 10 ^ suc n
 few-digits zero = omega arith
 few-digits (suc n) = omega (arith, few-digits n, pow-suc 10 (suc n))
 
--- Ten places hold the digits of every number of 32 bits.
+-- Room for ten digits is enough for every number below 10^10.
 pub digits-ten : (n : ℕ) → n < 10 ^ mostDigits → digits mostDigits n [] ≡ decimal n
 digits-ten n h = go (decLt n 9)
   where
@@ -62,16 +63,11 @@ digits-length (suc most) n tail = go (ltb n 10) (digits-length most (n / 10) (di
     go true h = omega arith
     go false h = omega arith
 
--- A number of 32 bits has at most ten digits.
+-- A number below 10^10 has at most ten digits.
 pub decimal-length : (n : ℕ) → n < 10 ^ mostDigits → length (decimal n) ≤ mostDigits
 decimal-length n h = omega (arith, digits-length mostDigits n [], ap length (digits-ten n h))
 
--- A store at a place, seen from there.
-pub drop-set : (l : List ℕ) (i a : ℕ) → i < length l → drop i (set l i a) ≡ a ∷ drop (suc i) l
-drop-set l i a h =
-    ap (drop i) (set-split l i a h) ∙ drop-at (take i l) (a ∷ drop (suc i) l) i (length-take-le i l (omega arith))
-
--- One more digit is found: what is left of the number, in front of the digits found, is the same text.
+-- One iteration of the loop: the rest of the number followed by the digits found remains the same text.
 pub digits-turn : (from rest : ℕ) (l : List ℕ) → from < length l → 0 < from → 10 ≤ rest
     → digits (suc (from - 1)) (rest / 10) (drop (suc (from - 1)) (set l from (digit (rest % 10)))) ≡ digits (suc from) rest (drop (suc from) l)
 digits-turn from rest l h o t =

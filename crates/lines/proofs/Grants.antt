@@ -1,4 +1,4 @@
--- The laws of grants in a line: one behind the other, and a dash where there are none.
+-- Laws of the grants in a line: each is appended to those before, and a dash replaces an empty text.
 use mathlib.Core.Path.{_≡_, refl, sym}
 use mathlib.Core.List.{List, [], _∷_, _++_}
 use Prim.Native.Nat.{ℕ, _+_}
@@ -8,7 +8,7 @@ use lib.ListN.{getD}
 use Rattle.plan.specs.Rules.{name}
 use Rattle.plan.specs.declared.kinds.Plan.{Plan}
 use Rattle.lines.specs.Text.{text}
-use Rattle.lines.specs.Growth.{Grown}
+use Rattle.lines.specs.inner.Growth.{Grown}
 use Rattle.lines.specs.Lines.{grantText, grantsText, orDash}
 use Rattle.lines.proofs.Growth.{grown-twice}
 
@@ -20,13 +20,13 @@ pub grants-next : (p : Plan) (grants : List ℕ) (n : ℕ) → grantsText p gran
 unfolding grantsText
 grants-next p grants n = rw add-one refl
 
--- Where the grants added nothing, a dash stands for them.
+-- If the grants appended nothing, a dash is appended for them.
 pub dash-for-none : {l m n : List ℕ} {at next end : ℕ} (g : List ℕ) → Grown l m at next g → next ≡ at → Grown m n at end (text " -")
     → Grown l n at end (orDash g)
 dash-for-none [] h e d = grown-twice h (rw (sym e) at d)
 dash-for-none (b ∷ g) h e d = absurd (omega (arith, h .end))
 
--- Where they added something, they stay as they are.
+-- If they appended something, they remain as they are.
 pub kept-for-some : {l m : List ℕ} {at next : ℕ} (g : List ℕ) → Grown l m at next g → (next ≡ at → ⊥) → Grown l m at next (orDash g)
 kept-for-some [] h o = absurd (o (omega (arith, h .end)))
 kept-for-some (b ∷ g) h o = h

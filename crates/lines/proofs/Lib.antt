@@ -1,5 +1,5 @@
 pub mod Growth
 pub mod Decimal
-pub mod Output
+pub mod Printing
 pub mod Grants
-pub mod Told
+pub mod Injective

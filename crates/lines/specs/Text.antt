@@ -1,4 +1,4 @@
--- What lines are made of: words, numbers in decimal, and names as their bytes.
+-- The parts of lines: words, numbers in decimal, and names as their bytes.
 use mathlib.Core.Bool.{cond}
 use mathlib.Core.List.{List, [], _∷_}
 use Prim.Native.Nat.{ℕ, zero, suc, _+_, _/_, _%_}
@@ -12,20 +12,20 @@ abbrev pub text : String → List ℕ
 text none = []
 text (c then s) = code c ∷ text s
 
--- The byte of a digit.
+-- The byte of a decimal digit.
 abbrev pub digit : ℕ → ℕ
 digit d = 48 + d
 
--- The digits of a number, in front of what follows; no more of them than the first argument says.
-unfoldable pub digits : ℕ → ℕ → List ℕ → List ℕ
+-- The decimal digits of n followed by `tail`; at most as many digits as the first argument.
+unfoldable pub digits : (count n : ℕ) (tail : List ℕ) → List ℕ
 digits zero n tail = tail
 digits (suc most) n tail = cond (ltb n 10) (digit n ∷ tail) (digits most (n / 10) (digit (n % 10) ∷ tail))
 
--- A number in decimal: no number n has more than n + 1 digits.
+-- A number in decimal; n has at most n + 1 digits.
 abbrev pub decimal : ℕ → List ℕ
 decimal n = digits (suc n) n []
 
--- The eight bytes of a name, the first one highest.
+-- The eight bytes of a name, highest first.
 abbrev pub nameText : ℕ → List ℕ
 nameText x =
     byteOf x 7 ∷ byteOf x 6 ∷ byteOf x 5 ∷ byteOf x 4 ∷ byteOf x 3 ∷ byteOf x 2 ∷ byteOf x 1 ∷ byteOf x 0 ∷ []

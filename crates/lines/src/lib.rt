@@ -1,5 +1,5 @@
-// What people read: every line that the program prints, made into a lent buffer. A call answers the line's length; a buffer that is
-// too short is refused and left as it was, and bytes past the line stay.
+// Every line that the program prints, written to a lent buffer. A call answers the line's length; a
+// buffer that is too short is refused and left as it was, and bytes past the line are unchanged.
 mod pieces;
 
 use crate::pieces::MOST_DIGITS;
@@ -18,23 +18,24 @@ use plan::kinds::Slots;
 use plan::refusal::BUFFER_TOO_SHORT;
 ghost use Prim.Native.Nat.{_≤_};
 ghost use lib.ListN.{length};
-ghost use Rattle.lines.specs.Growth.{mostDigits};
+ghost use Rattle.lines.specs.inner.Growth.{mostDigits};
 ghost use Rattle.lines.specs.Answers.{Prints, PrintsOutcome};
 ghost use Rattle.lines.specs.Lines.{slotHeader, outcomeHeader, strayLine, refusedLine, slotLine, refusedSlotLine, outcomeLine};
 
-// No line is longer: two numbers with a space each, the mode, a grant for every job, and the line feed.
+// The greatest length of a line: two numbers with a space each, the mode,
+// a grant for every job, and the line feed.
 pub const LONGEST_LINE: usize = 2 * (MOST_DIGITS + 1)
     + 1
     + Edition::MOST_JOBS * (1 + Edition::NAME_BYTES + 1 + MOST_DIGITS)
     + 1;
 
-// What a line's call answers: the line's length, or a refusal.
+// The answer of a line's call: the line's length, or a refusal.
 pub enum Printed {
     Length(usize),
     Refused(u8),
 }
 
-// Puts a line into a buffer, if there is room for all of it.
+// Copies a line into a buffer if all of it fits.
 fn print(line: &[u8], out: &mut [u8]) -> Printed
     ensures { λ r. ⌜ Prints (now (line .entry)) (now (out .entry)) r (now (out .exit)) ⌝ }
 {
@@ -45,28 +46,28 @@ fn print(line: &[u8], out: &mut [u8]) -> Printed
     Printed::Length(line.len())
 }
 
-// What stands above the slots.
+// The header of the slots.
 pub fn slot_header(out: &mut [u8]) -> Printed
     ensures { λ r. ⌜ Prints slotHeader (now (out .entry)) r (now (out .exit)) ⌝ }
 {
     print(b"slot speed mode grants\n", out)
 }
 
-// What stands above the outcomes.
+// The header of the outcomes.
 pub fn outcome_header(out: &mut [u8]) -> Printed
     ensures { λ r. ⌜ Prints outcomeHeader (now (out .entry)) r (now (out .exit)) ⌝ }
 {
     print(b"job outcome carried\n", out)
 }
 
-// What an odd last byte prints.
+// The line for an odd last byte.
 pub fn stray_line(out: &mut [u8]) -> Printed
     ensures { λ r. ⌜ Prints strayLine (now (out .entry)) r (now (out .exit)) ⌝ }
 {
     print(b"stray byte\n", out)
 }
 
-// What a refused plan prints.
+// The line of a refused plan.
 pub fn refused_line(number: u8, out: &mut [u8]) -> Printed
     ensures { λ r. ⌜ Prints (refusedLine number) (now (out .entry)) r (now (out .exit)) ⌝ }
 {
@@ -109,7 +110,7 @@ pub fn refused_slot_line(clock: Slots, speed: u16, number: u8, out: &mut [u8]) -
     print(&line[..at], out)
 }
 
-// The line of a transfer that ended as a word says. No such word is longer than a number.
+// The line of a job with a word for its outcome. No such word is longer than a 32-bit number.
 fn word_line(name: Name, word: &[u8], carried: u32, out: &mut [u8]) -> Printed
     requires { ⌜ length (now word) ≤ mostDigits ⌝ }
     ensures { λ r. ⌜ Prints (outcomeLine (name .0) (now (word .entry)) carried) (now (out .entry)) r (now (out .exit)) ⌝ }
@@ -124,7 +125,7 @@ fn word_line(name: Name, word: &[u8], carried: u32, out: &mut [u8]) -> Printed
     print(&line[..at], out)
 }
 
-// The line of a transfer. A refused outcome has no line: its number is the answer.
+// The line of a job. A refused outcome has no line: its number is the answer.
 pub fn outcome_line(name: Name, outcome: Outcome, carried: u32, out: &mut [u8]) -> Printed
     ensures { λ r. ⌜ PrintsOutcome name outcome carried (now (out .entry)) r (now (out .exit)) ⌝ }
 {

@@ -1,5 +1,5 @@
-// The pieces of a line: words, numbers in decimal, names as their bytes. Each is put behind what the line has so far, and answers
-// where the line then ends.
+// The pieces of a line: words, numbers in decimal, and names as their bytes. Each call appends one
+// to the line's first `at` bytes and returns the offset at which the line then ends.
 use plan::edition::Edition;
 use plan::kinds::Name;
 use plan::kinds::Plan;
@@ -14,12 +14,12 @@ ghost use Rattle.plan.specs.Edition.{nameBytes, mostJobs};
 ghost use Rattle.plan.specs.Rules.{counted};
 ghost use Rattle.lines.specs.Text.{text, decimal, nameText};
 ghost use Rattle.lines.specs.Lines.{modeText, grantText, grantsText, orDash};
-ghost use Rattle.lines.specs.Growth.{Grown, mostDigits, grantBytes};
+ghost use Rattle.lines.specs.inner.Growth.{Grown, mostDigits, grantBytes};
 
-// The digits of a number of 32 bits.
+// The greatest number of digits of a 32-bit number.
 pub(crate) const MOST_DIGITS: usize = 10;
 
-// Copies a text to a place.
+// Copies a text to offset `at` of a buffer.
 pub(crate) fn put(out: &mut [u8], at: usize, text: &[u8])
     requires { ⌜ at + length (now text) ≤ length (now out) ⌝ }
     ensures { λ _. ⌜ now (out .exit) ≡ paste (now (out .entry)) at (now (text .entry)) (length (now (text .entry))) ⌝ }
@@ -31,7 +31,7 @@ pub(crate) fn put(out: &mut [u8], at: usize, text: &[u8])
     }
 }
 
-// Puts a text behind the first bytes of a line.
+// Appends a text to a line.
 pub(crate) fn add(line: &mut [u8], at: usize, text: &[u8]) -> usize
     requires { ⌜ at + length (now text) ≤ length (now line) ⌝ }
     ensures { λ r. ⌜ Grown (now (line .entry)) (now (line .exit)) at r (now (text .entry)) ⌝ }
@@ -40,13 +40,13 @@ pub(crate) fn add(line: &mut [u8], at: usize, text: &[u8]) -> usize
     at + text.len()
 }
 
-// The digits of a number: they stand from a place to the end.
+// The digits of a number: the bytes from index `from` to the end.
 struct Digits {
     bytes: [u8; MOST_DIGITS],
     from: usize,
 }
 
-// The digits of a number, the last one first found.
+// The decimal digits of a number, computed from the last to the first.
 fn digits_of(number: u32) -> Digits
     ensures { λ r. ⌜ (drop (r .from) (r .bytes) ≡ decimal number) × (r .from ≤ mostDigits) × (length (r .bytes) ≡ mostDigits) ⌝ }
 {
@@ -62,7 +62,7 @@ fn digits_of(number: u32) -> Digits
     Digits { bytes, from }
 }
 
-// Puts a number in decimal behind the first bytes of a line.
+// Appends a number in decimal to a line.
 pub(crate) fn add_number(line: &mut [u8], at: usize, number: u32) -> usize
     requires { ⌜ at + mostDigits ≤ length (now line) ⌝ }
     ensures { λ r. ⌜ Grown (now (line .entry)) (now (line .exit)) at r (decimal number) × (r ≤ at + mostDigits) ⌝ }
@@ -97,7 +97,7 @@ fn name_text(name: Name) -> [u8; Edition::NAME_BYTES]
     ]
 }
 
-// Puts a name behind the first bytes of a line.
+// Appends a name to a line.
 pub(crate) fn add_name(line: &mut [u8], at: usize, name: Name) -> usize
     requires { ⌜ at + nameBytes ≤ length (now line) ⌝ }
     ensures { λ r. ⌜ Grown (now (line .entry)) (now (line .exit)) at r (nameText (name .0)) ⌝ }
@@ -106,7 +106,7 @@ pub(crate) fn add_name(line: &mut [u8], at: usize, name: Name) -> usize
     add(line, at, &bytes)
 }
 
-// Begins the line of a slot: its clock and its speed.
+// Begins the line of a slot with its clock and its speed.
 pub(crate) fn add_times(line: &mut [u8], clock: Slots, speed: u16) -> usize
     requires { ⌜ 2 * (mostDigits + 1) ≤ length (now line) ⌝ }
     ensures { λ r. ⌜ Grown (now (line .entry)) (now (line .exit)) 0 r (decimal (clock .0) ++ text " " ++ decimal speed ++ text " ") × (r ≤ 2 * (mostDigits + 1)) ⌝ }
@@ -124,14 +124,14 @@ pub(crate) fn mode_of(slow: bool) -> [u8; 1]
     if slow { [b'D'] } else { [b'N'] }
 }
 
-// What a grant row holds for job i: nothing past its end.
+// The grant of job i in a row; 0 past its end.
 fn grant_of(grants: &[u32], i: usize) -> u32
     ensures { λ r. ⌜ r ≡ getD (now (grants .entry)) i 0 ⌝ }
 {
     if i < grants.len() { grants[i] } else { 0 }
 }
 
-// Puts a grant behind the first bytes of a line, unless it is none.
+// Appends a grant to a line, unless it is 0.
 fn add_grant(line: &mut [u8], at: usize, name: Name, units: u32) -> usize
     requires { ⌜ at + grantBytes ≤ length (now line) ⌝ }
     ensures { λ r. ⌜ Grown (now (line .entry)) (now (line .exit)) at r (grantText (name .0) units) × (r ≤ at + grantBytes) ⌝ }
@@ -145,7 +145,7 @@ fn add_grant(line: &mut [u8], at: usize, name: Name, units: u32) -> usize
     add_number(line, next, units)
 }
 
-// Puts the grants of a plan's jobs behind the first bytes of a line.
+// Appends the grants of a plan's jobs to a line.
 fn add_each_grant(line: &mut [u8], at: usize, p: Plan, grants: &[u32]) -> usize
     requires { ⌜ at + mostJobs * grantBytes ≤ length (now line) ⌝ }
     ensures { λ r. ⌜ Grown (now (line .entry)) (now (line .exit)) at r (grantsText p (now (grants .entry)) (counted p)) × (r ≤ at + mostJobs * grantBytes) ⌝ }
@@ -162,7 +162,7 @@ fn add_each_grant(line: &mut [u8], at: usize, p: Plan, grants: &[u32]) -> usize
     next
 }
 
-// The same, and a dash where there are none.
+// The same, or a dash if there are none.
 pub(crate) fn add_grants(line: &mut [u8], at: usize, p: Plan, grants: &[u32]) -> usize
     requires { ⌜ at + mostJobs * grantBytes ≤ length (now line) ⌝ }
     ensures { λ r. ⌜ Grown (now (line .entry)) (now (line .exit)) at r (orDash (grantsText p (now (grants .entry)) (counted p))) × (r ≤ at + mostJobs * grantBytes) ⌝ }

@@ -1,4 +1,4 @@
--- The laws of tests and extremes below a length.
+-- Laws of `every`, `least` and `greatest`.
 use mathlib.Core.Path.{_≡_, refl, sym, _∙_, ap, ap₂}
 use mathlib.Core.Bool.{Bool, true, false, true≢false, _&&_, and-true, and-assoc}
 use Prim.Native.Nat.{ℕ, zero, suc, _+_, _-_, _≤_, _<_, min, max}
@@ -6,10 +6,11 @@ use native.Mathlib.Nat.{add-zero, add-suc}
 use native.Mathlib.Numerals.{add-one}
 use native.Mathlib.Decide.{decLt}
 use native.Mathlib.Omega.{arith}
-use Rattle.sums.proofs.Laws.{below-or-last}
+use Rattle.base.proofs.SumLaws.{below-or-last}
 use Rattle.plan.specs.Below.{every, least, greatest}
 
--- A test holds at every number below 0, and below the next length if it holds at the last too: as a loop finds it.
+-- `every` as a loop computes it: true over 0 numbers,
+-- and over n + 1 numbers the conjunction with test n.
 pub every-start : (test : ℕ → Bool) → every test 0 ≡ true
 unfolding every
 every-start test = refl
@@ -19,20 +20,20 @@ pub every-next : (test : ℕ → Bool) {so-far last : Bool} (n : ℕ) → so-far
 unfolding every
 every-next test n p q = rw (add-one, p, q) refl
 
--- Tests that agree below a length agree on it.
+-- Tests that agree below n have the same `every` over n.
 pub every-ext : (test other : ℕ → Bool) (n : ℕ) → ((k : ℕ) → k < n → test k ≡ other k) → every test n ≡ every other n
 unfolding every
 every-ext test other zero h = refl
 every-ext test other (suc n) h = ap₂ _&&_ (every-ext test other n (λ k l. h k (omega arith))) (h n (omega arith))
 
--- The first number may be tested first.
+-- `every` over n + 1 numbers is test 0 and the shifted test over n.
 pub every-shift : (test : ℕ → Bool) (n : ℕ) → every test (suc n) ≡ (test 0 && every (λ k. test (suc k)) n)
 unfolding every
 every-shift test zero = sym (and-true (test 0))
 every-shift test (suc n) =
     ap (λ b. b && test (suc n)) (every-shift test n) ∙ and-assoc (test 0) (every (λ k. test (suc k)) n) (test (suc n))
 
--- A test below a length splits at any number.
+-- `every` over m + n numbers splits at m.
 pub every-split : (test : ℕ → Bool) (m n : ℕ) → every test (m + n) ≡ (every test m && every (λ k. test (m + k)) n)
 unfolding every
 every-split test m zero = rw add-zero (sym (and-true (every test m)))
@@ -40,7 +41,7 @@ every-split test m (suc n) =
     rw add-suc
     (ap (λ b. b && test (m + n)) (every-split test m n) ∙ and-assoc (every test m) (every (λ k. test (m + k)) n) (test (m + n)))
 
--- The extremes, as a loop that counts up finds them.
+-- `greatest` and `least` as a loop computes them.
 pub greatest-start : (f : ℕ → ℕ) → greatest f 0 ≡ 0
 unfolding greatest
 greatest-start f = refl
@@ -62,7 +63,8 @@ unfolding least
 least-next f zero h e = absurd (omega arith)
 least-next f (suc n) h e = rw (add-one, e) refl
 
--- The least is no greater than any, and is one of them; the same of the greatest.
+-- `least f n` is a lower bound of f below n, and `greatest f n` an upper bound;
+-- both are attained if n > 0.
 pub least-lower : (f : ℕ → ℕ) (n i : ℕ) → i < n → least f n ≤ f i
 unfolding least
 least-lower f (suc zero) i h = let e : i ≡ 0 = omega arith in rw e (omega arith)
@@ -95,7 +97,7 @@ greatest-attained f (suc (suc n)) h = go (decLt (greatest f (suc n)) (f (suc n))
     go (yes l) w = (suc n, omega arith, omega arith)
     go (no l) w = (w .0, omega (arith, w .1), omega (arith, w .2))
 
--- Two tests that hold together hold each.
+-- Both conjuncts of a true conjunction are true.
 pub and-left : (a b : Bool) → (a && b) ≡ true → a ≡ true
 and-left true b e = refl
 and-left false b e = e
@@ -107,7 +109,7 @@ and-right false b e = absurd (true≢false (sym e))
 pub both : (a b : Bool) → (a && b) ≡ true → (a ≡ true) × (b ≡ true)
 both a b e = (and-left a b e, and-right a b e)
 
--- What holds at every number below a length holds at each, and the other way round.
+-- `every test n` is true exactly when the test is true at each k below n.
 pub every-at : (test : ℕ → Bool) (n k : ℕ) → every test n ≡ true → k < n → test k ≡ true
 unfolding every
 every-at test (suc n) k e h =
@@ -118,7 +120,7 @@ unfolding every
 every-all test zero h = refl
 every-all test (suc n) h = rw (every-all test n (λ k l. h k (omega arith)), h n (omega arith)) refl
 
--- The extremes of functions that agree below a length are equal.
+-- Functions that agree below n have the same `least` and `greatest`.
 pub least-ext : (f g : ℕ → ℕ) (n : ℕ) → ((k : ℕ) → k < n → f k ≡ g k) → least f n ≡ least g n
 unfolding least
 least-ext f g zero h = refl
@@ -130,7 +132,7 @@ unfolding greatest
 greatest-ext f g zero h = refl
 greatest-ext f g (suc n) h = ap₂ max (greatest-ext f g n (λ k l. h k (omega arith))) (h n (omega arith))
 
--- A test that holds from a number on does not matter past it.
+-- If a test is true from m up to n, `every test n` equals `every test m`.
 pub every-cut : (test : ℕ → Bool) (m n : ℕ) → m ≤ n → ((k : ℕ) → m ≤ k → k < n → test k ≡ true) → every test n ≡ every test m
 every-cut test m n h more =
     let e : n ≡ m + (n - m) = omega arith in

@@ -1,6 +1,6 @@
 pub mod Below
 pub mod Names
-pub mod Rising
-pub mod Come
+pub mod BoundaryOrder
+pub mod BoundaryCount
 pub mod Stray
-pub mod Timeline
+pub mod PresentInterval

@@ -1,4 +1,4 @@
--- The laws of names: which number a record's name is, and that equal names are equal in all eight bytes.
+-- Laws of names: the list of a plan's names, and the equality of names byte by byte.
 use mathlib.Core.Path.{_≡_, refl, sym, _∙_, ap, ap₂}
 use mathlib.Core.Bool.{not}
 use mathlib.Core.List.{List}
@@ -16,24 +16,24 @@ use Rattle.plan.specs.declared.kinds.Job.{Job}
 use Rattle.plan.specs.declared.kinds.Plan.{Plan}
 use Rattle.plan.proofs.Below.{every-ext}
 
--- The row of names has each record's own.
+-- Entry k of `names p` is the name in record k.
 pub name-at : (p : Plan) (k : ℕ) → getD (names p) k 0 ≡ jobOf p k .name .0
 unfolding names
 name-at p k = List·getD-map (λ (j : Job). j .name .0) (p .jobs) k noJob
 
--- Absent among the first i numbers is: none of the first i is x.
+-- x is absent from the prefix of length i exactly when none of the first i elements is x.
 pub absent-before : (l : List ℕ) (i x : ℕ) → i ≤ length l → isAbsent (take i l) x ≡ every (λ k. not (eqb (getD l k 0) x)) i
 unfolding isAbsent
 absent-before l i x h = rw (length-take-le i l h) (every-ext _ _ i (λ k l′. rw (getD-take i l k 0 l′) refl))
 
--- Numbers whose lowest bytes are equal, pair by pair, are equal as far as those bytes go.
+-- If the lowest w bytes of x and y agree, x and y are equal modulo 256^w.
 same-below : (x y w : ℕ) → ((k : ℕ) → k < w → byteOf x k ≡ byteOf y k) → x % 256 ^ w ≡ y % 256 ^ w
 same-below x y zero h = mod-one x ∙ sym (mod-one y)
 same-below x y (suc w) h =
     rw (pow-succ' 256 w, mod-mul x (lit< tt) (one-le-pow w 256 (lit< tt)), mod-mul y (lit< tt) (one-le-pow w 256 (lit< tt)))
     (ap₂ (λ a b. a * 256 ^ w + b) (h w (omega arith)) (same-below x y w (λ k l. h k (omega arith))))
 
--- Names are equal only if all eight bytes are, and then they are.
+-- Two names of eight bytes are equal exactly when all their bytes are.
 pub equal-by-bytes : (x y : ℕ) → x < 256 ^ 8 → y < 256 ^ 8 → (((k : ℕ) → k < 8 → byteOf x k ≡ byteOf y k) ↔ (x ≡ y))
 equal-by-bytes x y hx hy =
     (λ h. sym (mod-eq-of-lt hx) ∙ same-below x y 8 h ∙ mod-eq-of-lt hy, λ e k l. ap (λ n. byteOf n k) e)

@@ -1,4 +1,5 @@
--- The laws of stray places: behind the intervals of each row and behind the rows of all jobs, they are noStray over the whole table.
+-- Laws of `noStray`: the table has no stray place exactly when each job's row is 0 after
+-- the intervals and all rows after the jobs are 0.
 use mathlib.Core.Path.{_≡_, refl, sym, _∙_, ap, ap₂}
 use mathlib.Core.Bool.{Bool, _&&_, _||_, or-false, or-true}
 use mathlib.Core.List.{List, [], _∷_}
@@ -15,16 +16,17 @@ use Rattle.plan.specs.Boundaries.{intervals}
 use Rattle.plan.specs.Table.{noStray, soundWithin, sound}
 use Rattle.plan.specs.declared.kinds.Plan.{Plan}
 use Rattle.plan.proofs.Below.{every-ext, every-shift, every-split, every-all, every-cut}
-use Rattle.plan.proofs.Rising.{boundaries-few}
+use Rattle.plan.proofs.BoundaryOrder.{boundaries-few}
 
--- A test over the places is one over the rows.
+-- A test over width × n places is a test over n rows of width places.
 every-rows : (test : ℕ → Bool) (width n : ℕ) → every test (width * n) ≡ every (λ i. every (λ j. test (width * i + j)) width) n
 unfolding every
 every-rows test width zero = rw mul-zero refl
 every-rows test width (suc n) =
     rw mul-suc (every-split test (width * n) width ∙ ap (λ b. b && every (λ j. test (width * n + j)) width) (every-rows test width n))
 
--- No stray place, as a test over the places: past a list's end there is nothing.
+-- `noStray` over a prefix of length n, as a test of each place;
+-- past the end of the list a place reads as 0.
 stray-places : (width jobs spans q n : ℕ) (l : List ℕ)
     → noStray width jobs spans q (take n l)
     ≡ every (λ k. eqb (getD l k 0) 0 || ltb ((q + k) / width) jobs && ltb ((q + k) % width) spans) n
@@ -37,7 +39,8 @@ stray-places width jobs spans q (suc n) (u ∷ l) =
     ∙ every-ext _ _ n (λ k h. ap (λ a. eqb (getD l k 0) 0 || ltb (a / width) jobs && ltb (a % width) spans) (omega arith)))
     ∙ sym (every-shift (λ k. eqb (getD (u ∷ l) k 0) 0 || ltb ((q + k) / width) jobs && ltb ((q + k) % width) spans) n)
 
--- Numbers that may be anything below a length are 0 elsewhere exactly when those from there on are.
+-- The test `f j is 0 or j < free` over free + rest indices is the test for 0 over
+-- the last `rest` of them.
 zero-from : (f : ℕ → ℕ) (free rest : ℕ) → every (λ j. eqb (f j) 0 || ltb j free) (free + rest) ≡ every (λ k. eqb (f (free + k)) 0) rest
 zero-from f free rest =
     every-split (λ j. eqb (f j) 0 || ltb j free) free rest
@@ -45,11 +48,11 @@ zero-from f free rest =
     (every-all _ free (λ k l. ap (λ b. eqb (f k) 0 || b) (lt-ltb k free l) ∙ or-true (eqb (f k) 0)))
     (every-ext _ _ rest (λ k l. ap (λ b. eqb (f (free + k)) 0 || b) (le-ltb (free + k) free (omega arith)) ∙ or-false (eqb (f (free + k)) 0)))
 
--- A place of a table that is 0, or inside the first jobs and the first intervals.
+-- Place q holds 0, or its job is below `jobs` and its interval below `spans`.
 abbrev allowed : ℕ → ℕ → ℕ → List ℕ → ℕ → Bool
 allowed width jobs spans l q = eqb (getD l q 0) 0 || ltb (q / width) jobs && ltb (q % width) spans
 
--- In a job's row it is so when the row is clear behind the intervals.
+-- All places of a job's row are allowed exactly when the row is 0 from interval `spans` on.
 row-allowed : (width jobs spans rest i : ℕ) (l : List ℕ) → 0 < width → spans + rest ≡ width → i < jobs
     → every (λ k. eqb (getD l (width * i + spans + k) 0) 0) rest ≡ every (λ j. allowed width jobs spans l (width * i + j)) width
 row-allowed width jobs spans rest i l h whole m =
@@ -61,14 +64,15 @@ row-allowed width jobs spans rest i l h whole m =
     (sym (ap₂ (λ x y. ltb x jobs && ltb y spans) (mul-add-div h i j ∙ ap (λ x. i + x) (div-eq-of-lt b) ∙ add-zero i) (mul-add-mod-self-left width i j ∙ mod-eq-of-lt b)
     ∙ ap (λ t. t && ltb j spans) (lt-ltb i jobs m))))
 
--- Behind the jobs' rows it is so where there is a 0.
+-- A place after the rows of the jobs is allowed exactly when it holds 0.
 behind-allowed : (width jobs spans k : ℕ) (l : List ℕ) → 0 < width → eqb (getD l (width * jobs + k) 0) 0 ≡ allowed width jobs spans l (width * jobs + k)
 behind-allowed width jobs spans k l h =
     sym (ap (λ x. eqb (getD l (width * jobs + k) 0) 0 || x && ltb ((width * jobs + k) % width) spans)
     (ap (λ x. ltb x jobs) (mul-add-div h jobs k) ∙ le-ltb (jobs + k / width) jobs (omega arith))
     ∙ or-false (eqb (getD l (width * jobs + k) 0) 0))
 
--- No stray place: each job's row is clear behind the intervals, and all rows behind the jobs are.
+-- No place is stray exactly when each job's row is 0 from interval `spans` on
+-- and all rows after the jobs are 0.
 pub stray-parts : (width jobs more spans rest : ℕ) (l : List ℕ) → 0 < width → spans + rest ≡ width
     → (every (λ i. every (λ k. eqb (getD l (width * i + spans + k) 0) 0) rest) jobs && every (λ k. eqb (getD l (width * jobs + k) 0) 0) (width * more))
     ≡ noStray width jobs spans 0 (take (width * jobs + width * more) l)
@@ -80,13 +84,13 @@ stray-parts width jobs more spans rest l h whole =
     ∙ every-ext _ _ (width * jobs + width * more) (λ k b. ap (λ q. eqb (getD l k 0) 0 || ltb (q / width) jobs && ltb (q % width) spans) (sym (zero-add k)))
     ∙ sym (stray-places width jobs spans 0 (width * jobs + width * more) l)
 
--- Past a list's end every number is 0.
+-- Places past the end of the list do not change whether all places are 0.
 pub zero-past : (l : List ℕ) (start m n : ℕ) → m ≤ n → ((k : ℕ) → m ≤ k → k < n → length l ≤ start + k)
     → every (λ k. eqb (getD l (start + k) 0) 0) m ≡ every (λ k. eqb (getD l (start + k) 0) 0) n
 zero-past l start m n h past =
     sym (every-cut _ m n h (λ k a b. ap (λ x. eqb x 0) (List·getD-eq-default l 0 (past k a b))))
 
--- Told the plan's own number of intervals, a plan is sound within them.
+-- With the plan's own number of intervals, `soundWithin` is `sound`.
 pub sound-told : (p : Plan) (table : List ℕ) (spans : ℕ) → spans ≡ intervals p → soundWithin (min spans mostIntervals) p table ≡ sound p table
 unfolding sound
 sound-told p table spans e =

@@ -1,35 +1,35 @@
--- The bounds of the plan edition, by name. Every definition reads them from here.
+-- The bounds of the plan edition, by name.
 use Prim.Native.Nat.{ℕ, _+_, _*_, _-_}
 
--- Jobs: 1 to this many.
+-- The greatest number of jobs.
 abbrev pub mostJobs : ℕ
 mostJobs = 32
 
--- Boundaries: each job has two times.
+-- The greatest number of boundaries: two for each job.
 abbrev pub mostBoundaries : ℕ
 mostBoundaries = 2 * mostJobs
 
--- Intervals lie between neighbouring boundaries.
+-- The greatest number of intervals: one fewer than boundaries.
 abbrev pub mostIntervals : ℕ
 mostIntervals = mostBoundaries - 1
 
--- Rows of a plan file.
+-- The greatest number of rows in a plan file.
 abbrev pub mostRows : ℕ
 mostRows = 2016
 
--- The normal rate n.
+-- The greatest normal rate n.
 abbrev pub mostRate : ℕ
 mostRate = 1000
 
--- A deadline.
+-- The greatest deadline.
 abbrev pub mostDeadline : ℕ
 mostDeadline = 100_000
 
--- A size.
+-- The greatest size.
 abbrev pub mostSize : ℕ
 mostSize = 100_000_000
 
--- The table's own places: as many as the most intervals for each of the most jobs.
+-- The number of the table's own places: `mostIntervals` for each of `mostJobs` jobs.
 abbrev pub places : ℕ
 places = mostJobs * mostIntervals
 
@@ -37,18 +37,18 @@ places = mostJobs * mostIntervals
 abbrev pub versionByte : ℕ
 versionByte = 1
 
--- The bytes of a name.
+-- The number of bytes in a name.
 abbrev pub nameBytes : ℕ
 nameBytes = 8
 
--- The bytes of a file before its jobs: version, length, both rates and the job count.
+-- The number of bytes before the jobs of a file: version, length, both rates and the job count.
 abbrev pub headerBytes : ℕ
 headerBytes = 1 + 4 + 2 + 2 + 1
 
--- What the length byte of a job says.
+-- The value of a job's length byte.
 abbrev pub jobLength : ℕ
 jobLength = 21
 
--- What the length byte of a row says.
+-- The value of a row's length byte.
 abbrev pub rowLength : ℕ
 rowLength = 14

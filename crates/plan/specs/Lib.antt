@@ -1,3 +1,4 @@
+pub mod Kinds
 pub mod Edition
 pub mod Refusal
 pub mod Below

@@ -1,47 +1,47 @@
--- The refusal numbers, each under its name.
+-- The refusal numbers, by name.
 use Prim.Native.Nat.{ℕ}
 
--- No first byte, or it is not the version.
+-- There is no first byte, or it is not the version.
 abbrev pub wrongVersion : ℕ
 wrongVersion = 1
 
--- The bytes end inside a field, the length field is wrong, or bytes remain after the last row.
+-- The bytes end inside a field, the length field is wrong, or bytes follow the last row.
 abbrev pub wrongExtent : ℕ
 wrongExtent = 2
 
--- A job's or a row's length byte is wrong.
+-- The length byte of a job or of a row is wrong.
 abbrev pub wrongRecordLength : ℕ
 wrongRecordLength = 3
 
--- Rates outside the bounds.
+-- The rates are outside their bounds.
 abbrev pub wrongRates : ℕ
 wrongRates = 4
 
--- No job, or more than the edition has room for.
+-- The job count is 0 or above its bound.
 abbrev pub wrongJobCount : ℕ
 wrongJobCount = 5
 
--- A name byte outside 0x21 to 0x7E.
+-- A byte of a job's name is outside 0x21 to 0x7E.
 abbrev pub wrongNameByte : ℕ
 wrongNameByte = 6
 
--- A name that an earlier job has.
+-- A job has the name of an earlier job.
 abbrev pub nameTaken : ℕ
 nameTaken = 7
 
--- A grade byte that is neither LO nor HI.
+-- A grade byte is neither LO nor HI.
 abbrev pub wrongGrade : ℕ
 wrongGrade = 8
 
--- Release, size or deadline outside the bounds.
+-- A release, size or deadline is outside its bounds.
 abbrev pub wrongJobBounds : ℕ
 wrongJobBounds = 9
 
--- More rows than the edition has room for.
+-- The row count is above its bound.
 abbrev pub tooManyRows : ℕ
 tooManyRows = 10
 
--- A row names no job.
+-- A row has a name that no job has.
 abbrev pub rowWithoutJob : ℕ
 rowWithoutJob = 11
 
@@ -49,15 +49,15 @@ rowWithoutJob = 11
 abbrev pub rowWithoutInterval : ℕ
 rowWithoutInterval = 12
 
--- A row's units are 0.
+-- A row has 0 units.
 abbrev pub rowWithoutUnits : ℕ
 rowWithoutUnits = 13
 
--- A row does not come strictly after the one before.
+-- A row is not strictly after the row before it.
 abbrev pub rowOutOfOrder : ℕ
 rowOutOfOrder = 14
 
--- An allotment outside its job's window.
+-- A job has units in an interval outside its window.
 abbrev pub outsideWindow : ℕ
 outsideWindow = 15
 
@@ -69,7 +69,7 @@ wrongTotal = 16
 abbrev pub overCapacity : ℕ
 overCapacity = 17
 
--- The floor rule fails.
+-- The floor rule is broken.
 abbrev pub belowFloorRule : ℕ
 belowFloorRule = 18
 
@@ -77,11 +77,11 @@ belowFloorRule = 18
 abbrev pub clockAtEnd : ℕ
 clockAtEnd = 19
 
--- A speed above n.
+-- The speed is above n.
 abbrev pub speedAboveNormal : ℕ
 speedAboveNormal = 20
 
--- An unsound plan or run is handed in.
+-- The plan or the run is unsound.
 abbrev pub unsound : ℕ
 unsound = 21
 

@@ -1,87 +1,94 @@
--- Rules 4 to 9: what rates, a job count, names, grades, windows and sizes are allowed, alone and over a plan in hand.
+-- Rules 4 to 9: which rates, job counts, names, grades, windows and sizes are allowed,
+-- by themselves and over a plan in hand.
 use mathlib.Core.Bool.{Bool, not, _&&_, _||_}
 use mathlib.Core.List.{List, map}
 use Prim.Native.Nat.{ℕ, _/_, _%_, _^_, min}
 use lib.Dec.{leb, ltb, eqb}
-use lib.ListN.{length, getD}
+use lib.ListN.{length, getD, replicate}
+use Rattle.plan.specs.Kinds.{Amount, Position, Time}
 use Rattle.plan.specs.Edition.{nameBytes, mostJobs, mostRate, mostDeadline, mostSize}
 use Rattle.plan.specs.Below.{every}
 use Rattle.plan.specs.declared.kinds.Job.{Job}
 use Rattle.plan.specs.declared.kinds.Plan.{Plan}
 
--- The grade of an other transfer, LO.
+-- The grade LO, of a transfer that is not essential.
 abbrev pub lo : ℕ
 lo = 0
 
--- The grade of an essential transfer, HI.
+-- The grade HI, of an essential transfer.
 abbrev pub hi : ℕ
 hi = 1
 
--- Rule 4: the floor is at least 1 and below the normal rate, which is within its bound.
-abbrev pub ratesAllowed : ℕ → ℕ → Bool
+-- Rule 4: 1 ≤ d < n, and n is at most `mostRate`.
+abbrev pub ratesAllowed : (n d : ℕ) → Bool
 ratesAllowed n d = leb 1 d && ltb d n && leb n mostRate
 
--- Rule 5: there is a job, and there are no more than the edition has room for.
+-- Rule 5: there are 1 to `mostJobs` jobs.
 abbrev pub countAllowed : ℕ → Bool
 countAllowed count = leb 1 count && leb count mostJobs
 
--- A name is eight bytes, taken as one number; this is its byte k, counted from the last.
-abbrev pub byteOf : ℕ → ℕ → ℕ
+-- Byte k of a name, whose eight bytes are one number; byte 0 is the last one.
+abbrev pub byteOf : (x k : ℕ) → ℕ
 byteOf x k = x / 256 ^ k % 256
 
--- Rule 6: each of a name's eight bytes lies from 0x21 to 0x7E.
+-- Rule 6: each of the eight bytes of a name is in 0x21 to 0x7E.
 unfoldable pub nameAllowed : ℕ → Bool
 nameAllowed x = every (λ k. leb 0x21 (byteOf x k) && leb (byteOf x k) 0x7E) nameBytes
 
--- Names are the same when the numbers are. (proofs/Names: exactly when all eight bytes are.)
-abbrev pub sameName : ℕ → ℕ → Bool
+-- Two names are the same when their numbers are equal.
+-- (proofs/Names: exactly when all eight bytes are.)
+abbrev pub sameName : (a b : ℕ) → Bool
 sameName a b = eqb a b
 
--- No number of a list is x.
-unfoldable pub isAbsent : List ℕ → ℕ → Bool
+-- No element of the list is x.
+unfoldable pub isAbsent : (l : List ℕ) (x : ℕ) → Bool
 isAbsent l x = every (λ k. not (eqb (getD l k 0) x)) (length l)
 
--- Rule 8: the grade byte is LO's or HI's.
+-- Rule 8: the grade is LO or HI.
 abbrev pub gradeAllowed : ℕ → Bool
 gradeAllowed g = eqb g lo || eqb g hi
 
--- Rule 9, for a window: the release comes before the deadline, which is within its bound.
-abbrev pub windowAllowed : ℕ → ℕ → Bool
+-- Rule 9 for a window: the release is before the deadline, which is at most `mostDeadline`.
+abbrev pub windowAllowed : (from to : Time) → Bool
 windowAllowed from to = ltb from to && leb to mostDeadline
 
--- Rule 9, for a size: at least 1, and within its bound.
+-- Rule 9 for a size: from 1 to `mostSize`.
 abbrev pub sizeAllowed : ℕ → Bool
 sizeAllowed u = leb 1 u && leb u mostSize
 
--- A record that is not there reads as zeros.
+-- The zero record, which `jobOf` gives for an index without a record.
 abbrev pub noJob : Job
 noJob = record { name = record { 0 = 0 }; grade = 0; release = record { 0 = 0 }; size = record { 0 = 0 }; deadline = record { 0 = 0 } }
 
+-- The plan of a refusal: all zeros.
+abbrev pub noPlan : Plan
+noPlan = record { n = record { 0 = 0 }; d = record { 0 = 0 }; count = 0; jobs = replicate mostJobs noJob }
+
 -- The record of job i.
-abbrev pub jobOf : Plan → ℕ → Job
+abbrev pub jobOf : (p : Plan) (i : Position) → Job
 jobOf p i = getD (p .jobs) i noJob
 
--- The name of job i, as its record has it.
-abbrev pub name : Plan → ℕ → ℕ
+-- The name of job i.
+abbrev pub name : (p : Plan) (i : Position) → ℕ
 name p i = jobOf p i .name .0
 
 -- The release of job i.
-abbrev pub release : Plan → ℕ → ℕ
+abbrev pub release : (p : Plan) (i : Position) → Time
 release p i = jobOf p i .release .0
 
 -- The size of job i.
-abbrev pub size : Plan → ℕ → ℕ
+abbrev pub size : (p : Plan) (i : Position) → Amount
 size p i = jobOf p i .size .0
 
 -- The deadline of job i.
-abbrev pub deadline : Plan → ℕ → ℕ
+abbrev pub deadline : (p : Plan) (i : Position) → Time
 deadline p i = jobOf p i .deadline .0
 
--- Job i is essential: its grade is HI's.
-abbrev pub isHi : Plan → ℕ → Bool
+-- Whether job i is essential: its grade is HI.
+abbrev pub isHi : (p : Plan) (i : Position) → Bool
 isHi p i = eqb (jobOf p i .grade) hi
 
--- How many of the records count: never more than there are.
+-- The number of counted jobs: the plan's count, but at most `mostJobs`.
 abbrev pub counted : Plan → ℕ
 counted p = min (p .count) mostJobs
 
@@ -101,7 +108,7 @@ countHolds p = countAllowed (p .count)
 unfoldable pub namesHold : Plan → Bool
 namesHold p = every (λ i. nameAllowed (name p i)) (counted p)
 
--- Rule 7 over a plan in hand: no counted job has a name that an earlier job has.
+-- Rule 7 over a plan in hand: no counted job has the name of an earlier one.
 unfoldable pub namesDiffer : Plan → Bool
 namesDiffer p = every (λ i. every (λ k. not (sameName (name p k) (name p i))) i) (counted p)
 

@@ -1,4 +1,4 @@
--- When two plans in hand, each with its table, are the same.
+-- When two plans in hand, each with its table, are the same plan.
 use mathlib.Core.Path.{_≡_}
 use mathlib.Core.List.{List}
 use Prim.Native.Nat.{ℕ, _<_}
@@ -7,7 +7,8 @@ use Rattle.plan.specs.Edition.{places}
 use Rattle.plan.specs.Rules.{counted, jobOf}
 use Rattle.plan.specs.declared.kinds.Plan.{Plan}
 
--- Rates, count, the counted records and the table's own places are equal; nothing else of a plan in hand is looked at.
+-- The rates, the count, the counted records and the table's own places are equal;
+-- all else may differ.
 pub record Same (p : Plan) (table : List ℕ) (q : Plan) (other : List ℕ) : Type 0 where
   pub n : p .n ≡ q .n
   pub d : p .d ≡ q .d

@@ -1,41 +1,45 @@
--- The table: a row of places for each job, one for each interval; and when a plan in hand is sound.
+-- The table: a row of places for each job, one place per interval;
+-- and the soundness of a plan in hand.
 use mathlib.Core.Bool.{Bool, true, cond, _&&_, _||_}
 use mathlib.Core.List.{List, [], _∷_}
 use Prim.Native.Nat.{ℕ, suc, _+_, _*_, _/_, _%_}
 use lib.Dec.{ltb, eqb}
 use lib.ListN.{getD, take}
-use Rattle.sums.specs.Sum.{on}
+use Rattle.plan.specs.Kinds.{Amount, Interval, Position, Table}
+use Rattle.base.specs.Sum.{on}
 use Rattle.plan.specs.Edition.{mostIntervals, places}
 use Rattle.plan.specs.Rules.{rulesHold, counted}
 use Rattle.plan.specs.Boundaries.{intervals}
 use Rattle.plan.specs.declared.kinds.Plan.{Plan}
 
--- The place of job i in interval j, in a table with width places for each job.
-abbrev pub place : ℕ → ℕ → ℕ → ℕ
+-- The place of job i in interval j, in a table with `width` places per job.
+abbrev pub place : (width : ℕ) (i : Position) (j : Interval) → ℕ
 place width i j = width * i + j
 
--- The allotment of job i in interval j.
-abbrev pub allotment : ℕ → List ℕ → ℕ → ℕ → ℕ
+-- The allotment of job i in interval j, or 0 past the end of the table.
+abbrev pub allotment : (width : ℕ) (table : Table) (i : Position) (j : Interval) → Amount
 allotment width table i j = getD table (place width i j) 0
 
--- The place where the table has room for the job and the interval, and else the first place past it.
-abbrev pub placeIn : ℕ → ℕ → ℕ → ℕ → ℕ
+-- The place of job i in interval j if both are in bounds, otherwise the first place past the table.
+abbrev pub placeIn : (jobs width : ℕ) (i : Position) (j : Interval) → ℕ
 placeIn jobs width i j = cond (ltb i jobs && ltb j width) (place width i j) (jobs * width)
 
--- The allotment where the table has room for the job and the interval, and else nothing.
-abbrev pub allotmentIn : ℕ → ℕ → List ℕ → ℕ → ℕ → ℕ
+-- The allotment of job i in interval j if both are in bounds, otherwise 0.
+abbrev pub allotmentIn : (jobs width : ℕ) (table : Table) (i : Position) (j : Interval) → Amount
 allotmentIn jobs width table i j = on (ltb i jobs && ltb j width) (allotment width table i j)
 
--- From place q on, nothing stands outside the first jobs and the first intervals.
+-- Each number of the list, whose first is at place q, is 0 unless its job is below `jobs`
+-- and its interval below `spans`.
 unfoldable pub noStray : ℕ → ℕ → ℕ → ℕ → List ℕ → Bool
 noStray width jobs spans q [] = true
 noStray width jobs spans q (u ∷ l) =
     (eqb u 0 || ltb (q / width) jobs && ltb (q % width) spans) && noStray width jobs spans (suc q) l
 
--- Rules 4 to 9 hold, and no place of the table outside the jobs and so many intervals is used.
-abbrev pub soundWithin : ℕ → Plan → List ℕ → Bool
+-- Rules 4 to 9 hold, and each of the table's own places is 0 unless its job is counted
+-- and its interval below `spans`.
+abbrev pub soundWithin : (spans : ℕ) (p : Plan) (table : Table) → Bool
 soundWithin spans p table = rulesHold p && noStray mostIntervals (counted p) spans 0 (take places table)
 
--- A plan and its table are sound for judge and writer: within the plan's own intervals.
-unfoldable pub sound : Plan → List ℕ → Bool
+-- Soundness for judge and writer: `soundWithin` the plan's own intervals.
+unfoldable pub sound : (p : Plan) (table : Table) → Bool
 sound p table = soundWithin (intervals p) p table

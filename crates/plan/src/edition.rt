@@ -1,4 +1,4 @@
-// The bounds that belong to the plan edition. Everything else reads them from here, by name.
+// The bounds of the plan edition, by name.
 
 pub struct Edition();
 
@@ -11,7 +11,8 @@ impl Edition {
     pub const MOST_BOUNDARIES: usize = 2 * Self::MOST_JOBS;
 
     pub const MOST_INTERVALS: usize = Self::MOST_BOUNDARIES - 1;
-    // A bound on a file's rows. The table's own places are PLACES, whatever this number is.
+    // The bound on a file's row count. The number of the table's own places is PLACES,
+    // independent of this bound.
     pub const MOST_ROWS: usize = 2016;
 
     pub const MOST_RATE: u16 = 1000;
@@ -24,13 +25,14 @@ impl Edition {
 
     pub const NAME_BYTES: usize = 8;
 
-    // What the length byte of a job and of a row says: the bytes that follow it.
+    // The values of the length bytes of a job and of a row:
+    // the number of bytes after the length byte.
     pub const JOB_LENGTH: usize = 21;
 
     pub const ROW_LENGTH: usize = 14;
-    // Version and length; what the length says follows them.
+    // The version byte and the length field, which counts the bytes after these two.
     pub const OPENING_BYTES: usize = 5;
-    // The opening, both rates and the job count; the row count after the jobs.
+    // The opening, both rates and the job count.
     pub const HEADER_BYTES: usize = Self::OPENING_BYTES + 5;
 
     pub const ROW_COUNT_BYTES: usize = 2;

@@ -1,18 +1,19 @@
-// Slots, units, the rate that alone joins them, and the records of a plan in hand.
+// Slots, units, the rate that relates them, and the records of a plan in hand.
 use crate::edition::Edition;
 ghost use mathlib.Core.Path.{_≡_};
 ghost use Prim.Native.Nat.{_*_};
 
-// A count of time. A clock and a boundary are such counts.
+// A number of slots: a time or a length of time.
 pub struct Slots(pub u32);
 
-// A count of work. It is wide enough for every sum over a table, so no sum of units wraps.
+// A number of units of work. 64 bits hold every sum over a table, so no sum of units wraps.
 pub struct Units(pub u64);
 
 // Units per slot.
 pub struct Rate(pub u16);
 
-// A name's eight bytes as one number, the first byte highest: two names are equal exactly when the numbers are.
+// A name's eight bytes as one number, the first byte highest.
+// Two names are equal exactly when the numbers are.
 pub struct Name(pub u64);
 
 pub const LO: u8 = 0;
@@ -21,14 +22,15 @@ pub const HI: u8 = 1;
 
 pub struct Job {
     pub name: Name,
-    // LO or HI; a plan in hand can hold any byte here, and rule 8 refuses the others.
+    // LO or HI. A plan in hand can hold any byte here; rule 8 refuses the others.
     pub grade: u8,
     pub release: Slots,
     pub size: Units,
     pub deadline: Slots,
 }
 
-// A plan in hand, beside the table that is lent with it. The count can be any number: rule 5 is tested before it is used.
+// A plan in hand, without the table that is lent with it. The count can be any number:
+// loops that can run before rule 5 is tested are bounded by `counted_of`.
 pub struct Plan {
     pub n: Rate,
     pub d: Rate,
@@ -37,7 +39,8 @@ pub struct Plan {
 }
 
 impl Rate {
-    // The units that this rate carries in a time. No other expression brings slots and units together.
+    // The units carried at this rate in a length of time.
+    // No other expression multiplies a rate by slots.
     pub fn over(self, time: Slots) -> Units
         ensures { λ r. ⌜ r ≡ record { 0 = self .0 * time .0 } ⌝ }
     {

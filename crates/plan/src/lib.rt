@@ -1,5 +1,5 @@
-// What a plan is: the edition's bounds; slots, units and the rate that joins them; jobs; rules 4 to 9 on a plan in hand;
-// its boundaries and intervals; the places of its table.
+// What a plan is: the edition's bounds; slots, units and rates; jobs;
+// rules 4 to 9 on a plan in hand; its boundaries and intervals; the places of its table.
 pub mod boundaries;
 pub mod edition;
 pub mod kinds;

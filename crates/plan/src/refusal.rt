@@ -1,6 +1,6 @@
-// The refusal numbers, each under its name.
+// The refusal numbers, by name.
 
-// Faults of a plan file, in the order in which its bytes come.
+// Refusals of the reader.
 pub const WRONG_VERSION: u8 = 1;
 
 pub const WRONG_EXTENT: u8 = 2;
@@ -29,7 +29,7 @@ pub const ROW_WITHOUT_UNITS: u8 = 13;
 
 pub const ROW_OUT_OF_ORDER: u8 = 14;
 
-// Faults of a plan, in the order in which the judge looks for them.
+// Refusals of the judge, in the order in which it tests.
 pub const OUTSIDE_WINDOW: u8 = 15;
 
 pub const WRONG_TOTAL: u8 = 16;
@@ -38,12 +38,12 @@ pub const OVER_CAPACITY: u8 = 17;
 
 pub const BELOW_FLOOR_RULE: u8 = 18;
 
-// Faults of a slot's call.
+// Refusals of the step.
 pub const CLOCK_AT_END: u8 = 19;
 
 pub const SPEED_ABOVE_NORMAL: u8 = 20;
 
-// What any call with a plan, a run or a lent buffer can answer.
+// Refusals of several calls.
 pub const UNSOUND: u8 = 21;
 
 pub const BUFFER_TOO_SHORT: u8 = 22;

@@ -1,4 +1,4 @@
-// Rules 4 to 9, each on the values it speaks of, and each over a plan in hand.
+// Rules 4 to 9, each on single values and over a plan in hand.
 use crate::edition::Edition;
 use crate::kinds::HI;
 use crate::kinds::LO;
@@ -42,7 +42,7 @@ pub fn name_allowed(name: Name) -> bool
     allowed
 }
 
-// Whether none of some numbers is x. It looks at all of them, which is faster than to stop early.
+// Whether none of the numbers is x. It scans all of them, which is faster than stopping early.
 pub fn is_absent(numbers: &[u64], x: u64) -> bool
     ensures { λ r. ⌜ r ≡ isAbsent (now (numbers .entry)) x ⌝ }
 {
@@ -62,7 +62,7 @@ pub fn grade_allowed(grade: u8) -> bool
     (grade == LO) | (grade == HI)
 }
 
-// Rule 9, on a window and on a size.
+// Rule 9, for a window and for a size.
 pub fn window_allowed(release: Slots, deadline: Slots) -> bool
     ensures { λ r. ⌜ r ≡ windowAllowed (release .0) (deadline .0) ⌝ }
 {
@@ -75,7 +75,7 @@ pub fn size_allowed(size: Units) -> bool
     (1 <= size.0) & (size.0 <= Edition::MOST_SIZE)
 }
 
-// How many of the records count: never more than there are.
+// The number of counted jobs: the plan's count, but at most the number of records.
 pub fn counted_of(p: Plan) -> usize
     ensures { λ r. ⌜ r ≡ counted p ⌝ }
 {
@@ -87,7 +87,7 @@ pub fn counted_of(p: Plan) -> usize
     }
 }
 
-// The names of all records, as numbers in a row.
+// The names of all records, in order, as numbers.
 pub fn names_of(p: Plan) -> [u64; Edition::MOST_JOBS]
     ensures { λ r. ⌜ r ≡ names p ⌝ }
 {
@@ -164,7 +164,7 @@ pub fn bounds_hold(p: Plan) -> bool
     holds
 }
 
-// Rules 4 to 9 together: what judge and writer ask of a plan besides its table.
+// Rules 4 to 9 together: what judge and writer require of a plan, apart from its table.
 pub fn rules_hold(p: Plan) -> bool
     ensures { λ r. ⌜ r ≡ rulesHold p ⌝ }
 {

@@ -1,4 +1,4 @@
-// The places of the table, what stands there, and whether a plan and its table are sound.
+// The places of the table, their allotments, and the soundness of a plan with its table.
 use crate::edition::Edition;
 use crate::kinds::Plan;
 use crate::kinds::Units;
@@ -12,7 +12,7 @@ ghost use Rattle.plan.specs.Edition.{mostJobs, mostIntervals, places};
 ghost use Rattle.plan.specs.Below.{every};
 ghost use Rattle.plan.specs.Table.{placeIn, allotmentIn, noStray, soundWithin};
 
-// The place of job i in interval j; the first place past the table for a job or an interval that it has no room for.
+// The place of job i in interval j, or the first place past the table if i or j is out of bounds.
 pub fn place(i: usize, j: usize) -> usize
     ensures { λ r. ⌜ r ≡ placeIn mostJobs mostIntervals i j ⌝ }
 {
@@ -25,7 +25,7 @@ pub fn place(i: usize, j: usize) -> usize
     Edition::MOST_INTERVALS * i + j
 }
 
-// The allotment of job i in interval j: nothing where the table has no such place.
+// The allotment of job i in interval j, or 0 if i, j or the place is out of bounds.
 pub fn allotment(table: &[u32], i: usize, j: usize) -> Units
     ensures { λ r. ⌜ r ≡ record { 0 = allotmentIn mostJobs mostIntervals (now (table .entry)) i j } ⌝ }
 {
@@ -42,14 +42,15 @@ pub fn allotment(table: &[u32], i: usize, j: usize) -> Units
     Units(table[at] as u64)
 }
 
-// A number, held at a bound.
+// The lesser of a number and a bound.
 fn at_most(n: usize, most: usize) -> usize
     ensures { λ r. ⌜ r ≡ min n most ⌝ }
 {
     if n <= most { n } else { most }
 }
 
-// Whether a count of numbers from a start on are 0; past the end there are none. It looks at all of them, which is faster than to stop early.
+// Whether the `count` entries from index `start` on are 0; entries past the end count as 0.
+// It scans all of them, which is faster than stopping early.
 fn all_zero(table: &[u32], start: usize, count: usize) -> bool
     requires { ⌜ start + count ≤ places ⌝ }
     ensures { λ r. ⌜ r ≡ every (λ k. eqb (getD (now (table .entry)) (start + k) 0) 0) count ⌝ }
@@ -64,7 +65,8 @@ fn all_zero(table: &[u32], start: usize, count: usize) -> bool
     zero
 }
 
-// Whether nothing stands in the table's own places outside the first jobs and the first intervals.
+// Whether each of the table's own places is 0 unless its job is below `jobs`
+// and its interval below `spans`.
 fn no_stray(table: &[u32], jobs: usize, spans: usize) -> bool
     requires { ⌜ (jobs ≤ mostJobs) × (spans ≤ mostIntervals) ⌝ }
     ensures { λ r. ⌜ r ≡ noStray mostIntervals jobs spans 0 (take places (now (table .entry))) ⌝ }
@@ -80,7 +82,7 @@ fn no_stray(table: &[u32], jobs: usize, spans: usize) -> bool
     clear & all_zero(table, used, Edition::PLACES - used)
 }
 
-// Whether a plan and its table are sound for judge and writer, told how many intervals the plan has.
+// Whether a plan with its table is sound for judge and writer, given its number of intervals.
 pub fn sound_of(p: Plan, table: &[u32], spans: usize) -> bool
     ensures { λ r. ⌜ r ≡ soundWithin (min spans mostIntervals) p (now (table .entry)) ⌝ }
 {

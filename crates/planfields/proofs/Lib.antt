@@ -1,3 +1,3 @@
-pub mod Digits
-pub mod Steps
-pub mod Heads
+pub mod ByteLaws
+pub mod ParserLaws
+pub mod HeadLaws

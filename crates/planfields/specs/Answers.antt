@@ -1,9 +1,10 @@
--- What the answers of the code say: for each enum its report, as a step of the reading; and what each field reader promises.
+-- The views of the field readers' answers as parser results, and the contracts of the readers.
 use mathlib.Core.Path.{_≡_}
 use mathlib.Core.Bool.{not}
 use mathlib.Core.List.{List}
 use Prim.Native.Nat.{ℕ, _<_, _^_}
 use lib.Dec.{leb, ltb, eqb}
+use Rattle.plan.specs.Kinds.{Bytes, Offset}
 use Rattle.plan.specs.Edition.{mostJobs, mostRows}
 use Rattle.plan.specs.Refusal.{tooManyRows, rowWithoutInterval, rowWithoutUnits}
 use Rattle.plan.specs.declared.kinds.Job.{Job}
@@ -17,81 +18,82 @@ use Rattle.planfields.specs.declared.head.HeadRead.the-variants as head
 use Rattle.planfields.specs.declared.job.JobRead.{JobRead}
 use Rattle.planfields.specs.declared.job.JobRead.the-variants as job
 use Rattle.planfields.specs.Fields as rule
-use Rattle.planfields.specs.Fields.{Step, got, no}
+use Rattle.planfields.specs.Fields.{Parsed, got, no}
 
--- What a field read says: the value and the next place, or the refusal's number.
-abbrev pub fieldTold : Field → Step ℕ
-fieldTold (field.Value v next) = got v next
-fieldTold (field.Refused number) = no number
+-- The view of a `Field`: the value and the offset of the next field, or the refusal number.
+abbrev pub fieldView : Field → Parsed ℕ
+fieldView (field.Value v next) = got v next
+fieldView (field.Refused number) = no number
 
--- The value that was read; 0 after a refusal.
+-- The value of a `Field`, or 0 after a refusal.
 abbrev pub fieldValue : Field → ℕ
 fieldValue (field.Value v next) = v
 fieldValue (field.Refused number) = 0
 
--- The number that refuses a field; no refusal has the number 0.
+-- The refusal number of a `Field`, or 0, which is no refusal's number.
 abbrev pub fieldRefusal : Field → ℕ
 fieldRefusal (field.Value v next) = 0
 fieldRefusal (field.Refused number) = number
 
--- What a reading that only goes on says: the next place, or the refusal's number.
-abbrev pub passedTold : Passed → Step (Unit {0})
-passedTold (passed.Next next) = got tt next
-passedTold (passed.Refused number) = no number
+-- The view of a `Passed`: the offset of the next field, or the refusal number.
+abbrev pub passedView : Passed → Parsed (Unit {0})
+passedView (passed.Next next) = got tt next
+passedView (passed.Refused number) = no number
 
--- The number that refuses such a reading, or 0.
+-- The refusal number of a `Passed`, or 0.
 abbrev pub passedRefusal : Passed → ℕ
 passedRefusal (passed.Next next) = 0
 passedRefusal (passed.Refused number) = number
 
--- A head as the rules have it: plain numbers, without their kinds.
+-- A head as the rules have it: plain numbers instead of rates.
 abbrev pub headOf : Head → rule.Head
 headOf h = record { n = h .n .0; d = h .d .0; count = h .count }
 
--- What the reading of a head says: both rates and the count, or the refusal's number.
-abbrev pub headTold : HeadRead → Step rule.Head
-headTold (head.Head h next) = got (headOf h) next
-headTold (head.Refused number) = no number
+-- The view of a `HeadRead`: the head and the offset of the next field, or the refusal number.
+abbrev pub headView : HeadRead → Parsed rule.Head
+headView (head.Head h next) = got (headOf h) next
+headView (head.Refused number) = no number
 
--- The number that refuses a head, or 0.
+-- The refusal number of a `HeadRead`, or 0.
 abbrev pub headRefusal : HeadRead → ℕ
 headRefusal (head.Head h next) = 0
 headRefusal (head.Refused number) = number
 
--- What the reading of a job says: the record and the next place, or the refusal's number.
-abbrev pub jobTold : JobRead → Step Job
-jobTold (job.Job j next) = got j next
-jobTold (job.Refused number) = no number
+-- The view of a `JobRead`: the record and the offset of the next field, or the refusal number.
+abbrev pub jobView : JobRead → Parsed Job
+jobView (job.Job j next) = got j next
+jobView (job.Refused number) = no number
 
--- The number that refuses a job, or 0.
+-- The refusal number of a `JobRead`, or 0.
 abbrev pub jobRefusal : JobRead → ℕ
 jobRefusal (job.Job j next) = 0
 jobRefusal (job.Refused number) = number
 
--- What `read_named` promises: the name of a record, behind a length byte that says the given length.
-abbrev pub ReadsNamed : List ℕ → ℕ → ℕ → Field → Type 0
-ReadsNamed file at length r = fieldTold r ≡ rule.named length file at
+-- The contract of `read_named`: a length byte, which must be `length`, then a name.
+abbrev pub ReadsNamed : (file : Bytes) (at : Offset) (length : ℕ) (r : Field) → Type 0
+ReadsNamed file at length r = fieldView r ≡ rule.named length file at
 
--- What `read_end` promises: no bytes remain, or the refusal.
-abbrev pub ReadsEnd : List ℕ → ℕ → Passed → Type 0
-ReadsEnd file at r = passedTold r ≡ rule.ended file at
+-- The contract of `read_end`: the file ends at this offset, otherwise the refusal.
+abbrev pub ReadsEnd : (file : Bytes) (at : Offset) (r : Passed) → Type 0
+ReadsEnd file at r = passedView r ≡ rule.ended file at
 
--- What `read_head` promises: all that stands before the jobs, from the file's first byte on.
-abbrev pub ReadsHead : List ℕ → HeadRead → Type 0
-ReadsHead file r = headTold r ≡ rule.head mostJobs file 0
+-- The contract of `read_head`: all fields before the jobs, from offset 0 on.
+abbrev pub ReadsHead : (file : Bytes) (r : HeadRead) → Type 0
+ReadsHead file r = headView r ≡ rule.head mostJobs file 0
 
--- What `read_job` promises: one job, behind jobs with the given names.
-abbrev pub ReadsJob : List ℕ → ℕ → List ℕ → JobRead → Type 0
-ReadsJob file at earlier r = jobTold r ≡ rule.oneJob earlier file at
+-- The contract of `read_job`: one job, given the names of the jobs before it.
+abbrev pub ReadsJob : (file : Bytes) (at : Offset) (earlier : List ℕ) (r : JobRead) → Type 0
+ReadsJob file at earlier r = jobView r ≡ rule.oneJob earlier file at
 
--- What `read_row_count` promises: two bytes, at most the edition's rows.
-abbrev pub ReadsRowCount : List ℕ → ℕ → Field → Type 0
-ReadsRowCount file at r = fieldTold r ≡ rule.checked 2 (λ n. leb n mostRows) tooManyRows file at
+-- The contract of `read_row_count`: two bytes, at most `mostRows`.
+abbrev pub ReadsRowCount : (file : Bytes) (at : Offset) (r : Field) → Type 0
+ReadsRowCount file at r = fieldView r ≡ rule.checked 2 (λ n. leb n mostRows) tooManyRows file at
 
--- What `read_interval` promises: two bytes, below the number of intervals.
-abbrev pub ReadsInterval : List ℕ → ℕ → ℕ → Field → Type 0
-ReadsInterval file at spans r = (fieldTold r ≡ rule.checked 2 (λ j. ltb j spans) rowWithoutInterval file at) × (fieldValue r < 256 ^ 2)
+-- The contract of `read_interval`: two bytes, below the number of intervals;
+-- the value is below 256^2.
+abbrev pub ReadsInterval : (file : Bytes) (at : Offset) (spans : ℕ) (r : Field) → Type 0
+ReadsInterval file at spans r = (fieldView r ≡ rule.checked 2 (λ j. ltb j spans) rowWithoutInterval file at) × (fieldValue r < 256 ^ 2)
 
--- What `read_units` promises: four bytes, not 0.
-abbrev pub ReadsUnits : List ℕ → ℕ → Field → Type 0
-ReadsUnits file at r = (fieldTold r ≡ rule.checked 4 (λ u. not (eqb u 0)) rowWithoutUnits file at) × (fieldValue r < 256 ^ 4)
+-- The contract of `read_units`: four bytes, not 0; the value is below 256^4.
+abbrev pub ReadsUnits : (file : Bytes) (at : Offset) (r : Field) → Type 0
+ReadsUnits file at r = (fieldView r ≡ rule.checked 4 (λ u. not (eqb u 0)) rowWithoutUnits file at) × (fieldValue r < 256 ^ 4)

@@ -1,19 +1,20 @@
-// Reading one field. Every byte of a plan file but the first is read here.
+// Reading one field. The reader takes every byte of a plan file except the first
+// through `read_field`.
 use plan::edition::Edition;
 use plan::refusal::WRONG_EXTENT;
 use plan::refusal::WRONG_RECORD_LENGTH;
 ghost use mathlib.Core.Path.{_≡_};
 ghost use Prim.Native.Nat.{_≤_, _<_, _^_};
 ghost use Rattle.planfields.specs.Fields.{field};
-ghost use Rattle.planfields.specs.Answers.{fieldTold, fieldValue, fieldRefusal, passedRefusal, ReadsNamed, ReadsEnd};
+ghost use Rattle.planfields.specs.Answers.{fieldView, fieldValue, fieldRefusal, passedRefusal, ReadsNamed, ReadsEnd};
 
-// A value with the place behind it, or the refusal.
+// A value and the offset of the next field, or the refusal number.
 pub enum Field {
     Value(u64, usize),
     Refused(u8),
 }
 
-// The next place alone, or the refusal.
+// The offset of the next field alone, or the refusal number.
 pub enum Passed {
     Next(usize),
     Refused(u8),
@@ -40,10 +41,10 @@ pub fn passed_refusal(p: Passed) -> u8
     }
 }
 
-// A field of w bytes, the highest first.
+// A field of w bytes, highest byte first.
 pub(crate) fn read_field(file: &[u8], at: usize, w: usize) -> Field
     requires { ⌜ w ≤ 8 ⌝ }
-    ensures { λ r. ⌜ (fieldTold r ≡ field w (now (file .entry)) at) × (fieldValue r < 256 ^ w) ⌝ }
+    ensures { λ r. ⌜ (fieldView r ≡ field w (now (file .entry)) at) × (fieldValue r < 256 ^ w) ⌝ }
 {
     if file.len() < at {
         return Field::Refused(WRONG_EXTENT);
@@ -51,14 +52,14 @@ pub(crate) fn read_field(file: &[u8], at: usize, w: usize) -> Field
     if file.len() - at < w {
         return Field::Refused(WRONG_EXTENT);
     }
-    // From the lowest byte on, which compiles to a single load also for eight bytes.
+    // Lowest byte first, which compiles to a single load even for eight bytes.
     let mut value: u64 = 0;
     let mut scale: u64 = 1;
     let mut k = w;
     while k > 0 {
         k -= 1;
         value = value + file[at + k] as u64 * scale;
-        // Behind the eighth byte it would not fit.
+        // The last byte needs no further scale, and 256^8 would not fit.
         if k > 0 {
             scale = scale * 256;
         }
@@ -66,7 +67,7 @@ pub(crate) fn read_field(file: &[u8], at: usize, w: usize) -> Field
     Field::Value(value, at + w)
 }
 
-// The name of a record whose length byte is to say a given length.
+// The length byte of a record, which must be `length`, then its name.
 pub fn read_named(file: &[u8], at: usize, length: u64) -> Field
     ensures { λ r. ⌜ ReadsNamed (now (file .entry)) at length r ⌝ }
 {
@@ -80,7 +81,7 @@ pub fn read_named(file: &[u8], at: usize, length: u64) -> Field
     read_field(file, next, Edition::NAME_BYTES)
 }
 
-// The end of the file, where no bytes may remain.
+// The end of the file: no bytes may remain.
 pub fn read_end(file: &[u8], at: usize) -> Passed
     ensures { λ r. ⌜ ReadsEnd (now (file .entry)) at r ⌝ }
 {

@@ -1,4 +1,4 @@
-// Reading what stands before the jobs: version, length, both rates and the job count.
+// Reading the fields before the jobs: version, length, both rates and the job count.
 use crate::field::Field;
 use crate::field::NONE;
 use crate::field::field_refusal;
@@ -13,7 +13,7 @@ use plan::rules::count_allowed;
 use plan::rules::rates_allowed;
 ghost use mathlib.Core.Path.{_≡_};
 ghost use Rattle.planfields.specs.Fields.{opening};
-ghost use Rattle.planfields.specs.Answers.{fieldTold, headRefusal, ReadsHead};
+ghost use Rattle.planfields.specs.Answers.{fieldView, headRefusal, ReadsHead};
 
 pub struct Head {
     pub n: Rate,
@@ -35,9 +35,9 @@ pub fn head_refusal(h: HeadRead) -> u8
     }
 }
 
-// The version byte, and the length of all that follows it.
+// The version byte and the length field, which must be the number of bytes after it.
 fn read_opening(file: &[u8]) -> Field
-    ensures { λ r. ⌜ fieldTold r ≡ opening (now (file .entry)) 0 ⌝ }
+    ensures { λ r. ⌜ fieldView r ≡ opening (now (file .entry)) 0 ⌝ }
 {
     if file.len() == 0 {
         return Field::Refused(WRONG_VERSION);

@@ -23,7 +23,7 @@ ghost use Prim.Native.Nat.{_<_, _^_};
 ghost use Rattle.plan.specs.Refusal.{wrongGrade};
 ghost use Rattle.plan.specs.Rules.{gradeAllowed};
 ghost use Rattle.planfields.specs.Fields.{jobName, checked};
-ghost use Rattle.planfields.specs.Answers.{fieldTold, fieldValue, jobRefusal, ReadsJob};
+ghost use Rattle.planfields.specs.Answers.{fieldView, fieldValue, jobRefusal, ReadsJob};
 
 pub enum JobRead {
     Job(Job, usize),
@@ -39,9 +39,9 @@ pub fn job_refusal(j: JobRead) -> u8
     }
 }
 
-// The name of a job, behind jobs with the given names.
+// The length byte and the name of a job, given the names of the jobs before it.
 fn read_name(file: &[u8], at: usize, earlier: &[u64]) -> Field
-    ensures { λ r. ⌜ fieldTold r ≡ jobName (now (earlier .entry)) (now (file .entry)) at ⌝ }
+    ensures { λ r. ⌜ fieldView r ≡ jobName (now (earlier .entry)) (now (file .entry)) at ⌝ }
 {
     let named = read_named(file, at, Edition::JOB_LENGTH as u64);
     let Field::Value(name, next) = named else {
@@ -57,7 +57,7 @@ fn read_name(file: &[u8], at: usize, earlier: &[u64]) -> Field
 }
 
 fn read_grade(file: &[u8], at: usize) -> Field
-    ensures { λ r. ⌜ (fieldTold r ≡ checked 1 gradeAllowed wrongGrade (now (file .entry)) at) × (fieldValue r < 256 ^ 1) ⌝ }
+    ensures { λ r. ⌜ (fieldView r ≡ checked 1 gradeAllowed wrongGrade (now (file .entry)) at) × (fieldValue r < 256 ^ 1) ⌝ }
 {
     let byte = read_field(file, at, 1);
     let Field::Value(grade, next) = byte else {

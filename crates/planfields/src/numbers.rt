@@ -1,4 +1,4 @@
-// Reading the numbers that stand behind the jobs: the row count, and a row's interval and units.
+// Reading the numbers after the jobs: the row count, and a row's interval and units.
 use crate::field::Field;
 use crate::field::read_field;
 use plan::edition::Edition;

@@ -1,8 +1,8 @@
-pub mod Search
-pub mod Roll
+pub mod PositionLaws
+pub mod JobLoop
 pub mod Rows
-pub mod Apart
-pub mod Fronts
-pub mod Whole
-pub mod Extent
-pub mod Told
+pub mod DistinctNames
+pub mod PreambleLaws
+pub mod WholeFile
+pub mod Offsets
+pub mod Injective

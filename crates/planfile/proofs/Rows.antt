@@ -1,4 +1,4 @@
--- The laws of reading rows.
+-- Laws of reading rows.
 use mathlib.Core.Path.{_≡_, refl, sym, _∙_, ap}
 use mathlib.Core.Bool.{true, false, not}
 use mathlib.Core.List.{List}
@@ -11,11 +11,11 @@ use lib.ListN.{length, set}
 use Rattle.plan.specs.Edition.{mostIntervals, rowLength}
 use Rattle.plan.specs.Refusal.{rowWithoutJob, rowWithoutInterval, rowWithoutUnits, rowOutOfOrder}
 use Rattle.plan.specs.Table.{place}
-use Rattle.planfields.specs.Fields.{Step, got, no, onward, checked, named}
-use Rattle.planfile.specs.Reading.{position, Row, oneRow, allRows}
-use Rattle.planfields.proofs.Steps.{through, past, checked-is, same-value}
+use Rattle.planfields.specs.Fields.{Parsed, got, no, onward, checked, named}
+use Rattle.planfile.specs.Reader.{position, Row, oneRow, allRows}
+use Rattle.planfields.proofs.ParserLaws.{through, past, checked-is, same-value}
 
--- One row, field by field: the first fault decides.
+-- One row, field by field: the first fault decides the result.
 module _ (width : ℕ) (names : List ℕ) (spans low : ℕ) (file : List ℕ) (at : ℕ) where
   pub row-unnamed : {k : ℕ} → named rowLength file at ≡ no k → oneRow width names spans low file at ≡ no k
   unfolding oneRow
@@ -46,7 +46,7 @@ module _ (width : ℕ) (names : List ℕ) (spans low : ℕ) (file : List ℕ) (a
           unfolding oneRow
           row-whole h = rw (e₁, t, e₂, e₃, le-leb low (place width (position names name) interval) h)
 
--- A row that is read has its place in the table.
+-- The place of a row that is read is below mostIntervals times the number of jobs.
 pub row-inside : (names : List ℕ) (spans low : ℕ) (file : List ℕ) (at : ℕ) {row : Row} {next : ℕ}
     → oneRow mostIntervals names spans low file at ≡ got row next → spans ≤ mostIntervals → row .at < mostIntervals * length names
 unfolding oneRow
@@ -61,7 +61,7 @@ row-inside names spans low file at e h =
     let q = ap (λ (r : Row). r .at) (same-value (t₅ .on)) in
     omega (arith, q)
 
--- One turn of the rule.
+-- `allRows` with a next row that is read, with one that is refused, and with none left.
 pub rows-step : (n width : ℕ) (names : List ℕ) (spans low : ℕ) (table file : List ℕ) (at : ℕ) {row : Row} {next : ℕ}
     → oneRow width names spans low file at ≡ got row next
     → allRows (suc n) width names spans low table file at ≡ allRows n width names spans (suc (row .at)) (set table (row .at) (row .units)) file next
@@ -77,12 +77,12 @@ pub rows-done : (width : ℕ) (names : List ℕ) (spans low : ℕ) (table file :
 unfolding allRows
 rows-done width names spans low table file at = refl
 
--- A reading without what it yields: that it goes on, and where.
-abbrev pub onlyPassed : {A : Type 0} → Step A → Step (Unit {0})
+-- A parser result without its value: the next offset, or the refusal number.
+abbrev pub onlyPassed : {A : Type 0} → Parsed A → Parsed (Unit {0})
 onlyPassed (got a next) = got tt next
 onlyPassed (no number) = no number
 
--- Whether rows pass does not depend on the table.
+-- Whether rows are refused, and where they end, does not depend on the table.
 pub rows-only : (n width : ℕ) (names : List ℕ) (spans low : ℕ) (t u file : List ℕ) (at : ℕ)
     → onlyPassed (allRows n width names spans low t file at) ≡ onlyPassed (allRows n width names spans low u file at)
 unfolding allRows
@@ -90,16 +90,16 @@ rows-only zero width names spans low t u file at = refl
 rows-only (suc n) width names spans low t u file at =
     by (oneRow width names spans low file at) (λ row next. rows-only n width names spans (suc (row .at)) (set t (row .at) (row .units)) (set u (row .at) (row .units)) file next)
   where
-    on : List ℕ → Row → List ℕ → ℕ → Step (List ℕ)
+    on : List ℕ → Row → List ℕ → ℕ → Parsed (List ℕ)
     on l row = allRows n width names spans (suc (row .at)) (set l (row .at) (row .units))
 
-    by : (s : Step Row) → ((row : Row) (next : ℕ) → onlyPassed (on t row file next) ≡ onlyPassed (on u row file next))
+    by : (s : Parsed Row) → ((row : Row) (next : ℕ) → onlyPassed (on t row file next) ≡ onlyPassed (on u row file next))
         → onlyPassed (onward s (on t) file) ≡ onlyPassed (onward s (on u) file)
     by (got row next) h = h row next
     by (no k) h = refl
 
--- What is left after k rows gives the whole.
-module _ (rows k width : ℕ) (names : List ℕ) (spans low : ℕ) (table file : List ℕ) (at : ℕ) {whole : Step (List ℕ)}
+-- The loop invariant after k rows: reading the remaining ones gives the result of the whole.
+module _ (rows k width : ℕ) (names : List ℕ) (spans low : ℕ) (table file : List ℕ) (at : ℕ) {whole : Parsed (List ℕ)}
     (left : allRows (rows - k) width names spans low table file at ≡ whole) where
   pub left-next : k < rows → {row : Row} {next : ℕ} → oneRow width names spans low file at ≡ got row next
       → allRows (rows - (k + 1)) width names spans (row .at + 1) (set table (row .at) (row .units)) file next ≡ whole

@@ -1,2 +1,3 @@
-pub mod Reading
+pub mod Reader
 pub mod Answers
+pub mod inner

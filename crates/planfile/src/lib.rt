@@ -1,6 +1,6 @@
-// Bytes to plan: the reader and the name lookup of plan files.
-mod front;
+// From bytes to a plan: the reader and the name lookup of plan files.
 pub mod lookup;
+mod preamble;
 pub mod reader;
 mod row;
 mod store;

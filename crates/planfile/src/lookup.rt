@@ -1,5 +1,5 @@
-// The name of a job, as the part of the caller's file in which it stands.
-use crate::front::read_front;
+// The name lookup: a job's name as a part of the caller's file.
+use crate::preamble::read_preamble;
 use crate::store::store_rows;
 use plan::boundaries::intervals_of;
 use plan::edition::Edition;
@@ -7,23 +7,24 @@ use planfields::field::Field;
 use planfields::field::Passed;
 use planfields::field::read_end;
 ghost use mathlib.Core.Path.{_≡_};
-ghost use Rattle.planfile.specs.Reading.{readFile};
-ghost use Rattle.planfile.specs.Answers.{countOf, Shows};
+ghost use Rattle.planfile.specs.Reader.{readFile};
+ghost use Rattle.planfile.specs.Answers.{Shows};
+ghost use Rattle.planfile.specs.inner.Parts.{countOf};
 
-// The job count of a file that the reader would take, and 0 for a refused one.
+// The job count of a file, or 0 if the reader would refuse the file.
 fn count_in(file: &[u8]) -> usize
     ensures { λ r. ⌜ r ≡ countOf (readFile (now (file .entry))) ⌝ }
 {
     let mut names = [0u64; Edition::MOST_JOBS];
-    let front = read_front(file, &mut names);
-    let counted = front.answer;
-    let plan = front.plan;
+    let preamble = read_preamble(file, &mut names);
+    let counted = preamble.answer;
+    let plan = preamble.plan;
     let Field::Value(rows, at) = counted else {
         return 0;
     };
     let count = plan.count;
     let spans = intervals_of(plan);
-    // A table without places: the rows are checked, and none is stored.
+    // An empty table: the rows are checked and none is stored.
     let mut none = [0u32; 1];
     let checked = store_rows(
         file,
@@ -43,7 +44,8 @@ fn count_in(file: &[u8]) -> usize
     count
 }
 
-// A job's name as the eight bytes where it stands in the file; an empty part if the reader would refuse the file or it has no such job.
+// The eight bytes of a job's name inside the file;
+// an empty part if the reader would refuse the file or if it has no such job.
 pub fn name_of(file: &[u8], position: usize) -> &[u8]
     ensures { λ r. ⌜ Shows (now (file .entry)) position (now r) ⌝ }
 {

@@ -1,6 +1,6 @@
 // The reader of plan files.
-use crate::front::no_plan;
-use crate::front::read_front;
+use crate::preamble::no_plan;
+use crate::preamble::read_preamble;
 use crate::store::store_rows;
 use plan::boundaries::intervals_of;
 use plan::edition::Edition;
@@ -15,16 +15,17 @@ ghost use mathlib.Core.Path.{_≡_};
 ghost use mathlib.Core.List.{[]};
 ghost use lib.ListN.{length, replicate};
 ghost use Rattle.plan.specs.Edition.{places};
-ghost use Rattle.planfile.specs.Reading.{readFile, leaves};
-ghost use Rattle.planfile.specs.Answers.{FillAnswer, readTold, Reads};
+ghost use Rattle.planfile.specs.Reader.{readFile, leaves};
+ghost use Rattle.planfile.specs.Answers.{readView, Reads};
+ghost use Rattle.planfile.specs.inner.Parts.{FillAnswer};
 
 pub enum Answer {
     Read,
     Refused(u8),
 }
 
-// The answer, and the plan: all zeros with a refusal.
-pub struct Reading {
+// The answer and the plan; with a refusal of `read` the plan is all zeros.
+pub struct PlanRead {
     pub answer: Answer,
     pub plan: Plan,
 }
@@ -39,17 +40,18 @@ fn clear(table: &mut [u32])
     }
 }
 
-// Fills a table that has its own places and zeros there. After a refusal the plan and the table are of no use.
-fn fill(file: &[u8], table: &mut [u32]) -> Reading
+// Reads a file into a table of exactly PLACES zeros.
+// After a refusal the plan and the table have no meaning.
+fn fill(file: &[u8], table: &mut [u32]) -> PlanRead
     requires { ⌜ now table ≡ replicate places 0 ⌝ }
     ensures { λ r. ⌜ FillAnswer (readFile (now (file .entry))) r (now (table .exit)) ⌝ }
 {
     let mut names = [0u64; Edition::MOST_JOBS];
-    let front = read_front(file, &mut names);
-    let counted = front.answer;
-    let plan = front.plan;
+    let preamble = read_preamble(file, &mut names);
+    let counted = preamble.answer;
+    let plan = preamble.plan;
     let Field::Value(rows, at) = counted else {
-        return Reading {
+        return PlanRead {
             answer: Answer::Refused(field_refusal(counted)),
             plan,
         };
@@ -58,35 +60,36 @@ fn fill(file: &[u8], table: &mut [u32]) -> Reading
     let spans = intervals_of(plan);
     let stored = store_rows(file, at, rows as usize, &names[..count], spans, table);
     let Passed::Next(last) = stored else {
-        return Reading {
+        return PlanRead {
             answer: Answer::Refused(passed_refusal(stored)),
             plan,
         };
     };
     let end = read_end(file, last);
     let Passed::Next(_) = end else {
-        return Reading {
+        return PlanRead {
             answer: Answer::Refused(passed_refusal(end)),
             plan,
         };
     };
-    Reading {
+    PlanRead {
         answer: Answer::Read,
         plan,
     }
 }
 
-// A refusal leaves zeros: no plan, and nothing in the table.
-fn read_whole(file: &[u8], table: &mut [u32]) -> Reading
+// Reads a file into a table of exactly PLACES places.
+// A refusal leaves zeros in the plan and in the table.
+fn read_whole(file: &[u8], table: &mut [u32]) -> PlanRead
     requires { ⌜ length (now table) ≡ places ⌝ }
-    ensures { λ r. ⌜ readTold r (now (table .exit)) ≡ leaves (readFile (now (file .entry))) [] ⌝ }
+    ensures { λ r. ⌜ readView r (now (table .exit)) ≡ leaves (readFile (now (file .entry))) [] ⌝ }
 {
     clear(table);
     let reading = fill(file, table);
     let answer = reading.answer;
     let Answer::Read = answer else {
         clear(table);
-        return Reading {
+        return PlanRead {
             answer,
             plan: no_plan(),
         };
@@ -95,11 +98,11 @@ fn read_whole(file: &[u8], table: &mut [u32]) -> Reading
 }
 
 // Reads a plan file into the lent table.
-pub fn read(file: &[u8], table: &mut [u32]) -> Reading
+pub fn read(file: &[u8], table: &mut [u32]) -> PlanRead
     ensures { λ r. ⌜ Reads (now (file .entry)) (now (table .entry)) r (now (table .exit)) ⌝ }
 {
     if table.len() < Edition::PLACES {
-        return Reading {
+        return PlanRead {
             answer: Answer::Refused(BUFFER_TOO_SHORT),
             plan: no_plan(),
         };

@@ -12,10 +12,10 @@ ghost use mathlib.Core.Path.{_≡_};
 ghost use Prim.Native.Nat.{ℕ, _≤_, _<_};
 ghost use lib.ListN.{length, getD};
 ghost use Rattle.plan.specs.Edition.{mostJobs, mostIntervals};
-ghost use Rattle.planfile.specs.Reading.{position, oneRow};
-ghost use Rattle.planfile.specs.Answers.{Distinct, rowTold, rowRefusal};
+ghost use Rattle.planfile.specs.Reader.{position, oneRow};
+ghost use Rattle.planfile.specs.inner.Parts.{Distinct, rowView, rowRefusal};
 
-// The place of a row, the job that it is a place of, and the units that stand there.
+// A row's job, its place in the table, and its units.
 pub struct Row {
     pub job: usize,
     pub at: usize,
@@ -36,7 +36,7 @@ pub(crate) fn row_refusal(r: RowRead) -> u8
     }
 }
 
-// The first position from a start on where a name stands; past the last where there is none.
+// The first index from `start` on that has the name, or the length of `names` if there is none.
 fn find_from(names: &[u64], name: u64, start: usize) -> usize
     ensures within { λ r. ⌜ r ≤ length (now (names .entry)) ⌝ }
     ensures before { λ r. ⌜ ((k : ℕ) → start ≤ k → k < r → getD (now (names .entry)) k 0 ≡ name → ⊥) ⌝ }
@@ -52,7 +52,8 @@ fn find_from(names: &[u64], name: u64, start: usize) -> usize
     names.len()
 }
 
-// The position of a name among names that differ. Rows rise, so the search starts at the last row's job and goes round to the first.
+// The position of a name among distinct names. Rows are in job order, so the search begins
+// at `start`, the previous row's job; if it finds nothing, it begins again at 0.
 fn find(names: &[u64], name: u64, start: usize) -> usize
     requires { ⌜ Distinct (now names) ⌝ }
     ensures { λ r. ⌜ r ≡ position (now (names .entry)) name ⌝ }
@@ -64,7 +65,8 @@ fn find(names: &[u64], name: u64, start: usize) -> usize
     find_from(names, name, 0)
 }
 
-// One row of a plan with these names and this many intervals. Its place is to be no lower than low; the search starts at job start.
+// One row of a plan with these names and `spans` intervals. Its place must be at least `low`;
+// the search for its job begins at `start`.
 pub(crate) fn read_row(
     file: &[u8],
     at: usize,
@@ -74,7 +76,7 @@ pub(crate) fn read_row(
     start: usize,
 ) -> RowRead
     requires { ⌜ Distinct (now names) × (length (now names) ≤ mostJobs) ⌝ }
-    ensures { λ r. ⌜ rowTold r ≡ oneRow mostIntervals (now (names .entry)) spans low (now (file .entry)) at ⌝ }
+    ensures { λ r. ⌜ rowView r ≡ oneRow mostIntervals (now (names .entry)) spans low (now (file .entry)) at ⌝ }
 {
     let named = read_named(file, at, Edition::ROW_LENGTH as u64);
     let Field::Value(name, after_name) = named else {

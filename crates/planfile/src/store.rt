@@ -1,4 +1,4 @@
-// Storing rows in their order, for the reader and for the lookup, which only checks them.
+// Reading rows in their order: the reader stores them, the lookup only checks them.
 use crate::row::RowRead;
 use crate::row::read_row;
 use crate::row::row_refusal;
@@ -6,10 +6,11 @@ use planfields::field::Passed;
 ghost use Prim.Native.Nat.{_≤_};
 ghost use lib.ListN.{length};
 ghost use Rattle.plan.specs.Edition.{mostJobs, mostIntervals};
-ghost use Rattle.planfile.specs.Reading.{allRows};
-ghost use Rattle.planfile.specs.Answers.{Distinct, RowsAnswer};
+ghost use Rattle.planfile.specs.Reader.{allRows};
+ghost use Rattle.planfile.specs.inner.Parts.{Distinct, RowsAnswer};
 
-// Stores a count of rows in a table, each where the table has its place; the lookup lends one without places.
+// Reads the given number of rows and stores each at its place if the table has it;
+// the lookup lends an empty table.
 pub(crate) fn store_rows(
     file: &[u8],
     at: usize,

@@ -1,4 +1,5 @@
--- The rows of a table, job by job: where no place is stray, they are the rows of each job's intervals, one job behind the other.
+-- The rows of a table, job by job:
+-- if no place is stray, they are the concatenation of the rows of each job's intervals.
 use mathlib.Core.Path.{_≡_, refl, sym, _∙_, ap, ap₂}
 use mathlib.Core.Bool.{true, false, _&&_, _||_, and-false, or-false}
 use mathlib.Core.List.{List, [], _∷_, _++_, append-nil}
@@ -13,9 +14,9 @@ use Rattle.plan.specs.Edition.{mostIntervals}
 use Rattle.plan.specs.Table.{noStray}
 use Rattle.plan.proofs.Below.{both}
 use Rattle.planwriter.specs.Writing.{rowAt, rowsBytes}
-use Rattle.planwriter.proofs.Pages.{rows-split, rows-within}
+use Rattle.planwriter.proofs.JobAndRowBytes.{rows-split, rows-within}
 
--- The places of job i have the rows of a table with this job only.
+-- The rows of some places of job i are those of a table with this job only.
 one-job : (names : List ℕ) (i j : ℕ) (l : List ℕ) → j + length l ≤ mostIntervals
     → rowsBytes mostIntervals names (mostIntervals * i + j) l ≡ rowsBytes mostIntervals (getD names i 0 ∷ []) j l
 unfolding rowsBytes
@@ -32,7 +33,7 @@ one-job names i j (u ∷ l) h =
         let n : j % mostIntervals ≡ j = omega arith in
         rw (d, m, e, n) refl
 
--- What follows some places has no stray place either.
+-- A suffix of a list without stray places has none.
 clear-rest : (jobs spans q : ℕ) (a b : List ℕ) → noStray mostIntervals jobs spans q (a ++ b) ≡ true → noStray mostIntervals jobs spans (q + length a) b ≡ true
 unfolding noStray
 clear-rest jobs spans q [] b h = rw (add-zero q) h
@@ -41,7 +42,7 @@ clear-rest jobs spans q (u ∷ a) b h =
     (clear-rest jobs spans (suc q) a b
     (both (eqb u 0 || ltb (q / mostIntervals) jobs && ltb (q % mostIntervals) spans) (noStray mostIntervals jobs spans (suc q) (a ++ b)) h .1))
 
--- Places that are all stray have no row.
+-- If no place is stray, places outside the jobs and intervals hold 0, so they have no rows.
 strays-none : (names : List ℕ) (jobs spans q : ℕ) (a b : List ℕ) → noStray mostIntervals jobs spans q (a ++ b) ≡ true
     → ((k : ℕ) → q ≤ k → k < q + length a → (ltb (k / mostIntervals) jobs && ltb (k % mostIntervals) spans) ≡ false)
     → rowsBytes mostIntervals names q a ≡ []
@@ -52,7 +53,7 @@ strays-none names jobs spans q (u ∷ a) b h stray =
     let none : eqb u 0 ≡ true = sym (ap (λ t. eqb u 0 || t) (stray q (omega arith) (omega arith)) ∙ or-false (eqb u 0)) ∙ s .0 in
     rw none (strays-none names jobs spans (suc q) a b (s .1) (λ k l m. stray k (omega arith) (omega arith)))
 
--- The rows of n places and of the m behind them.
+-- The rows of the first n + m places are those of the first n, then those of the next m.
 rows-more : (names table : List ℕ) (n m : ℕ) → n ≤ length table
     → rowsBytes mostIntervals names 0 (take (n + m) table) ≡ rowsBytes mostIntervals names 0 (take n table) ++ rowsBytes mostIntervals names n (take m (drop n table))
 rows-more names table n m h =
@@ -62,7 +63,7 @@ rows-more names table n m h =
     (zero-add (length (take n table)) ∙ length-take-le n table h)
 
 module _ (names table : List ℕ) (jobs spans : ℕ) (clear : noStray mostIntervals jobs spans 0 table ≡ true) where
-  -- Stray places behind some places add no row.
+  -- Places outside the jobs and intervals, after the first n places, add no rows.
   rows-same : (n m : ℕ) → n ≤ length table
       → ((k : ℕ) → n ≤ k → k < n + m → (ltb (k / mostIntervals) jobs && ltb (k % mostIntervals) spans) ≡ false)
       → rowsBytes mostIntervals names 0 (take (n + m) table) ≡ rowsBytes mostIntervals names 0 (take n table)
@@ -76,7 +77,7 @@ module _ (names table : List ℕ) (jobs spans : ℕ) (clear : noStray mostInterv
       (strays-none names jobs spans n (take m (drop n table)) (drop m (drop n table)) here (λ k a b. stray k a (omega (arith, length-take m (drop n table)))))
       ∙ append-nil (rowsBytes mostIntervals names 0 (take n table))
 
-  -- The rows of one more job: those of its intervals.
+  -- The rows of one more job are those of its intervals.
   module _ (i : ℕ) {n : ℕ} (e : n ≡ spans) (narrow : spans ≤ mostIntervals) (h : mostIntervals * i + mostIntervals ≤ length table) where
     pub job-rows-next :
         rowsBytes mostIntervals names 0 (take (mostIntervals * i) table) ++ rowsBytes mostIntervals (getD names i 0 ∷ []) 0 (take n (drop (mostIntervals * i) table))
@@ -101,7 +102,7 @@ module _ (names table : List ℕ) (jobs spans : ℕ) (clear : noStray mostInterv
         let here = rowsBytes mostIntervals (getD names i 0 ∷ []) 0 (take n (drop (mostIntervals * i) table)) in
         omega (arith, rows-within mostIntervals names table (mostIntervals * (i + 1)), length-append before here, ap length job-rows-next)
 
-  -- Past the last job there is no row.
+  -- Places after those of the jobs add no rows.
   pub job-rows-all : mostIntervals * jobs ≤ length table → rowsBytes mostIntervals names 0 (take (mostIntervals * jobs) table) ≡ rowsBytes mostIntervals names 0 table
   job-rows-all h =
       let n = mostIntervals * jobs in

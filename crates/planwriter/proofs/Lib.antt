@@ -1,5 +1,5 @@
 pub mod Sets
-pub mod Pages
+pub mod JobAndRowBytes
 pub mod JobRows
-pub mod Files
-pub mod Told
+pub mod WrittenFile
+pub mod Injective

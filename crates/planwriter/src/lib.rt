@@ -1,3 +1,3 @@
-// Plan to bytes: the writer of plan files.
+// From a plan to bytes: the writer of plan files.
 mod put;
 pub mod writer;

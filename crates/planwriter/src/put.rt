@@ -10,7 +10,7 @@ ghost use Rattle.plan.specs.Edition.{mostIntervals, jobLength, rowLength};
 ghost use Rattle.planfields.specs.Bytes.{bytes};
 ghost use Rattle.planwriter.specs.Writing.{jobBytes, rowBytes, rowAt};
 
-// Writes a number as a field of w bytes, the highest first; the next place.
+// Writes x as a field of w bytes, highest byte first; returns the offset after it.
 pub(crate) fn put(out: &mut [u8], at: usize, w: usize, x: u64) -> usize
     requires { ⌜ (at + w ≤ length (now out)) × (x < 256 ^ w) ⌝ }
     ensures { λ r. ⌜ (r ≡ at + w) × (now (out .exit) ≡ sets (now (out .entry)) at (bytes w x)) ⌝ }
@@ -51,7 +51,7 @@ fn put_row(out: &mut [u8], at: usize, name: u64, interval: usize, units: u32) ->
     put(out, after_interval, 4, units as u64)
 }
 
-// Writes what a job's place has: a row, or nothing for a zero allotment.
+// Writes the row of an allotment, or nothing for 0 units; returns the offset after it.
 pub(crate) fn put_place(out: &mut [u8], at: usize, name: u64, interval: usize, units: u32) -> usize
     requires { ⌜ (at + length (rowAt mostIntervals (name ∷ []) interval units) ≤ length (now out)) × (interval < mostIntervals) ⌝ }
     ensures { λ r. ⌜ (r ≡ at + length (rowAt mostIntervals (name ∷ []) interval units)) × (now (out .exit) ≡ sets (now (out .entry)) at (rowAt mostIntervals (name ∷ []) interval units)) ⌝ }

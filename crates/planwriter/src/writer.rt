@@ -21,12 +21,13 @@ ghost use Rattle.plan.specs.Rules.{size};
 ghost use Rattle.plan.specs.Boundaries.{intervals};
 ghost use Rattle.plan.specs.Table.{noStray};
 ghost use Rattle.planwriter.specs.Writing.{jobsBytes, rowsBytes, rowCount, body, written};
-ghost use Rattle.planwriter.specs.Answers.{Writable, Writes};
+ghost use Rattle.planwriter.specs.Answers.{Writes};
+ghost use Rattle.planwriter.specs.inner.Writable.{Writable};
 
-// Both rates and the job count.
+// The number of bytes of both rates and the job count.
 const BODY_HEAD_BYTES: usize = Edition::HEADER_BYTES - Edition::OPENING_BYTES;
 
-// The file's length, or the refusal.
+// The file's length, or the refusal number.
 pub enum Written {
     Length(usize),
     Refused(u8),
@@ -47,7 +48,7 @@ fn put_jobs(out: &mut [u8], at: usize, p: Plan) -> usize
     next
 }
 
-// Writes the rows of a job, whose name and allotments these are.
+// Writes the rows of one job, given its name and allotments; returns the offset after them.
 fn put_job_rows(out: &mut [u8], at: usize, name: u64, row: &[u32]) -> usize
     requires { ⌜ (at + length (rowsBytes mostIntervals (name ∷ []) 0 (now row)) ≤ length (now out)) × (length (now row) ≤ mostIntervals) ⌝ }
     ensures { λ r. ⌜ (r ≡ at + length (rowsBytes mostIntervals (name ∷ []) 0 (now (row .entry)))) × (now (out .exit) ≡ sets (now (out .entry)) at (rowsBytes mostIntervals (name ∷ []) 0 (now (row .entry)))) ⌝ }
@@ -61,7 +62,8 @@ fn put_job_rows(out: &mut [u8], at: usize, name: u64, row: &[u32]) -> usize
     next
 }
 
-// Writes the rows of a table, job by job: past the jobs and past the intervals there are none, so no place there is looked at.
+// Writes the rows of a table, job by job.
+// No place is stray, so the places outside the jobs and intervals have no rows and are not read.
 fn put_rows(out: &mut [u8], at: usize, names: &[u64], table: &[u32], jobs: usize, spans: usize)
     requires { ⌜ (at + length (rowsBytes mostIntervals (now names) 0 (now table)) ≤ length (now out)) × (jobs ≤ length (now names)) × (mostIntervals * jobs ≤ length (now table)) × (spans ≤ mostIntervals) × (noStray mostIntervals jobs spans 0 (now table) ≡ true) ⌝ }
     ensures { λ r. ⌜ now (out .exit) ≡ sets (now (out .entry)) at (rowsBytes mostIntervals (now (names .entry)) 0 (now (table .entry))) ⌝ }
@@ -75,14 +77,15 @@ fn put_rows(out: &mut [u8], at: usize, names: &[u64], table: &[u32], jobs: usize
     }
 }
 
-// 1 for an allotment that has a row.
+// The number of rows of one allotment: 0 or 1.
 fn row_of(units: u32) -> u32
     ensures { λ r. ⌜ r ≡ cond (eqb units 0) 0 1 ⌝ }
 {
     if units == 0 { 0 } else { 1 }
 }
 
-// How many rows a table has. Counted in 32 bits, the width of a place, so that more places are looked at at once.
+// The number of rows of a table. It is counted in 32 bits, the width of a place,
+// so that more places are processed at once.
 fn rows_in(table: &[u32]) -> usize
     requires { ⌜ length (now table) ≤ places ⌝ }
     ensures { λ r. ⌜ r ≡ rowCount (now (table .entry)) ⌝ }
@@ -96,7 +99,7 @@ fn rows_in(table: &[u32]) -> usize
     rows as usize
 }
 
-// All that follows the length field.
+// Writes all bytes after the length field.
 fn put_body(out: &mut [u8], at: usize, p: Plan, table: &[u32], rows: usize, spans: usize)
     requires { ⌜ (at + length (body p (now table)) ≤ length (now out)) × Writable p (now table) × (rows ≡ rowCount (now table)) × (spans ≡ intervals p) ⌝ }
     ensures { λ r. ⌜ now (out .exit) ≡ sets (now (out .entry)) at (body p (now (table .entry))) ⌝ }
@@ -121,7 +124,7 @@ fn put_file(out: &mut [u8], p: Plan, table: &[u32], rows: usize, follows: usize,
     put_body(out, after_length, p, table, rows, spans);
 }
 
-// Writes the plan file of a sound plan and its table.
+// Writes the file of a plan and its table if they are sound and the output is long enough.
 pub fn write(p: Plan, table: &[u32], out: &mut [u8]) -> Written
     ensures { λ r. ⌜ Writes p (now (table .entry)) (now (out .entry)) r (now (out .exit)) ⌝ }
 {

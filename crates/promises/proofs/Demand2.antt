@@ -1,4 +1,5 @@
--- Demand 2 as theorems over the definitions that the public calls are promised by, each with plan E as an instance.
+-- Demand 2 as theorems about the definitions in the contracts of the
+-- public calls, each with plan E as an instance.
 use mathlib.Core.Path.{_≡_, refl, sym, _∙_, ap}
 use mathlib.Core.Bool.{Bool, true, false, cond, _&&_, false≢true}
 use mathlib.Core.List.{List, [], _∷_, _++_}
@@ -9,7 +10,7 @@ use borrow.Author.Tests.{ltb-true, ltb-false, le-ltb}
 use lib.Dec.{ltb, lit<, lit≤}
 use lib.ListN.{length, getD, take, drop, replicate, length-append}
 use lib.Seq.{take-at, take-all, length-take-le}
-use Rattle.sums.specs.Sum.{sum}
+use Rattle.base.specs.Sum.{sum}
 use Rattle.plan.specs.Edition.{mostJobs, places}
 use Rattle.plan.specs.Refusal.{bufferTooShort}
 use Rattle.plan.specs.Below
@@ -20,29 +21,31 @@ use Rattle.plan.specs.Same.{Same}
 use Rattle.plan.specs.declared.kinds.Plan.{Plan}
 use Rattle.plan.proofs.Below.{and-left, and-right}
 use Rattle.planfields.specs.Bytes.{value}
-use Rattle.planfields.specs.Fields.{Step, got, no, field, version, extent, opening, head, named, jobName, oneJob, ended}
-use Rattle.planfile.specs.Reading.{allJobs, position, oneRow, allRows, front, planFile, Held, readFile, noPlan, Left, leaves, reader}
-use Rattle.planfile.proofs.Whole.{reader-long}
-use Rattle.planwriter.specs.Writing.{Output, wrote, written, writer}
-use Rattle.roundtrip.specs.Same.{kept, kept-job}
-use Rattle.roundtrip.specs.ReadAfterWrite.{read-after-write}
-use Rattle.roundtrip.specs.WriteAfterRead.{write-after-read}
-use Rattle.roundtrip.specs.ReadSound.{Proper, read-proper}
-use Rattle.roundtrip.specs.ReadSound as trip
-use Rattle.judge.specs.Constraints.{Accepted}
+use Rattle.planfields.specs.Fields.{Parsed, got, no, field, version, extent, opening, head, named, jobName, oneJob, ended}
+use Rattle.plan.specs.Rules.{noPlan}
+use Rattle.planfile.specs.Reader.{allJobs, position, oneRow, allRows, preamble, planFile, Contents, readFile, ReadEffect, leaves, reader}
+use Rattle.planfile.proofs.WholeFile.{reader-long}
+use Rattle.planwriter.specs.Writing.{WriteEffect, wrote, written, writer}
+use Rattle.roundtrip.proofs.KeptPlan.{kept, kept-job}
+use Rattle.roundtrip.proofs.ReadAfterWrite.{read-after-write}
+use Rattle.roundtrip.proofs.WriteAfterRead.{write-after-read}
+use Rattle.roundtrip.proofs.ReadSound.{Proper, read-proper}
+use Rattle.roundtrip.proofs.ReadSound as trip
+use Rattle.judge.specs.Constraints.{Figure2}
 use Rattle.judge.specs.Verdict.{isNone, first, outsideFault, totalFault, capacityFault, isHiDeadline, floorFault, judged}
 use Rattle.judge.proofs.Exact.{accepted-parts, exact}
-use Rattle.judge.proofs.Hand.{hand-none}
+use Rattle.judge.proofs.HandFault.{hand-none}
 use Rattle.dispatch.specs.Dues.{slowAfter, due}
-use Rattle.dispatch.specs.Turns as turns
-use Rattle.dispatch.specs.Turns.{order, serve}
+use Rattle.dispatch.specs.Order as service
+use Rattle.dispatch.specs.Order.{order, serve}
 use Rattle.dispatch.specs.Step.{started, slotSound, slotFault, granted, added, advanced, stepped}
 use Rattle.dispatch.specs.declared.Run.{Run}
-use Rattle.dispatch.proofs.Never.{done-leaves}
-use Rattle.promises.specs.Cases.{planOf, tableOf, planE, tableE, fileE, P3}
+use Rattle.dispatch.proofs.SlotLimits.{done-leaves}
+use Rattle.promises.proofs.Cases.{planWith, tableOf, planE, tableE, fileE, P3}
 
--- The judge is exact: it refuses nothing if and only if the table has all its places, the plan is sound, and figure 2 holds of it.
-pub judge-is-exact : (p : Plan) (table : List ℕ) → (judged p table ≡ []) ↔ ((places ≤ length table) × (sound p table ≡ true) × Accepted p table)
+-- The judge is exact: it refuses nothing if and only if the table has all its
+-- places, the plan is sound, and figure 2 holds.
+pub judge-is-exact : (p : Plan) (table : List ℕ) → (judged p table ≡ []) ↔ ((places ≤ length table) × (sound p table ≡ true) × Figure2 p table)
 judge-is-exact p table = (
   λ e.
       let long = hand-none p table (accepted-parts p table e .0) .0 in
@@ -50,50 +53,52 @@ judge-is-exact p table = (
   λ h. exact p table (h .0) .1 (h .1, h .2),
 )
 
--- Plan E is accepted, so it satisfies figure 2.
+-- Plan E is accepted, so figure 2 holds for it.
 pub accepted-E : judged planE tableE ≡ []
 unfolding tableOf sum Below.every nameAllowed namesHold namesDiffer gradesHold boundsHold rulesHold insert boundariesTo noStray sound first outsideFault totalFault capacityFault isHiDeadline floorFault judged
 accepted-E = refl
 
-figure-2-holds-in-E : Accepted planE tableE
+figure-2-holds-in-E : Figure2 planE tableE
 figure-2-holds-in-E = judge-is-exact planE tableE .0 accepted-E .2
 
--- P3 is sound and refused, so it does not.
-figure-2-fails-in-P3 : Accepted (planOf (P3 .jobs)) (tableOf (P3 .rows)) → ⊥
+-- P3 is sound and refused, so figure 2 does not hold for it.
+figure-2-fails-in-P3 : Figure2 (planWith (P3 .jobs)) (tableOf (P3 .rows)) → ⊥
 unfolding tableOf sum Below.every nameAllowed namesHold namesDiffer gradesHold boundsHold rulesHold insert boundariesTo noStray sound first outsideFault totalFault capacityFault isHiDeadline floorFault judged
-figure-2-fails-in-P3 a = false≢true (ap isNone (judge-is-exact (planOf (P3 .jobs)) (tableOf (P3 .rows)) .1 (lit≤ tt, refl, a)))
+figure-2-fails-in-P3 a = false≢true (ap isNone (judge-is-exact (planWith (P3 .jobs)) (tableOf (P3 .rows)) .1 (lit≤ tt, refl, a)))
 
--- What the reader leaves of a file that it takes.
+-- What the reader leaves for a file that it accepts.
 taken-is : (file table : List ℕ) → reader file table .answer ≡ []
-    → (held : Held) × (end : ℕ) × (readFile file ≡ got held end) × (places ≤ length table) × (reader file table ≡ leaves (got held end) table)
+    → (contents : Contents) × (end : ℕ) × (readFile file ≡ got contents end) × (places ≤ length table) × (reader file table ≡ leaves (got contents end) table)
 unfolding reader
 taken-is file table e = by (ltb (length table) places) refl (readFile file) refl e
   where
-    by : (b : Bool) → ltb (length table) places ≡ b → (s : Step Held) → readFile file ≡ s
+    by : (b : Bool) → ltb (length table) places ≡ b → (s : Parsed Contents) → readFile file ≡ s
         → cond b (record { answer = bufferTooShort ∷ []; plan = noPlan; table = table }) (leaves s table) .answer ≡ []
-        → (held : Held) × (end : ℕ) × (readFile file ≡ got held end) × (places ≤ length table)
+        → (contents : Contents) × (end : ℕ) × (readFile file ≡ got contents end) × (places ≤ length table)
         × (cond (ltb (length table) places) (record { answer = bufferTooShort ∷ []; plan = noPlan; table = table }) (leaves (readFile file) table)
-        ≡ leaves (got held end) table)
+        ≡ leaves (got contents end) table)
     by true b s r e = absurd (let z : _≡_ {A = ℕ} 0 1 = cc in omega arith)
-    by false b (got held end) r e = (held, end, r, ltb-false (length table) places b, rw (b, r) refl)
+    by false b (got contents end) r e = (contents, end, r, ltb-false (length table) places b, rw (b, r) refl)
     by false b (no number) r e = absurd (let z : _≡_ {A = ℕ} 0 1 = cc in omega arith)
 
--- What was read, written again: the writer answers the file's length and leaves its very bytes, with the output as it was behind them.
+-- Reading, then writing: the writer answers the file's length and writes the same bytes,
+-- and the rest of the output is unchanged.
 pub read-and-written : (file table out : List ℕ) → ((k : ℕ) → getD file k 0 < 256) → reader file table .answer ≡ [] → length file ≤ length out
     → writer (reader file table .plan) (reader file table .table) out ≡ record { answer = wrote (length file); out = file ++ drop (length file) out }
 unfolding writer sound
 read-and-written file table out octets e fits =
     let t = taken-is file table e in
-    let held = t .0 in
+    let contents = t .0 in
     let proper = read-proper file octets (t .2) in
-    let own : take places (held .table ++ drop places table) ≡ held .table = take-at (held .table) (drop places table) places (proper .exact) in
-    let whole : take places (held .table) ≡ held .table = take-all places (held .table) (omega (arith, proper .exact)) in
-    let long : ltb (length (held .table ++ drop places table)) places ≡ false
-    = le-ltb (length (held .table ++ drop places table)) places (omega (arith, length-append (held .table) (drop places table), proper .exact)) in
-    let again : written (held .plan) (held .table) ≡ file = write-after-read file octets (t .2) in
+    let own : take places (contents .table ++ drop places table) ≡ contents .table = take-at (contents .table) (drop places table) places (proper .exact) in
+    let whole : take places (contents .table) ≡ contents .table = take-all places (contents .table) (omega (arith, proper .exact)) in
+    let long : ltb (length (contents .table ++ drop places table)) places ≡ false
+    = le-ltb (length (contents .table ++ drop places table)) places (omega (arith, length-append (contents .table) (drop places table), proper .exact)) in
+    let again : written (contents .plan) (contents .table) ≡ file = write-after-read file octets (t .2) in
     rw (t .4, long, own) (rw (rw whole at (proper .is), again, le-ltb (length out) (length file) fits) refl)
 
--- The reader takes a file exactly when it is the written form of some sound plan.
+-- The reader accepts a file exactly if it is the written form of
+-- some sound plan within the code's types.
 pub taken-exactly : (file table : List ℕ) → ((k : ℕ) → getD file k 0 < 256) → places ≤ length table
     → (reader file table .answer ≡ []) ↔ ((q : Plan) × (own : List ℕ) × Proper q own × (written q own ≡ file))
 taken-exactly file table octets long = (
@@ -103,9 +108,9 @@ taken-exactly file table octets long = (
       ap (λ l. l .answer) (sym (reader-long file table long) ∙ ap (λ s. leaves s table) (t .2)),
 )
 
--- What the writer leaves of a sound plan, where the buffers suffice.
+-- What the writer leaves for a sound plan, if the buffers are long enough.
 sound-writer : (p : Plan) (table out : List ℕ) → sound p table ≡ true → places ≤ length table → length (written p (take places table)) ≤ length out
-    → _≡_ {A = Output} (writer p table out)
+    → _≡_ {A = WriteEffect} (writer p table out)
     (record {
       answer = wrote (length (written p (take places table)));
       out = written p (take places table) ++ drop (length (written p (take places table))) out;
@@ -113,7 +118,7 @@ sound-writer : (p : Plan) (table out : List ℕ) → sound p table ≡ true → 
 unfolding writer
 sound-writer p table out e long fits = rw (le-ltb (length table) places long, e, le-ltb (length out) (length (written p (take places table))) fits) refl
 
--- The plan as it is read back is the same.
+-- The plan that is read back is the same.
 same-again : (p : Plan) (table other : List ℕ) → places ≤ length table → Same p table (kept p) (take places table ++ drop places other)
 same-again p table other long =
     record {
@@ -124,8 +129,9 @@ same-again p table other long =
       cells = sym (take-at (take places table) (drop places other) places (length-take-le places table long));
     }
 
--- A sound plan, accepted or not, is written, and the file read again gives the same plan: rates, count, counted records and the table's own
--- places. (That a plan has its records, that a name has eight bytes and a place four, the code's types say.)
+-- Writing, then reading: a sound plan, accepted or not, is written, and reading the file gives the
+-- same plan: rates, count, counted records and the table's own places. (The code's types give that
+-- a plan has all its records, a name eight bytes and a place four.)
 pub written-and-read : (p : Plan) (table out other : List ℕ) → length (p .jobs) ≡ mostJobs → ((i : ℕ) → i < p .count → name p i < 256 ^ 8)
     → ((k : ℕ) → getD table k 0 < 256 ^ 4) → sound p table ≡ true → places ≤ length table → length (written p (take places table)) ≤ length out
     → places ≤ length other
@@ -135,13 +141,13 @@ written-and-read p table out other records names entries e long fits room =
     let file = written p (take places table) in
     let w = sound-writer p table out e long fits in
     let back : take (length file) (writer p table out .out) ≡ file
-    = ap (λ (o : Output). take (length file) (o .out)) w ∙ take-at file (drop (length file) out) (length file) refl in
+    = ap (λ (o : WriteEffect). take (length file) (o .out)) w ∙ take-at file (drop (length file) out) (length file) refl in
     let read : reader file other ≡ leaves (got (record { plan = kept p; table = take places table }) (length file)) other
     = sym (reader-long file other room) ∙ ap (λ s. leaves s other) (read-after-write p table e long records names entries) in
     let whole = ap (λ l. reader l other) back ∙ read in (
       length file,
-      ap (λ (o : Output). o .answer) w,
-      ap (λ (l : Left). l .answer) whole,
+      ap (λ (o : WriteEffect). o .answer) w,
+      ap (λ (l : ReadEffect). l .answer) whole,
       rw whole (same-again p table other long),
     )
 
@@ -150,9 +156,9 @@ abbrev allBelow : ℕ → List ℕ → Bool
 allBelow bound [] = true
 allBelow bound (x ∷ l) = ltb x bound && allBelow bound l
 
--- Plan E's file is taken, and gives plan E and its table.
+-- Plan E's file is accepted, and gives plan E and its table.
 pub read-E : readFile fileE ≡ got (record { plan = planE; table = tableE }) 116
-unfolding tableOf Below.every nameAllowed isAbsent insert boundariesTo value field version extent opening head named jobName oneJob allJobs position oneRow allRows front planFile ended
+unfolding tableOf Below.every nameAllowed isAbsent insert boundariesTo value field version extent opening head named jobName oneJob allJobs position oneRow allRows preamble planFile ended
 read-E = refl
 
 pub octets-E : (k : ℕ) → getD fileE k 0 < 256
@@ -163,7 +169,7 @@ octets-E = all-below fileE refl
     all-below (x ∷ l) h zero = ltb-true x 256 (and-left (ltb x 256) (allBelow 256 l) h)
     all-below (x ∷ l) h (suc k) = all-below l (and-right (ltb x 256) (allBelow 256 l) h) k
 
--- So it is the written form of plan E, and read and written again it gives the same bytes.
+-- Hence it is the written form of plan E, and reading and writing it gives the same bytes.
 written-E : written planE tableE ≡ fileE
 written-E = write-after-read fileE octets-E read-E
 
@@ -171,9 +177,9 @@ read-and-written-E : (table out : List ℕ) → places ≤ length table → 116 
     → writer (reader fileE table .plan) (reader fileE table .table) out ≡ record { answer = wrote 116; out = fileE ++ drop 116 out }
 read-and-written-E table out long fits =
     read-and-written fileE table out octets-E
-    (ap (λ (l : Left). l .answer) (sym (reader-long fileE table long) ∙ ap (λ s. leaves s table) read-E)) fits
+    (ap (λ (l : ReadEffect). l .answer) (sym (reader-long fileE table long) ∙ ap (λ s. leaves s table) read-E)) fits
 
--- And plan E, written and read again, is the same plan.
+-- Plan E, written and read again, is the same plan.
 written-and-read-E : (out other : List ℕ) → 116 ≤ length out → places ≤ length other
     → (n : ℕ) × (writer planE tableE out .answer ≡ wrote n) × (reader (take n (writer planE tableE out .out)) other .answer ≡ [])
     × Same planE tableE (reader (take n (writer planE tableE out .out)) other .plan) (reader (take n (writer planE tableE out .out)) other .table)
@@ -183,15 +189,15 @@ written-and-read-E out other fits room =
     let long : length (written planE (take places tableE)) ≡ 116 = ap (λ t. length (written planE t)) own ∙ ap length written-E in
     written-and-read planE tableE out other (x .records) (x .named) (x .entries) (x .is) (omega (arith, x .exact)) (omega (arith, long)) room
 
--- The grant row of a done call is what serving turn by turn makes of it (Turns: `order`, `serve`), from zeros for the counted jobs and with the
--- places behind them kept.
+-- The grant row of a done call is that of the rule (`order` and `serve` in dispatch/specs), from
+-- zeros for the counted jobs, with the entries past them unchanged.
 pub grants-are-the-rule : (p : Plan) (table : List ℕ) (run : Run) (v : ℕ) (grants : List ℕ) → stepped p table run v grants .answer ≡ []
     → stepped p table run v grants .grants
     ≡ serve (due p table run (slowAfter p run v)) v (order p (run .clock .0) (slowAfter p run v)) (replicate (counted p) 0 ++ drop (counted p) grants)
 unfolding granted
 grants-are-the-rule p table run v grants e = done-leaves p table run v grants e .1
 
--- Plan E's first slot at the normal rate: Mirror-A gets 2.
+-- In plan E's first slot at the normal rate, `Mirror-A` gets 2.
 slot-of-E : stepped planE tableE (started planE) 2 (7 ∷ 7 ∷ 7 ∷ []) .grants ≡ 2 ∷ 0 ∷ 7 ∷ []
-unfolding tableOf sum Below.every Below.least Below.greatest gradesHold boundsHold insert boundariesTo come started slotSound slotFault granted turns.order turns.line turns.enqueue turns.serve added advanced stepped
+unfolding tableOf sum Below.every Below.least Below.greatest gradesHold boundsHold insert boundariesTo come started slotSound slotFault granted service.order service.queue service.enqueue service.serve added advanced stepped
 slot-of-E = refl

@@ -1,5 +1,5 @@
--- Demand 1 for the calls for hosts: they answer no numbers but those that the rules give them, a refusal leaves what it must, and words that
--- mean the same plan get the same.
+-- Demand 1 for the calls for hosts: they return only the numbers that the rules give them, a
+-- refusal leaves the buffers as it must, and words that encode the same plan get the same.
 use mathlib.Core.Path.{_≡_, refl, sym, _∙_, ap}
 use mathlib.Core.Bool.{Bool, true, false, not, cond, _||_}
 use mathlib.Core.List.{List, [], _∷_, _++_}
@@ -16,25 +16,27 @@ use Rattle.plan.specs.Rules.{gradesHold, boundsHold}
 use Rattle.plan.specs.Refusal.{wrongVersion, wrongExtent, wrongRecordLength, wrongRates, wrongJobCount, wrongNameByte, nameTaken, wrongGrade, wrongJobBounds, tooManyRows, rowWithoutJob, rowWithoutInterval, rowWithoutUnits, rowOutOfOrder, outsideWindow, wrongTotal, overCapacity, belowFloorRule, clockAtEnd, speedAboveNormal, unsound, bufferTooShort}
 use Rattle.plan.specs.Same.{Same}
 use Rattle.planfields.specs.Fields.{version, opening, head}
-use Rattle.planfile.specs.Reading.{front, planFile, noPlan, reader}
+use Rattle.plan.specs.Rules.{noPlan}
+use Rattle.planfile.specs.Reader.{preamble, planFile, reader}
 use Rattle.planwriter.specs.Writing as writing
 use Rattle.planwriter.specs.Writing.{writer}
 use Rattle.judge.specs.Verdict.{Report, judged}
 use Rattle.judge.specs.Slack as slack
 use Rattle.judge.specs.Slack.{slackFigure}
 use Rattle.dispatch.specs.Step as step
-use Rattle.dispatch.specs.Step.{Slot, Ending, started, slotSound, slotFault, stepped, outcome}
-use Rattle.hostwords.specs.Memory.{planWords, shortPlan, shortRun, jobsTo, planIn, planOf, jobsOut, planOut, planPut, marksHold, runIn, runOf, runOut, runPut}
-use Rattle.gateway.specs.Calls.{Judged, Started, Read, Wrote, doneNumber, noneNumber, metNumber, discardedNumber, missedNumber, openNumber, numberOf, shortPlace, startWords, placed, slotWords, endingNumber, figureNumber, slackWords, readWords, writtenNumber, wroteWords, judgeCall, startCall, stepCall, outcomeCall, slackCall, readCall, writeCall}
-use Rattle.gateway.proofs.Back.{refused-step-stays}
-use Rattle.promises.specs.Cases.{tableOf, planE, tableE}
-use Rattle.promises.proofs.Numbers.{isOneOf, reader-numbers, writer-numbers, judge-numbers, slack-numbers, step-numbers, outcome-numbers}
-use Rattle.promises.proofs.Refused.{reader-22-leaves, reader-other-leaves, writer-refused-leaves}
-use Rattle.promises.proofs.Same.{same-slot, same-outcome, elseE, elseTable, same-E}
+use Rattle.dispatch.specs.Step.{SlotEffect, Ending, started, slotSound, slotFault, stepped, outcome}
+use Rattle.hostmemory.specs.Memory.{planWords, shortPlan, shortRun, jobsTo, planIn, planOf, jobsOut, planOut, planPut, marksHold, runIn, runOf, runOut, runPut}
+use Rattle.gateway.specs.Calls.{HostJudgeEffect, HostStartEffect, HostReadEffect, HostWriteEffect, doneNumber, noneNumber, metNumber, discardedNumber, missedNumber, openNumber, numberOf, shortLocation, startWords, located, slotWords, endingNumber, figureNumber, slackWords, readWords, writtenNumber, wroteWords, judgeCall, startCall, stepCall, outcomeCall, slackCall, readCall, writeCall}
+use Rattle.gateway.proofs.RefusedStep.{refused-step-stays}
+use Rattle.promises.proofs.Cases.{tableOf, planE, tableE}
+use Rattle.promises.proofs.RefusalNumbers.{reader-numbers, writer-numbers, judge-numbers, slack-numbers, step-numbers, outcome-numbers}
+use Rattle.promises.specs.Numbers.{isOneOf}
+use Rattle.promises.proofs.RefusalEffects.{reader-22-leaves, reader-other-leaves, writer-refused-leaves}
+use Rattle.promises.proofs.SameSlot.{same-slot, same-outcome, elseE, elseTable, same-E}
 use Rattle.promises.proofs.SameVerdict.{same-verdict, same-slack, started-same}
 use Rattle.promises.proofs.SameFile.{same-written}
 
--- What is one of some numbers is one of more.
+-- A member of a list is a member of a longer one.
 or-one : (x y : ℕ) (l : List ℕ) → isOneOf l x ≡ true → isOneOf (y ∷ l) x ≡ true
 or-one x y l h = by (eqb x y)
   where
@@ -42,7 +44,7 @@ or-one x y l h = by (eqb x y)
     by true = refl
     by false = h
 
--- The number of a report is that of nothing to refuse, or one that refuses it.
+-- The number of a report is that of no refusal, or one of those that can refuse it.
 report-one : (numbers : List ℕ) (r : Report) → ((number : ℕ) (rest : Report) → r ≡ number ∷ rest → isOneOf numbers number ≡ true)
     → isOneOf (doneNumber ∷ numbers) (numberOf r) ≡ true
 report-one numbers [] h = refl
@@ -91,40 +93,40 @@ host-write-numbers plan table out = by (shortPlan plan)
 abbrev judgeNumbers : List ℕ
 judgeNumbers = outsideWindow ∷ wrongTotal ∷ overCapacity ∷ belowFloorRule ∷ unsound ∷ bufferTooShort ∷ []
 
-pub host-judge-numbers : (plan table place : List ℕ) → isOneOf (doneNumber ∷ judgeNumbers) (judgeCall plan table place .number) ≡ true
+pub host-judge-numbers : (plan table location : List ℕ) → isOneOf (doneNumber ∷ judgeNumbers) (judgeCall plan table location .number) ≡ true
 unfolding judgeCall
-host-judge-numbers plan table place = by (shortPlan plan || shortPlace place)
+host-judge-numbers plan table location = by (shortPlan plan || shortLocation location)
   where
     by : (b : Bool)
         → isOneOf (doneNumber ∷ judgeNumbers)
-        (cond {A = Judged} b (record { number = bufferTooShort; place = place })
-        (record { number = numberOf (judged (planOf plan) table); place = placed (judged (planOf plan) table) place }) .number)
+        (cond {A = HostJudgeEffect} b (record { number = bufferTooShort; location = location })
+        (record { number = numberOf (judged (planOf plan) table); location = located (judged (planOf plan) table) location }) .number)
         ≡ true
     by true = refl
     by false = report-one judgeNumbers (judged (planOf plan) table) (judge-numbers (planOf plan) table)
 
 -- `gateway_start`: the same.
-pub host-start-numbers : (plan table run place : List ℕ) → isOneOf (doneNumber ∷ judgeNumbers) (startCall plan table run place .number) ≡ true
+pub host-start-numbers : (plan table run location : List ℕ) → isOneOf (doneNumber ∷ judgeNumbers) (startCall plan table run location .number) ≡ true
 unfolding startCall
-host-start-numbers plan table run place = by (shortPlan plan || shortRun run || shortPlace place)
+host-start-numbers plan table run location = by (shortPlan plan || shortRun run || shortLocation location)
   where
     by : (b : Bool)
         → isOneOf (doneNumber ∷ judgeNumbers)
-        (cond {A = Started} b (record { number = bufferTooShort; run = run; place = place })
+        (cond {A = HostStartEffect} b (record { number = bufferTooShort; run = run; location = location })
         (record {
           number = numberOf (judged (planOf plan) table);
           run = startWords (judged (planOf plan) table) (planOf plan) run;
-          place = placed (judged (planOf plan) table) place;
+          location = located (judged (planOf plan) table) location;
         }) .number)
         ≡ true
     by true = refl
     by false = report-one judgeNumbers (judged (planOf plan) table) (judge-numbers (planOf plan) table)
 
 -- `gateway_slack`: 0 or none essential, 15 to 17, 21, 22.
-pub host-slack-numbers : (plan table : List ℕ) (was : ℤ) (place : List ℕ)
-    → isOneOf (doneNumber ∷ noneNumber ∷ outsideWindow ∷ wrongTotal ∷ overCapacity ∷ unsound ∷ bufferTooShort ∷ []) (slackCall plan table was place .number) ≡ true
+pub host-slack-numbers : (plan table : List ℕ) (was : ℤ) (location : List ℕ)
+    → isOneOf (doneNumber ∷ noneNumber ∷ outsideWindow ∷ wrongTotal ∷ overCapacity ∷ unsound ∷ bufferTooShort ∷ []) (slackCall plan table was location .number) ≡ true
 unfolding slackCall
-host-slack-numbers plan table was place = by (shortPlan plan || shortPlace place)
+host-slack-numbers plan table was location = by (shortPlan plan || shortLocation location)
   where
     numbers : List ℕ
     numbers = outsideWindow ∷ wrongTotal ∷ overCapacity ∷ unsound ∷ bufferTooShort ∷ []
@@ -139,7 +141,7 @@ host-slack-numbers plan table was place = by (shortPlan plan || shortPlace place
 
     by : (b : Bool)
         → isOneOf (doneNumber ∷ noneNumber ∷ numbers)
-        (cond b (record { number = bufferTooShort; slack = was; place = place }) (slackWords (slackFigure (planOf plan) table) place) .number)
+        (cond b (record { number = bufferTooShort; slack = was; location = location }) (slackWords (slackFigure (planOf plan) table) location) .number)
         ≡ true
     by true = refl
     by false = told (slackFigure (planOf plan) table) refl
@@ -153,7 +155,7 @@ host-step-numbers plan table run v grants = by (shortPlan plan || shortRun run) 
     numbers : List ℕ
     numbers = clockAtEnd ∷ speedAboveNormal ∷ unsound ∷ bufferTooShort ∷ []
 
-    slot : Slot
+    slot : SlotEffect
     slot = stepped (planOf plan) table (runOf run) v grants
 
     by : (b c : Bool)
@@ -165,7 +167,7 @@ host-step-numbers plan table run v grants = by (shortPlan plan || shortRun run) 
     by false true = refl
     by false false = report-one numbers (slot .answer) (step-numbers (planOf plan) table (runOf run) v grants)
 
--- `gateway_outcome`: the four endings, 21, 22.
+-- `gateway_outcome`: the four outcomes, 21, 22.
 pub host-outcome-numbers : (plan run : List ℕ) (position : ℕ)
     → isOneOf (metNumber ∷ discardedNumber ∷ missedNumber ∷ openNumber ∷ unsound ∷ bufferTooShort ∷ []) (outcomeCall plan run position) ≡ true
 unfolding outcomeCall
@@ -186,12 +188,13 @@ host-outcome-numbers plan run position = by (shortPlan plan || shortRun run) (no
     by false true = refl
     by false false = told (outcome (planOf plan) (runOf run) position) refl
 
--- `gateway_read`: 22 leaves the table; any other refusal leaves zeros in its own places, and the words of a plan of zeros.
+-- `gateway_read`: 22 leaves the table unchanged; any other refusal leaves zeros in its own
+-- places, and the words of a plan of zeros.
 pub host-read-22-leaves : (file plan table : List ℕ) → readCall file plan table .number ≡ bufferTooShort → readCall file plan table .table ≡ table
 unfolding readCall
 host-read-22-leaves file plan table = by (shortPlan plan)
   where
-    left : Bool → Read
+    left : Bool → HostReadEffect
     left b = cond b (record { number = bufferTooShort; plan = plan; table = table }) (readWords (reader file table) plan)
 
     told : (r : Report) → reader file table .answer ≡ r → numberOf r ≡ bufferTooShort → reader file table .table ≡ table
@@ -207,7 +210,7 @@ pub host-read-other-leaves : (file plan table : List ℕ) → readCall file plan
 unfolding readCall
 host-read-other-leaves file plan table = by (shortPlan plan)
   where
-    left : Bool → Read
+    left : Bool → HostReadEffect
     left b = cond b (record { number = bufferTooShort; plan = plan; table = table }) (readWords (reader file table) plan)
 
     told : (r : Report) → reader file table .answer ≡ r → numberOf r ≢ doneNumber → numberOf r ≢ bufferTooShort
@@ -222,12 +225,12 @@ host-read-other-leaves file plan table = by (shortPlan plan)
     by true busy other = absurd (other refl)
     by false busy other = told (reader file table .answer) refl busy other
 
--- `gateway_write`: a refusal leaves the output.
+-- `gateway_write`: a refusal leaves the output unchanged.
 pub host-write-leaves : (plan table out : List ℕ) → writeCall plan table out .number ≢ doneNumber → writeCall plan table out .out ≡ out
 unfolding writeCall
 host-write-leaves plan table out = by (shortPlan plan)
   where
-    left : Bool → Wrote
+    left : Bool → HostWriteEffect
     left b = cond b (record { number = bufferTooShort; length = 0; out = out }) (wroteWords (writer (planOf plan) table out))
 
     told : (a : writing.Answer) → writer (planOf plan) table out .answer ≡ a → writtenNumber a ≢ doneNumber → writer (planOf plan) table out .out ≡ out
@@ -238,22 +241,24 @@ host-write-leaves plan table out = by (shortPlan plan)
     by true busy = refl
     by false busy = told (writer (planOf plan) table out .answer) refl busy
 
--- `gateway_start`: a refusal leaves the run's words. (`refused-step-stays` of gateway says the same of `gateway_step`, and of the grants.)
-pub host-start-leaves : (plan table run place : List ℕ) → startCall plan table run place .number ≢ doneNumber → startCall plan table run place .run ≡ run
+-- `gateway_start`: a refusal leaves the run's words unchanged. (`refused-step-stays` of gateway
+-- says the same of `gateway_step`, and of the grants.)
+pub host-start-leaves : (plan table run location : List ℕ) → startCall plan table run location .number ≢ doneNumber → startCall plan table run location .run ≡ run
 unfolding startCall
-host-start-leaves plan table run place = by (shortPlan plan || shortRun run || shortPlace place) (judged (planOf plan) table)
+host-start-leaves plan table run location = by (shortPlan plan || shortRun run || shortLocation location) (judged (planOf plan) table)
   where
-    left : Bool → Report → Started
+    left : Bool → Report → HostStartEffect
     left b r =
-        cond b (record { number = bufferTooShort; run = run; place = place })
-        (record { number = numberOf r; run = startWords r (planOf plan) run; place = placed r place })
+        cond b (record { number = bufferTooShort; run = run; location = location })
+        (record { number = numberOf r; run = startWords r (planOf plan) run; location = located r location })
 
     by : (b : Bool) (r : Report) → left b r .number ≢ doneNumber → left b r .run ≡ run
     by true r busy = refl
     by false [] busy = absurd (busy refl)
     by false (number ∷ rest) busy = refl
 
--- Words that mean the same plan, where neither are too few, get the same from every call that takes a plan.
+-- Words that encode the same plan, if there are enough of them, get
+-- the same from every call that takes a plan.
 module _ (plan table other-plan other : List ℕ) (same : Same (planOf plan) table (planOf other-plan) other) (long : planWords ≤ length plan)
     (other-long : planWords ≤ length other-plan) where
   both : shortPlan plan ≡ shortPlan other-plan
@@ -262,17 +267,17 @@ module _ (plan table other-plan other : List ℕ) (same : Same (planOf plan) tab
   verdict : judged (planOf plan) table ≡ judged (planOf other-plan) other
   verdict = same-verdict (planOf plan) table (planOf other-plan) other same
 
-  pub same-host-judge : (place : List ℕ) → judgeCall plan table place ≡ judgeCall other-plan other place
+  pub same-host-judge : (location : List ℕ) → judgeCall plan table location ≡ judgeCall other-plan other location
   unfolding judgeCall
-  same-host-judge place = rw (both, verdict) refl
+  same-host-judge location = rw (both, verdict) refl
 
-  pub same-host-slack : (was : ℤ) (place : List ℕ) → slackCall plan table was place ≡ slackCall other-plan other was place
+  pub same-host-slack : (was : ℤ) (location : List ℕ) → slackCall plan table was location ≡ slackCall other-plan other was location
   unfolding slackCall
-  same-host-slack was place = rw (both, same-slack (planOf plan) table (planOf other-plan) other same) refl
+  same-host-slack was location = rw (both, same-slack (planOf plan) table (planOf other-plan) other same) refl
 
-  pub same-host-start : (run place : List ℕ) → startCall plan table run place ≡ startCall other-plan other run place
+  pub same-host-start : (run location : List ℕ) → startCall plan table run location ≡ startCall other-plan other run location
   unfolding startCall
-  same-host-start run place = rw (both, verdict, starts (judged (planOf other-plan) other)) refl
+  same-host-start run location = rw (both, verdict, starts (judged (planOf other-plan) other)) refl
     where
       starts : (r : Report) → startWords r (planOf plan) run ≡ startWords r (planOf other-plan) run
       starts [] = ap (runPut run) (started-same (planOf plan) table (planOf other-plan) other same)
@@ -290,7 +295,7 @@ module _ (plan table other-plan other : List ℕ) (same : Same (planOf plan) tab
   unfolding writeCall
   same-host-write out = rw (both, same-written (planOf plan) table (planOf other-plan) other same out) refl
 
--- The words of plan E, held in two ways, mean the same plan.
+-- Two lists of words for plan E encode the same plan.
 abbrev wordsE : List ℕ
 wordsE = planOut planE
 
@@ -305,10 +310,10 @@ same-host-step-E : (run : List ℕ) → stepCall wordsE tableE run 2 (7 ∷ 7 �
 unfolding planOut jobsOut
 same-host-step-E run = same-host-step wordsE tableE elseWords elseTable words-same (lit≤ tt) (lit≤ tt) run 2 (7 ∷ 7 ∷ [])
 
--- Cases that meet the premises of what refusals leave: an empty file, a table of one place, no words for a
--- plan, no place to name, and plan E at speed 3.
+-- Instances that meet the premises of what refusals leave: an empty file, a table of one place, no
+-- words for a plan, no words for a location, and plan E at speed 3.
 empty-file-host-leaves : (readCall [] wordsE (replicate places 7) .table ≡ replicate places 0) × (readCall [] wordsE (replicate places 7) .plan ≡ planPut wordsE noPlan)
-unfolding version opening head front planFile reader readCall jobsOut planOut
+unfolding version opening head preamble planFile reader readCall jobsOut planOut
 empty-file-host-leaves = host-read-other-leaves [] wordsE (replicate places 7) (λ e. absurd (omega (arith, e))) (λ e. absurd (omega (arith, e)))
 
 short-table-host-stays : readCall [] wordsE (7 ∷ []) .table ≡ 7 ∷ []
@@ -319,9 +324,9 @@ no-room-host-stays : writeCall [] tableE (7 ∷ []) .out ≡ 7 ∷ []
 unfolding writeCall
 no-room-host-stays = host-write-leaves [] tableE (7 ∷ []) (λ e. absurd (omega (arith, e)))
 
-no-place-host-stays : startCall wordsE tableE (7 ∷ []) [] .run ≡ 7 ∷ []
+no-location-host-stays : startCall wordsE tableE (7 ∷ []) [] .run ≡ 7 ∷ []
 unfolding startCall jobsOut planOut
-no-place-host-stays = host-start-leaves wordsE tableE (7 ∷ []) [] (λ e. absurd (omega (arith, e)))
+no-location-host-stays = host-start-leaves wordsE tableE (7 ∷ []) [] (λ e. absurd (omega (arith, e)))
 
 too-fast-host-stays : (stepCall wordsE tableE (runOut (started planE)) 3 (7 ∷ 7 ∷ []) .run ≡ runOut (started planE))
     × (stepCall wordsE tableE (runOut (started planE)) 3 (7 ∷ 7 ∷ []) .grants ≡ 7 ∷ 7 ∷ [])

@@ -1,4 +1,4 @@
--- Plans that are the same are written alike.
+-- Plans that are the same have the same written form.
 use mathlib.Core.Path.{_≡_, refl, sym, _∙_, ap, ap₂}
 use mathlib.Core.Bool.{Bool, true, false, not, cond}
 use mathlib.Core.List.{List, _++_}
@@ -16,10 +16,10 @@ use Rattle.plan.specs.declared.kinds.Plan.{Plan}
 use Rattle.plan.proofs.Names.{name-at}
 use Rattle.planfields.specs.Bytes.{bytes}
 use Rattle.planwriter.specs.Writing.{jobBytes, jobsBytes, rowsBytes, body, written, wrote, withheld, writer}
-use Rattle.planwriter.proofs.Files.{sound-parts}
-use Rattle.roundtrip.specs.ReadAfterWrite.{rows-counted}
-use Rattle.promises.specs.Cases.{planE, tableE}
-use Rattle.promises.proofs.Same.{counted-same, long-same, elseE, elseTable, same-E}
+use Rattle.planwriter.proofs.WrittenFile.{sound-parts}
+use Rattle.roundtrip.proofs.ReadAfterWrite.{rows-counted}
+use Rattle.promises.proofs.Cases.{planE, tableE}
+use Rattle.promises.proofs.SameSlot.{counted-same, long-same, elseE, elseTable, same-E}
 use Rattle.promises.proofs.SameVerdict.{sound-same}
 
 -- Jobs with the same records have the same bytes.
@@ -29,7 +29,7 @@ jobs-bytes p q zero h = refl
 jobs-bytes p q (suc n) h = ap₂ (λ l j. l ++ jobBytes j) (jobs-bytes p q n (λ i l. h i (omega arith))) (h n (omega arith))
 
 module _ (p : Plan) (table : List ℕ) (q : Plan) (other : List ℕ) (same : Same p table q other) where
-  -- No row is written for a job that is not counted, so the names of the counted jobs decide.
+  -- No row is written for a job that is not counted, so only the names of counted jobs matter.
   rows-bytes : sound p table ≡ true
       → rowsBytes mostIntervals (names p) 0 (take places table) ≡ rowsBytes mostIntervals (names q) 0 (take places other)
   rows-bytes e =
@@ -73,6 +73,6 @@ module _ (p : Plan) (table : List ℕ) (q : Plan) (other : List ℕ) (same : Sam
       by true e = rw (written-same e) refl
       by false e = rw e refl
 
--- Plan E, held in two ways, is written alike.
+-- The two forms of plan E are written alike.
 same-written-E : writer planE tableE (replicate 116 7) ≡ writer elseE elseTable (replicate 116 7)
 same-written-E = same-written planE tableE elseE elseTable same-E (replicate 116 7)

@@ -1,4 +1,4 @@
--- Plans that are the same get the same verdict, the same slack figure and the same start.
+-- Plans that are the same get the same verdict, slack figure and start.
 use mathlib.Core.Path.{_≡_, refl, _∙_, ap, ap₂}
 use mathlib.Core.Bool.{false, not, _&&_, _||_}
 use mathlib.Core.List.{List, [], _∷_}
@@ -7,8 +7,8 @@ use native.Mathlib.Omega.{arith}
 use lib.Dec.{leb, ltb, eqb}
 use lib.IntN.{subℕ}
 use lib.ListN.{length, getD, replicate}
-use Rattle.sums.specs.Sum.{sum, on}
-use Rattle.sums.proofs.Laws.{sum-ext}
+use Rattle.base.specs.Sum.{sum, on}
+use Rattle.base.proofs.SumLaws.{sum-ext}
 use Rattle.plan.specs.Edition.{mostJobs, mostIntervals}
 use Rattle.plan.specs.Refusal.{outsideWindow, wrongTotal, overCapacity, belowFloorRule}
 use Rattle.plan.specs.Below.{every}
@@ -19,17 +19,17 @@ use Rattle.plan.specs.Same.{Same}
 use Rattle.plan.specs.declared.kinds.Rate.{Rate}
 use Rattle.plan.specs.declared.kinds.Plan.{Plan}
 use Rattle.plan.proofs.Below.{every-ext}
-use Rattle.plan.proofs.Rising.{boundaries-few}
-use Rattle.judge.specs.Constraints.{units, inWindow, span, demand, floorCarries}
+use Rattle.plan.proofs.BoundaryOrder.{boundaries-few}
+use Rattle.judge.specs.Constraints.{units, inWindow, intervalLength, demand, floorCapacity}
 use Rattle.judge.specs.Verdict.{fault, first, outsideFault, totalFault, capacityFault, isHiDeadline, isPair, fallsShort, floorFault, judged}
 use Rattle.judge.specs.Slack.{Figure, noneEssential, slackOf, taken, through, leastSlack, slackFigure}
-use Rattle.judge.proofs.First.{first-ext}
+use Rattle.judge.proofs.Reports.{first-ext}
 use Rattle.dispatch.specs.Step.{noRun, started, startFrom, startIn}
 use Rattle.dispatch.specs.declared.Run.{Run}
-use Rattle.promises.specs.Cases.{planE, tableE}
-use Rattle.promises.proofs.Same.{counted-same, release-same, deadline-same, size-same, hi-same, boundaries-same, first-same, every-same, grades-same, bounds-same, long-same, cell-same, elseE, elseTable, same-E}
+use Rattle.promises.proofs.Cases.{planE, tableE}
+use Rattle.promises.proofs.SameSlot.{counted-same, release-same, deadline-same, size-same, hi-same, boundaries-same, first-same, every-same, grades-same, bounds-same, long-same, cell-same, elseE, elseTable, same-E}
 
--- Steps that agree give the same, however often.
+-- Iterations of equal steps are equal.
 through-ext : {A : Type 0} (f g : ℕ → A → A) (n : ℕ) → ((k : ℕ) (a : A) → f k a ≡ g k a) → (a : A) → through f n a ≡ through g n a
 unfolding through
 through-ext f g zero h a = refl
@@ -71,7 +71,7 @@ module _ (p : Plan) (table : List ℕ) (q : Plan) (other : List ℕ) (same : Sam
   unfolding sound
   sound-same = rw intervals-same (sound-within-same (intervals q))
 
-  -- What is allotted in a job's intervals stands among the table's own places.
+  -- The allotments of counted jobs in the plan's intervals are among the table's own places.
   units-same : (i j : ℕ) → i < counted p → j < intervals p → units table i j ≡ units other i j
   units-same i j h k = cell-same p table q other same (mostIntervals * i + j) (omega (arith, boundaries-few p (counted p)))
 
@@ -101,8 +101,8 @@ module _ (p : Plan) (table : List ℕ) (q : Plan) (other : List ℕ) (same : Sam
       (size-same p table q other same i h))
       ∙ ap (first _) jobs-same
 
-  span-same : (j : ℕ) → span p j ≡ span q j
-  span-same j = ap₂ _-_ (boundary-same (suc j)) (boundary-same j)
+  intervalLength-same : (j : ℕ) → intervalLength p j ≡ intervalLength q j
+  intervalLength-same j = ap₂ _-_ (boundary-same (suc j)) (boundary-same j)
 
   capacity-same : capacityFault p table ≡ capacityFault q other
   unfolding capacityFault
@@ -110,7 +110,7 @@ module _ (p : Plan) (table : List ℕ) (q : Plan) (other : List ℕ) (same : Sam
       first-ext _ _ (intervals p)
       (λ j k.
       ap₂ (λ c l. fault (ltb c l) (overCapacity ∷ j ∷ []))
-      (ap₂ (λ (r : Rate) s. r .0 * s) (same .n) (span-same j))
+      (ap₂ (λ (r : Rate) s. r .0 * s) (same .n) (intervalLength-same j))
       (sum-ext _ _ (counted p) (λ i h. units-same i j h k) ∙ ap (sum (λ i. units other i j)) jobs-same))
       ∙ ap (first _) intervals-same
 
@@ -124,7 +124,7 @@ module _ (p : Plan) (table : List ℕ) (q : Plan) (other : List ℕ) (same : Sam
       ∙ ap (sum _) intervals-same))
       ∙ ap (sum _) jobs-same
 
-  carries-same : (l D : ℕ) → floorCarries p l D ≡ floorCarries q l D
+  carries-same : (l D : ℕ) → floorCapacity p l D ≡ floorCapacity q l D
   carries-same l D = ap₂ (λ (r : Rate) b. r .0 * (D - b)) (same .d) (boundary-same l)
 
   hi-deadline-same : (D : ℕ) → isHiDeadline p D ≡ isHiDeadline q D
@@ -151,12 +151,12 @@ module _ (p : Plan) (table : List ℕ) (q : Plan) (other : List ℕ) (same : Sam
       ∙ ap (first (λ m. fault (isPair q l m && fallsShort q other l m) (belowFloorRule ∷ l ∷ boundary q m ∷ []))) (ap suc intervals-same))
       ∙ ap (first _) intervals-same
 
-  -- The judge cannot tell plans that are the same apart.
+  -- The judge gives plans that are the same the same verdict.
   pub same-verdict : judged p table ≡ judged q other
   unfolding judged
   same-verdict = rw (long-same p table q other same, sound-same, outside-same, totals-same, capacity-same, floor-same) refl
 
-  -- Nor can the slack figure and the slack of a pair.
+  -- They have the same slack of each pair and the same slack figure.
   pub same-slack-of : (l D : ℕ) → slackOf p table l D ≡ slackOf q other l D
   same-slack-of l D = ap₂ subℕ (carries-same l D) (demand-same l D)
 
@@ -190,7 +190,7 @@ module _ (p : Plan) (table : List ℕ) (q : Plan) (other : List ℕ) (same : Sam
   unfolding startIn
   same-start-in was = same-start was
 
--- Plan E, held in two ways, gets one verdict, one figure, one slack of each pair and one start.
+-- The two forms of plan E get the same verdict, slack figure, slack of a pair and start.
 same-verdict-E : judged planE tableE ≡ judged elseE elseTable
 same-verdict-E = same-verdict planE tableE elseE elseTable same-E
 

@@ -1,4 +1,4 @@
--- Corollaries of demand 3: a correct scheduling strategy for every accepted plan; in a night at the floor every essential transfer is met.
+-- A corollary of demand 3: plans that satisfy the linear program have a correct scheduling strategy.
 use mathlib.Core.Path.{_≡_, refl}
 use mathlib.Core.Logic.{inr}
 use mathlib.Core.Bool.{false, and-false}
@@ -9,16 +9,16 @@ use borrow.Author.Tests.{le-ltb}
 use Rattle.plan.specs.Rules.{deadline}
 use Rattle.plan.specs.Same.{Same}
 use Rattle.plan.specs.declared.kinds.Plan.{Plan}
-use Rattle.judge.specs.Constraints.{Accepted}
+use Rattle.judge.specs.Constraints.{Figure2}
 use Rattle.promises.specs.Night.{latest, isDone, slowedBefore, Allowed, nightAt, Between, CorrectStrategy}
-use Rattle.promises.proofs.Sound.{Ruled}
-use Rattle.promises.proofs.Demand3.{kept}
+use Rattle.promises.proofs.SoundFacts.{Ruled}
+use Rattle.promises.proofs.NightInvariant.{kept}
 
--- A plan is the same as itself.
+-- `Same` is reflexive.
 pub same-self : (p : Plan) (table : List ℕ) → Same p table p table
 same-self p table = record { n = refl; d = refl; count = refl; jobs = λ i h. refl; cells = refl }
 
--- A night of one plan at speeds from floor to normal is one that the promise speaks of.
+-- A night of one plan at speeds from floor to normal is allowed.
 pub night-allowed : (p : Plan) (table : List ℕ) (speeds : List ℕ) → Between (p .d .0) (p .n .0) speeds → Allowed p table (nightAt p table speeds)
 unfolding Allowed
 night-allowed p table [] b = tt
@@ -40,8 +40,9 @@ lower-bound : (low lower high : ℕ) (speeds : List ℕ) → lower ≤ low → B
 lower-bound low lower high [] h b = tt
 lower-bound low lower high (v ∷ speeds) h b = (omega (arith, b .0), b .1, lower-bound low lower high speeds h (b .2))
 
--- Every plan that satisfies the linear program has a correct scheduling strategy: the dispatcher.
-pub correct-strategy : (p : Plan) (table : List ℕ) → Ruled p → p .d .0 ≤ p .n .0 → Accepted p table → CorrectStrategy p table
+-- Every plan that satisfies the linear program and rules 5 and 9, with d ≤ n, has a
+-- correct scheduling strategy: the dispatcher.
+pub correct-strategy : (p : Plan) (table : List ℕ) → Ruled p → p .d .0 ≤ p .n .0 → Figure2 p table → CorrectStrategy p table
 correct-strategy p table rules rates accepted =
     record {
       normal = λ speeds b i k o.

@@ -1,3 +1,3 @@
-pub mod Cases
 pub mod Night
-pub mod Wrong
+pub mod Demands
+pub mod Numbers

@@ -1,4 +1,4 @@
--- A night: calls of the step one after the other, what each transfer has had of them, and what was promised.
+-- A night: successive calls of the step, what each job has had from them, and what is promised.
 use mathlib.Core.Path.{_≡_}
 use mathlib.Core.Logic.{_⊎_}
 use mathlib.Core.Bool.{Bool, true, false, _&&_, _||_}
@@ -6,52 +6,53 @@ use mathlib.Core.List.{List, [], _∷_}
 use Prim.Native.Nat.{ℕ, _+_, _≤_, _<_}
 use lib.Dec.{ltb}
 use lib.ListN.{getD, replicate}
-use Rattle.sums.specs.Sum.{sum, on}
+use Rattle.plan.specs.Kinds.{Amount, Position, Table, Time}
+use Rattle.base.specs.Sum.{sum, on}
 use Rattle.plan.specs.Rules.{counted, size, deadline, isHi}
 use Rattle.plan.specs.Same.{Same}
 use Rattle.plan.specs.declared.kinds.Plan.{Plan}
 use Rattle.judge.specs.Verdict.{Report}
 use Rattle.dispatch.specs.declared.Run.{Run}
 use Rattle.dispatch.specs.Dues.{live}
-use Rattle.dispatch.specs.Step.{Slot, started, stepped}
+use Rattle.dispatch.specs.Step.{SlotEffect, started, stepped}
 
--- One slot's call: whatever plan, table, speed and grant row come with it.
+-- One slot's call, with any plan, table, speed and grant row.
 pub record Call : Type 0 where
   pub plan : Plan
   pub table : List ℕ
   pub speed : ℕ
   pub row : List ℕ
 
--- The run that plan p's start and a night's calls lead to, each taking up what the one before it left. A night is a list of calls, the latest
--- first.
+-- The run after plan p's start and a night's calls, each on the run that the call before it left. A
+-- night is a list of calls, the latest first.
 unfoldable pub runAfter : Plan → List Call → Run
 runAfter p [] = started p
 runAfter p (c ∷ earlier) = stepped (c .plan) (c .table) (runAfter p earlier) (c .speed) (c .row) .run
 
--- What the latest call left: its answer, the run and the grant row.
-abbrev pub latest : Plan → Call → List Call → Slot
+-- The effect of the latest call: its answer, the run and the grant row.
+abbrev pub latest : Plan → Call → List Call → SlotEffect
 latest p c earlier = stepped (c .plan) (c .table) (runAfter p earlier) (c .speed) (c .row)
 
--- A call is done when it is refused by nothing.
+-- A call is done if it is not refused.
 abbrev pub isDone : Report → Bool
 isDone [] = true
 isDone (number ∷ places) = false
 
 -- The clock before the latest call.
-abbrev pub clockAt : Plan → List Call → ℕ
+abbrev pub clockAt : (p : Plan) (earlier : List Call) → Time
 clockAt p earlier = runAfter p earlier .clock .0
 
--- What the latest call gave to job i: the number that a done call leaves at its place of the grant row.
-abbrev pub given : Plan → Call → List Call → ℕ → ℕ
+-- What the latest call gave to job i: its entry of the grant row if the call is done, otherwise 0.
+abbrev pub given : (p : Plan) (c : Call) (earlier : List Call) (i : Position) → Amount
 given p c earlier i = on (isDone (latest p c earlier .answer)) (getD (latest p c earlier .grants) i 0)
 
 -- What job i has had: the sum of what the calls gave it.
-unfoldable pub had : Plan → List Call → ℕ → ℕ
+unfoldable pub had : Plan → List Call → Position → Amount
 had p [] i = 0
 had p (c ∷ earlier) i = had p earlier i + given p c earlier i
 
--- What it has had in slots inside its window.
-unfoldable pub hadInWindow : Plan → List Call → ℕ → ℕ
+-- What job i has had in slots inside its window.
+unfoldable pub hadInWindow : Plan → List Call → Position → Amount
 hadInWindow p [] i = 0
 hadInWindow p (c ∷ earlier) i = hadInWindow p earlier i + on (live p (clockAt p earlier) i) (given p c earlier i)
 
@@ -59,62 +60,65 @@ hadInWindow p (c ∷ earlier) i = hadInWindow p earlier i + on (live p (clockAt 
 abbrev pub isSlow : Plan → Call → List Call → Bool
 isSlow p c earlier = isDone (latest p c earlier .answer) && ltb (c .speed) (p .n .0)
 
--- Some slot was slow.
+-- Whether some slot was slow.
 unfoldable pub slowed : Plan → List Call → Bool
 slowed p [] = false
 slowed p (c ∷ earlier) = slowed p earlier || isSlow p c earlier
 
 -- Whether a slow slot began before time D.
-unfoldable pub slowedBefore : Plan → ℕ → List Call → Bool
+unfoldable pub slowedBefore : Plan → Time → List Call → Bool
 slowedBefore p D [] = false
 slowedBefore p D (c ∷ earlier) = slowedBefore p D earlier || isSlow p c earlier && ltb (clockAt p earlier) D
 
 -- What job i has had from the first slow slot on.
-unfoldable pub hadSinceSlow : Plan → List Call → ℕ → ℕ
+unfoldable pub hadSinceSlow : Plan → List Call → Position → Amount
 hadSinceSlow p [] i = 0
 hadSinceSlow p (c ∷ earlier) i = hadSinceSlow p earlier i + on (slowed p (c ∷ earlier)) (given p c earlier i)
 
--- What a night has to meet: a call that is not refused brings the plan and table that were accepted, or the same ones, and a speed v with
--- d ≤ v ≤ n.
-unfoldable pub Allowed : Plan → List ℕ → List Call → Type 0
+-- The condition on a night: each call is refused, or has the accepted plan and table, or the
+-- same ones, and a speed v with d ≤ v ≤ n.
+unfoldable pub Allowed : Plan → Table → List Call → Type 0
 Allowed p table [] = Unit {0}
 Allowed p table (c ∷ earlier) =
     Allowed p table earlier
     × ((isDone (latest p c earlier .answer) ≡ false)
     ⊎ (Same p table (c .plan) (c .table) × (p .d .0 ≤ c .speed) × (c .speed ≤ p .n .0)))
 
--- In every slot of a night, what the jobs were given sums to at most its speed.
+-- In every call of a night, what the jobs were given sums to at most its speed.
 unfoldable pub WithinSpeeds : Plan → List Call → Type 0
 WithinSpeeds p [] = Unit {0}
 WithinSpeeds p (c ∷ earlier) = WithinSpeeds p earlier × (sum (given p c earlier) (counted p) ≤ c .speed)
 
--- What depositors can count on, wherever a night stands.
+-- What is promised, at every point of a night.
 pub record Kept (p : Plan) (night : List Call) : Type 0 where
-  -- By its deadline a HI job has had its size and no more, and nothing outside its window.
+  -- A HI job whose deadline the clock has reached has had
+  -- exactly its size, all of it inside its window.
   pub essential : (i : ℕ) → i < counted p → isHi p i ≡ true → deadline p i ≤ runAfter p night .clock .0
       → (had p night i ≡ size p i) × (hadInWindow p night i ≡ size p i)
-  -- The same of any job, if no slow slot began before its deadline.
+  -- The same for any job, if no slow slot began before its deadline.
   pub others : (i : ℕ) → i < counted p → deadline p i ≤ runAfter p night .clock .0 → slowedBefore p (deadline p i) night ≡ false
       → (had p night i ≡ size p i) × (hadInWindow p night i ≡ size p i)
-  -- A LO job has had nothing since the link first slowed.
+  -- A LO job has had nothing from the first slow slot on.
   pub discarded : (i : ℕ) → i < counted p → isHi p i ≡ false → hadSinceSlow p night i ≡ 0
-  -- At no time has a job had more than its size.
+  -- No job has had more than its size.
   pub no-more : (i : ℕ) → i < counted p → had p night i ≤ size p i
   -- No slot's grants sum to more than its speed.
   pub speeds : WithinSpeeds p night
 
--- A night of one plan and table at some speeds, the latest first, with a grant row of zeros lent to each call.
-abbrev pub nightAt : Plan → List ℕ → List ℕ → List Call
+-- The night of one plan and table at given speeds, the latest first,
+-- with a grant row of zeros for each call.
+abbrev pub nightAt : Plan → Table → List ℕ → List Call
 nightAt p table [] = []
 nightAt p table (v ∷ speeds) = record { plan = p; table = table; speed = v; row = replicate (p .count) 0 } ∷ nightAt p table speeds
 
--- All speeds lie from one to another.
+-- All speeds lie from `low` to `high`.
 abbrev pub Between : ℕ → ℕ → List ℕ → Type 0
 Between low high [] = Unit {0}
 Between low high (v ∷ speeds) = (low ≤ v) × (v ≤ high) × Between low high speeds
 
--- A correct scheduling strategy for a plan, as Baruah and Guo define it (definition 1): at the normal rate throughout, every job has its
--- size by its deadline; at the floor or above throughout, every HI job has.
+-- A correct scheduling strategy for a plan, as Baruah and Guo define it (definition 1): if
+-- the speed is always the normal rate, every job has had its size by its deadline; if it is
+-- always from floor to normal, every HI job has.
 pub record CorrectStrategy (p : Plan) (table : List ℕ) : Type 0 where
   pub normal : (speeds : List ℕ) → Between (p .n .0) (p .n .0) speeds → (i : ℕ) → i < counted p
       → deadline p i ≤ runAfter p (nightAt p table speeds) .clock .0 → had p (nightAt p table speeds) i ≡ size p i

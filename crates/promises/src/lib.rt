@@ -1,1 +1,2 @@
-// What is promised, as theorems over the definitions that the public calls are promised by. There is no code here.
+// What is promised, as theorems about the definitions in the contracts of
+// the public calls. There is no code here.

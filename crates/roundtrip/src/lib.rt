@@ -1,1 +1,2 @@
-// Plan files there and back: no code, only theorems over the definitions that the reader, the writer and the lookup are promised by.
+// Round trips of plan files: no code, only theorems about the definitions of the reader,
+// the writer and the lookup.

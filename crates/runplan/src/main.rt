@@ -1,23 +1,23 @@
-// Reads a plan file and then speeds from standard input, and prints the night line by line. What is printed is `night`'s `output` of
-// what is read; this program only moves the bytes.
+// Reads a plan file and then speeds from standard input, and prints the run line by line. What is
+// printed is crate `program`'s `output` of what is read; this crate only moves the bytes.
 use libc::STDIN_FILENO;
 use libc::STDOUT_FILENO;
 use lines::LONGEST_LINE;
 use lines::Printed;
-use night::Night;
-use night::advance;
-use night::file_bytes;
-use night::is_over;
-use night::is_reading;
-use night::open;
 use plan::edition::Edition;
+use program::Progress;
+use program::advance;
+use program::file_bytes;
+use program::is_over;
+use program::is_reading;
+use program::open;
 ghost use mathlib.Core.Path.{_≡_};
 ghost use Prim.Native.Nat.{_+_, _≤_};
 ghost use lib.ListN.{length};
 ghost use Rattle.io.specs.Counts.{Counts};
-ghost use Rattle.night.specs.Output.{largestFile};
+ghost use Rattle.program.specs.Output.{largestFile};
 
-// How many bytes of the line to show.
+// The number of bytes of the line to print.
 fn shown(printed: Printed, line: &[u8]) -> usize
     ensures { λ r. ⌜ Counts r (now (line .entry)) ⌝ }
 {
@@ -27,7 +27,7 @@ fn shown(printed: Printed, line: &[u8]) -> usize
     }
 }
 
-// Reads into a part of a file's room, and answers how many bytes came.
+// Reads into a file buffer from one offset up to another; returns the number of bytes read.
 fn read_part(file: &mut [u8], from: usize, to: usize) -> usize
     requires { ⌜ (from ≤ to) × (to ≤ length (now file)) ⌝ }
     ensures { λ r. ⌜ (from + r ≤ to) × (length (now (file .exit)) ≡ length (now (file .entry))) ⌝ }
@@ -35,7 +35,7 @@ fn read_part(file: &mut [u8], from: usize, to: usize) -> usize
     io::read_full(STDIN_FILENO, &mut file[from..to])
 }
 
-// Reads the plan file, and answers how many bytes of it came.
+// Reads the plan file; returns the number of its bytes that were read.
 fn read_file(file: &mut [u8]) -> usize
     requires { ⌜ length (now file) ≡ largestFile ⌝ }
     ensures { λ r. ⌜ Counts r (now (file .exit)) ⌝ }
@@ -46,32 +46,33 @@ fn read_file(file: &mut [u8]) -> usize
     first + rest
 }
 
-// A turn with the bytes that came for it: its line is shown before more is read.
-fn tell(night: Night, table: &[u32], bytes: &[u8]) -> Night {
+// One turn with the bytes read for it; its line is written before more is read.
+fn tell(progress: Progress, table: &[u32], bytes: &[u8]) -> Progress {
     let mut line = [0u8; LONGEST_LINE];
-    let turn = advance(night, table, bytes, &mut line);
+    let turn = advance(progress, table, bytes, &mut line);
     let printed = turn.printed;
     let n = shown(printed, &line);
     io::write_all(STDOUT_FILENO, &line[..n]);
-    turn.night
+    turn.progress
 }
 
-// One turn: takes a speed if the night reads.
-fn one(night: Night, table: &[u32]) -> Night {
+// One turn, which reads a speed if the progress takes one.
+fn one(progress: Progress, table: &[u32]) -> Progress {
     let mut speed = [0u8; 2];
-    if is_reading(night) {
+    if is_reading(progress) {
         let came = io::read_full(STDIN_FILENO, &mut speed);
-        return tell(night, table, &speed[..came]);
+        return tell(progress, table, &speed[..came]);
     }
-    tell(night, table, &speed[..0])
+    tell(progress, table, &speed[..0])
 }
 
-// All turns behind the first. A proved loop has to end, and nothing says that an input does: the count is one that no input uses up.
-fn play(begun: Night, table: &[u32]) {
-    let mut night = begun;
+// All turns after the first. A proved loop has to end, but an
+// input need not: no input uses up this count.
+fn play(begun: Progress, table: &[u32]) {
+    let mut progress = begun;
     let mut turns = u64::MAX;
-    while turns > 0 && !is_over(night) {
-        night = one(night, table);
+    while turns > 0 && !is_over(progress) {
+        progress = one(progress, table);
         turns -= 1;
     }
 }
@@ -85,5 +86,5 @@ fn main() {
     let printed = begun.printed;
     let n = shown(printed, &line);
     io::write_all(STDOUT_FILENO, &line[..n]);
-    play(begun.night, &table);
+    play(begun.progress, &table);
 }

@@ -11,8 +11,8 @@ use Rattle.plan.specs.Rules.{rulesHold}
 use Rattle.plan.specs.Boundaries.{boundaries}
 use Rattle.plan.specs.declared.kinds.Plan.{Plan}
 use Rattle.judge.specs.Verdict.{handFault, constraintFault, floorFault, orElse, judged}
-use Rattle.judge.proofs.First.{or-none, or-assoc, stops, passes}
-use Rattle.judge.proofs.Hand.{refused-by-none}
+use Rattle.judge.proofs.Reports.{or-none, or-assoc, stops, passes}
+use Rattle.judge.proofs.HandFault.{refused-by-none}
 use Rattle.judge.proofs.judge_at.Statement.{statement}
 use Rattle.judge.proofs.judge_at.Tie as tie
 
@@ -30,7 +30,7 @@ returns c =
     stops _ _ (floorFault p table) _ (c .before .before .refusal-of .ensures) (c .before .is-accepted .ensures) (c .if1 .taken)
     ∙ or-assoc (handFault p table) (constraintFault p table) (floorFault p table)
 
--- Where nothing is refused so far.
+-- The branch in which nothing has been refused so far.
 module _ (c : tie.Else1) where
   abbrev p : Plan
   p = c .before .before .before .before .before .args .p

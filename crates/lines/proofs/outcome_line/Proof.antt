@@ -1,4 +1,4 @@
--- `lines::outcome_line` meets its contract: a word for each ending.
+-- `lines::outcome_line` meets its contract: a word for each outcome.
 use mathlib.Core.Path.{refl}
 use borrow.Author.Needs.{needs}
 use Rattle.lines.proofs.outcome_line.Statement.{statement}

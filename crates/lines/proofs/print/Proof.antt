@@ -1,6 +1,6 @@
 -- `lines::print` meets its contract: all of the line, or nothing.
 use borrow.Author.Needs.{needs}
-use Rattle.lines.proofs.Output.{printed-short, printed-whole}
+use Rattle.lines.proofs.Printing.{printed-short, printed-whole}
 use Rattle.lines.proofs.print.Statement.{statement}
 use Rattle.lines.proofs.print.Tie as tie
 

@@ -1,14 +1,14 @@
--- `runplan::play` is safe and ends: the count of turns falls.
+-- `runplan::play` is safe and terminates: the count of turns decreases.
 use native.Mathlib.Omega.{arith}
 use borrow.Author.Needs.{needs}
 use Rattle.runplan.proofs.play.Statement.{statement}
 use Rattle.runplan.proofs.play.Tie as tie
 
 abbrev Inv-loop : tie.InvT-loop
-Inv-loop table night₀ turns₀ night turns = Unit {0}
+Inv-loop table progress₀ turns₀ progress turns = Unit {0}
 
 abbrev μ-loop : tie.MeasureT-loop
-μ-loop table night₀ turns₀ night turns = turns
+μ-loop table progress₀ turns₀ progress turns = turns
 
 loop-holds : tie.Need-loop-holds Inv-loop μ-loop
 loop-holds c = tt

@@ -1,10 +1,10 @@
--- `runplan::read_file` meets its contract: what is read into lies inside the file's room.
+-- `runplan::read_file` meets its contract: both reads stay inside the file buffer.
 use mathlib.Core.Path.{sym}
 use Prim.Native.Nat.{_+_}
 use native.Mathlib.Omega.{arith}
 use borrow.Author.Needs.{needs}
 use lib.Seq.{length-take-le}
-use Rattle.runplan.proofs.Sizes.{size-fits}
+use Rattle.runplan.proofs.FileSize.{size-fits}
 use Rattle.runplan.proofs.read_file.Statement.{statement}
 use Rattle.runplan.proofs.read_file.Tie as tie
 

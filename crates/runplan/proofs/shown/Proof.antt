@@ -1,4 +1,4 @@
--- `runplan::shown` meets its contract: no more than the line has.
+-- `runplan::shown` meets its contract: at most the length of the line.
 use mathlib.Core.Path.{sym}
 use borrow.Author.Needs.{needs}
 use lib.Seq.{length-take-le}

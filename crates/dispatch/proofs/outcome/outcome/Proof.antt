@@ -1,4 +1,4 @@
--- `dispatch::outcome::outcome` meets its contract: each test in its turn.
+-- `dispatch::outcome::outcome` meets its contract: the tests are in the order of the definition.
 use mathlib.Core.Path.{_≡_, refl, sym, _∙_}
 use Prim.Native.Nat.{_≤_}
 use mathlib.Core.Bool.{true}
@@ -8,11 +8,11 @@ use borrow.Author.Needs.{needs}
 use Rattle.plan.specs.Edition.{mostJobs}
 use Rattle.dispatch.specs.Step
 use Rattle.dispatch.specs.Step.{slotSound}
-use Rattle.dispatch.proofs.Sound.{sound-parts}
+use Rattle.dispatch.proofs.SlotSoundness.{sound-parts}
 use Rattle.dispatch.proofs.outcome.outcome.Statement.{statement}
 use Rattle.dispatch.proofs.outcome.outcome.Tie as tie
 
--- Past the first test the plan and the run are sound, so the jobs are few.
+-- After the first test the plan and the run are sound, so there are at most `mostJobs` jobs.
 sound : (c : tie.Else1) → slotSound (c .before .before .args .t1) (c .before .before .args .t2) ≡ true
 sound c = sym (c .before .slot-sound .ensures) ∙ not-false (c .before .slot-sound .result) (c .if1 .left)
 

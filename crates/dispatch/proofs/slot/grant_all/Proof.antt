@@ -1,28 +1,29 @@
--- `dispatch::slot::grant_all` meets its contract: after i jobs the first i places of both rows are filled.
+-- `dispatch::slot::grant_all` meets its contract. Loop invariant: the
+-- first i entries of both rows are filled.
 use mathlib.Core.Path.{_≡_, sym, _∙_, ap, ap₂}
 use Prim.Native.Nat.{_+_, _-_, _≤_}
 use native.Mathlib.Omega.{arith}
 use borrow.Author.Needs.{needs}
 use lib.ListN.{length, getD}
-use Rattle.dispatch.specs.Shares.{rowShare, filled}
-use Rattle.dispatch.proofs.Fills.{filled-start, filled-next, filled-length, filled-rest}
+use Rattle.dispatch.specs.inner.Shares.{rowShare, filled}
+use Rattle.dispatch.proofs.RowShares.{filled-start, filled-next, filled-length, filled-rest}
 use Rattle.dispatch.proofs.slot.grant_all.Statement.{statement}
 use Rattle.dispatch.proofs.slot.grant_all.Tie as tie
 
 abbrev Inv-loop : tie.InvT-loop
-Inv-loop turns claims jobs v carried₀ grants₀ i₀ carried grants i =
-    (i ≤ jobs) × (grants ≡ filled (rowShare turns claims jobs v) i grants₀) × (carried ≡ filled (λ k. getD carried₀ k 0 + rowShare turns claims jobs v k) i carried₀)
+Inv-loop ranks claims jobs v carried₀ grants₀ i₀ carried grants i =
+    (i ≤ jobs) × (grants ≡ filled (rowShare ranks claims jobs v) i grants₀) × (carried ≡ filled (λ k. getD carried₀ k 0 + rowShare ranks claims jobs v k) i carried₀)
 
 abbrev μ-loop : tie.MeasureT-loop
-μ-loop turns claims jobs v carried₀ grants₀ i₀ carried grants i = jobs - i
+μ-loop ranks claims jobs v carried₀ grants₀ i₀ carried grants i = jobs - i
 
--- What stands at the next place is still what stood there at first.
+-- Entry i of the carried units still has its initial value.
 same-here : (c : tie.In-loop Inv-loop μ-loop)
     → getD (c .before .loop .carried) (c .before .loop .i) 0 ≡ getD (c .before .before .before .args .carried .now) (c .before .loop .i) 0
 same-here c =
     let a = c .before .before .before .args in
     let i = c .before .loop .i in
-    ap (λ l. getD l i 0) (c .before .loop .inv .2) ∙ filled-rest (λ k. getD (a .carried .now) k 0 + rowShare (a .turns .now) (a .claims .now) (a .jobs) (a .v) k) i (a .carried .now) i (omega arith)
+    ap (λ l. getD l i 0) (c .before .loop .inv .2) ∙ filled-rest (λ k. getD (a .carried .now) k 0 + rowShare (a .ranks .now) (a .claims .now) (a .jobs) (a .v) k) i (a .carried .now) i (omega arith)
 
 loop-holds : tie.Need-loop-holds Inv-loop μ-loop
 loop-holds c = (omega arith, sym (filled-start _ _), sym (filled-start _ _))
@@ -36,7 +37,7 @@ mul-grants c = omega arith
 slice-write-grants : tie.Need-slice-write-grants Inv-loop μ-loop
 slice-write-grants c =
     let a = c .before .before .before .before .args in
-    let long = ap length (c .before .before .loop .inv .1) ∙ filled-length (rowShare (a .turns .now) (a .claims .now) (a .jobs) (a .v)) (c .before .before .loop .i) (a .grants .now) in
+    let long = ap length (c .before .before .loop .inv .1) ∙ filled-length (rowShare (a .ranks .now) (a .claims .now) (a .jobs) (a .v)) (c .before .before .loop .i) (a .grants .now) in
     omega arith
 
 mul-carried : tie.Need-mul-carried Inv-loop μ-loop
@@ -68,23 +69,23 @@ loop-again c =
     let a = c .before .before .before .before .before .args in
     let here = c .before .before .before .loop in (
       omega arith,
-      filled-next (rowShare (a .turns .now) (a .claims .now) (a .jobs) (a .v)) (here .i) (a .grants .now) (here .inv .1) (c .before .share-of .ensures),
-      filled-next (λ k. getD (a .carried .now) k 0 + rowShare (a .turns .now) (a .claims .now) (a .jobs) (a .v) k) (here .i) (a .carried .now) (here .inv .2)
+      filled-next (rowShare (a .ranks .now) (a .claims .now) (a .jobs) (a .v)) (here .i) (a .grants .now) (here .inv .1) (c .before .share-of .ensures),
+      filled-next (λ k. getD (a .carried .now) k 0 + rowShare (a .ranks .now) (a .claims .now) (a .jobs) (a .v) k) (here .i) (a .carried .now) (here .inv .2)
           (ap₂ _+_ (same-here (c .before .before)) (c .before .share-of .ensures)),
     )
 
 same-length : tie.Need-same-length Inv-loop μ-loop
 same-length c =
     let a = c .before .before .before .args in
-    ap length (c .before .loop .inv .1) ∙ filled-length (rowShare (a .turns .now) (a .claims .now) (a .jobs) (a .v)) (c .before .loop .i) (a .grants .now)
+    ap length (c .before .loop .inv .1) ∙ filled-length (rowShare (a .ranks .now) (a .claims .now) (a .jobs) (a .v)) (c .before .loop .i) (a .grants .now)
 
 returns : tie.Need-returns Inv-loop μ-loop
 returns c =
     let a = c .before .before .before .args in
     let whole : c .before .loop .i ≡ a .jobs = omega arith in (
       c .before .loop .inv .2
-          ∙ ap (λ n. filled (λ k. getD (a .carried .now) k 0 + rowShare (a .turns .now) (a .claims .now) (a .jobs) (a .v) k) n (a .carried .now)) whole,
-      c .before .loop .inv .1 ∙ ap (λ n. filled (rowShare (a .turns .now) (a .claims .now) (a .jobs) (a .v)) n (a .grants .now)) whole,
+          ∙ ap (λ n. filled (λ k. getD (a .carried .now) k 0 + rowShare (a .ranks .now) (a .claims .now) (a .jobs) (a .v) k) n (a .carried .now)) whole,
+      c .before .loop .inv .1 ∙ ap (λ n. filled (rowShare (a .ranks .now) (a .claims .now) (a .jobs) (a .v)) n (a .grants .now)) whole,
     )
 
 pub grant-all-spec : {M : Type 1} → statement M

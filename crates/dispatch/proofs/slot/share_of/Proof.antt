@@ -1,27 +1,28 @@
--- `dispatch::slot::share_of` meets its contract: after k jobs, the claims of those of the first k whose turn comes before.
+-- `dispatch::slot::share_of` meets its contract. Loop invariant: the sum of the
+-- claims of lesser rank among the first k jobs.
 use mathlib.Core.Path.{_≡_, sym, _∙_, ap, ap₂}
 use Prim.Native.Nat.{_+_, _*_, _-_, _≤_, min}
 use native.Mathlib.Omega.{arith}
 use borrow.Author.Needs.{needs}
 use lib.Dec.{ltb}
 use lib.ListN.{getD}
-use Rattle.sums.specs.Sum.{sum, on}
-use Rattle.sums.proofs.Laws.{sum-start, sum-step}
+use Rattle.base.specs.Sum.{sum, on}
+use Rattle.base.proofs.SumLaws.{sum-start, sum-step}
 use Rattle.dispatch.proofs.slot.share_of.Statement.{statement}
 use Rattle.dispatch.proofs.slot.share_of.Tie as tie
 
 abbrev Inv-loop : tie.InvT-loop
-Inv-loop turns claims jobs v i turn earlier₀ k₀ earlier k =
-    (k ≤ jobs) × (earlier ≡ sum (λ m. on (ltb (getD turns m 0) (getD turns i 0)) (getD claims m 0)) k) × (earlier ≤ 65535 * k)
+Inv-loop ranks claims jobs v i rank earlier₀ k₀ earlier k =
+    (k ≤ jobs) × (earlier ≡ sum (λ m. on (ltb (getD ranks m 0) (getD ranks i 0)) (getD claims m 0)) k) × (earlier ≤ 65535 * k)
 
 abbrev μ-loop : tie.MeasureT-loop
-μ-loop turns claims jobs v i turn earlier₀ k₀ earlier k = jobs - k
+μ-loop ranks claims jobs v i rank earlier₀ k₀ earlier k = jobs - k
 
-mul-turn : tie.Need-mul-turn Inv-loop μ-loop
-mul-turn c = search needs
+mul-rank : tie.Need-mul-rank Inv-loop μ-loop
+mul-rank c = search needs
 
-element-copy-out-turn : tie.Need-element-copy-out-turn Inv-loop μ-loop
-element-copy-out-turn c = search needs
+element-copy-out-rank : tie.Need-element-copy-out-rank Inv-loop μ-loop
+element-copy-out-rank c = search needs
 
 loop-holds : tie.Need-loop-holds Inv-loop μ-loop
 loop-holds c = (omega arith, sym (sum-start _), omega arith)
@@ -55,7 +56,7 @@ loop-again c =
     let a = c .before .before .before .before .before .before .args in
     let here = c .before .before .before .before .loop in (
       omega arith,
-      ap₂ _+_ (here .inv .1) (c .pick .ensures .0) ∙ sym (sum-step (λ m. on (ltb (getD (a .turns .now) m 0) (getD (a .turns .now) (a .i) 0)) (getD (a .claims .now) m 0)) (here .k)),
+      ap₂ _+_ (here .inv .1) (c .pick .ensures .0) ∙ sym (sum-step (λ m. on (ltb (getD (a .ranks .now) m 0) (getD (a .ranks .now) (a .i) 0)) (getD (a .claims .now) m 0)) (here .k)),
       omega (arith, c .before .before .before .before .before .before .pre .2 (here .k) (omega arith)),
     )
 
@@ -72,7 +73,7 @@ returns : tie.Need-returns Inv-loop μ-loop
 returns c =
     let a = c .before .before .before .before .before .args in
     let whole : c .before .before .before .loop .k ≡ a .jobs = omega arith in
-    c .rest-of .ensures ∙ ap (λ s. min (getD (a .claims .now) (a .i) 0) (a .v - s)) (c .before .before .before .loop .inv .1 ∙ ap (sum (λ m. on (ltb (getD (a .turns .now) m 0) (getD (a .turns .now) (a .i) 0)) (getD (a .claims .now) m 0))) whole)
+    c .rest-of .ensures ∙ ap (λ s. min (getD (a .claims .now) (a .i) 0) (a .v - s)) (c .before .before .before .loop .inv .1 ∙ ap (sum (λ m. on (ltb (getD (a .ranks .now) m 0) (getD (a .ranks .now) (a .i) 0)) (getD (a .claims .now) m 0))) whole)
 
 pub share-of-spec : {M : Type 1} → statement M
 share-of-spec =
@@ -80,8 +81,8 @@ share-of-spec =
     (tie.spec
     Inv-loop
     μ-loop
-    mul-turn
-    element-copy-out-turn
+    mul-rank
+    element-copy-out-rank
     loop-holds
     mul-pick
     element-copy-out-pick

@@ -1,4 +1,5 @@
--- `dispatch::soundness::carried_within` meets its contract: after i jobs the test holds over the first i.
+-- `dispatch::soundness::carried_within` meets its contract. Loop invariant:
+-- `within` is the test over the first i jobs.
 use mathlib.Core.Path.{_≡_, sym, _∙_, ap}
 use Prim.Native.Nat.{_-_, _≤_}
 use native.Mathlib.Omega.{arith}

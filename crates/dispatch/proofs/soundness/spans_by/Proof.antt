@@ -1,4 +1,4 @@
--- `dispatch::soundness::spans_by` meets its contract: there are few intervals.
+-- `dispatch::soundness::spans_by` meets its contract: the number of intervals does not overflow.
 use mathlib.Core.Path.{_∙_, ap}
 use Prim.Native.Nat.{ℕ, _+_, _*_, _≤_}
 use native.Mathlib.Numerals.{add-one}
@@ -8,8 +8,8 @@ use Rattle.plan.specs.Edition.{mostJobs}
 use Rattle.plan.specs.Rules.{counted}
 use Rattle.plan.specs.Boundaries.{boundaries, present}
 use Rattle.plan.specs.declared.kinds.Plan.{Plan}
-use Rattle.plan.proofs.Rising.{boundaries-few}
-use Rattle.plan.proofs.Come.{come-few}
+use Rattle.plan.proofs.BoundaryOrder.{boundaries-few}
+use Rattle.plan.proofs.BoundaryCount.{come-few}
 use Rattle.dispatch.proofs.soundness.spans_by.Statement.{statement}
 use Rattle.dispatch.proofs.soundness.spans_by.Tie as tie
 

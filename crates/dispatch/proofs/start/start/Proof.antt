@@ -1,4 +1,4 @@
--- `dispatch::start::start` meets its contract: the verdict tells whether there is a run.
+-- `dispatch::start::start` meets its contract: the verdict decides whether there is a run.
 use mathlib.Core.Path.{sym, _∙_, ap}
 use mathlib.Core.Bool.{false}
 use borrow.Author.Tests.{not-true}
@@ -7,15 +7,15 @@ use lib.ListN.{replicate}
 use Rattle.plan.specs.Edition.{mostJobs}
 use Rattle.plan.specs.declared.kinds.Slots.{Slots}
 use Rattle.judge.specs.Verdict.{isNone, judged}
-use Rattle.judge.specs.Answers.{report}
-use Rattle.judge.proofs.First.{passes}
+use Rattle.judge.specs.Answers.{verdictView}
+use Rattle.judge.proofs.Reports.{passes}
 use Rattle.dispatch.specs.declared.Run.{Run}
 use Rattle.dispatch.specs.Step.{started, noRun, startFrom}
-use Rattle.dispatch.proofs.Fresh.{stays}
+use Rattle.dispatch.proofs.StartEffect.{stays}
 use Rattle.dispatch.proofs.start.start.Statement.{statement}
 use Rattle.dispatch.proofs.start.start.Tie as tie
 
--- A run at a clock with nothing carried and both marks clear.
+-- A run at a given clock, with nothing carried and both marks clear.
 abbrev fresh : Slots → Run
 fresh clock = record { clock = clock; slow = false; below = false; carried = replicate mostJobs 0 }
 
@@ -44,7 +44,7 @@ returns-2 : tie.Need-returns-2
 unfolding started
 returns-2 c =
     let a = c .before .before .before .before .before .before .args in
-    let none = passes (report (c .before .before .before .before .judge .result)) (judged (a .p) (a .table .now)) (c .before .before .before .is-accepted .result) (c .before .before .before .before .judge .ensures) (c .before .before .before .is-accepted .ensures) (c .before .before .if1 .left) in (
+    let none = passes (verdictView (c .before .before .before .before .judge .result)) (judged (a .p) (a .table .now)) (c .before .before .before .is-accepted .result) (c .before .before .before .before .judge .ensures) (c .before .before .before .is-accepted .ensures) (c .before .before .if1 .left) in (
       c .before .before .before .before .judge .ensures,
       c .fresh2 .ensures ∙ ap fresh (c .before .first-release .ensures) ∙ ap (λ r. startFrom r (started (a .p)) noRun) (sym none),
     )

@@ -1,17 +1,17 @@
--- `dispatch::step::answer_to` meets its contract: the tests come in the order of the faults.
+-- `dispatch::step::answer_to` meets its contract: the tests are in the order of the refusals.
 use mathlib.Core.Path.{_≡_, refl, sym, _∙_}
 use mathlib.Core.Bool.{true, false}
 use borrow.Author.Needs.{needs}
 use borrow.Author.Tests.{not-true, not-false, lt-ltb, le-ltb}
-use Rattle.dispatch.specs.Standing.{isSound, isEnded}
+use Rattle.dispatch.specs.inner.Readiness.{isSound, isEnded}
 use Rattle.dispatch.proofs.step.answer_to.Statement.{statement}
 use Rattle.dispatch.proofs.step.answer_to.Tie as tie
 
--- What is known past the first test and the third.
-sound : (c : tie.Else1) → isSound (c .before .before .args .standing) ≡ true
+-- What the first and the third test establish.
+sound : (c : tie.Else1) → isSound (c .before .before .args .readiness) ≡ true
 sound c = sym (c .before .is-sound .ensures) ∙ not-false (c .before .is-sound .result) (c .if1 .left)
 
-running : (c : tie.Else3) → isEnded (c .before .before .before .before .before .args .standing) ≡ false
+running : (c : tie.Else3) → isEnded (c .before .before .before .before .before .args .readiness) ≡ false
 running c = sym (c .before .is-ended .ensures) ∙ c .if3 .left
 
 is-sound-requires : tie.Need-is-sound-requires

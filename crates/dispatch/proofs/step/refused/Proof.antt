@@ -1,4 +1,4 @@
--- `dispatch::step::refused` meets its contract: the run stands as it came.
+-- `dispatch::step::refused` meets its contract: the run is unchanged.
 use mathlib.Core.Path.{refl}
 use Rattle.dispatch.proofs.step.refused.Statement.{statement}
 use Rattle.dispatch.proofs.step.refused.Tie as tie

@@ -1,4 +1,5 @@
--- `dispatch::step::step` meets its contract: a refusal from the run's standing, or the slot from the rows of turns and claims.
+-- `dispatch::step::step` meets its contract: a refusal by readiness, or the slot from the rows of
+-- ranks and claims. Loop invariant: the first i entries of both rows are filled.
 use mathlib.Core.Path.{_≡_, refl, sym, _∙_, ap, ap₂}
 use mathlib.Core.Bool.{Bool, true, false, cond, _||_}
 use mathlib.Core.List.{List}
@@ -9,8 +10,8 @@ use borrow.Author.Needs.{needs}
 use borrow.Author.Tests.{not-true, not-false, ltb-false}
 use lib.Dec.{ltb}
 use lib.ListN.{length, getD, replicate}
-use Rattle.sums.specs.Sum.{sum, on, strided}
-use Rattle.sums.proofs.Laws.{sum-ext}
+use Rattle.base.specs.Sum.{sum, on, strided}
+use Rattle.base.proofs.SumLaws.{sum-ext}
 use Rattle.plan.specs.Edition.{mostJobs, mostIntervals, places}
 use Rattle.plan.specs.Rules.{counted, size}
 use Rattle.plan.specs.Boundaries.{present}
@@ -19,31 +20,31 @@ use Rattle.plan.specs.declared.kinds.Plan.{Plan}
 use Rattle.plan.specs.declared.kinds.Slots.{Slots}
 use Rattle.plan.specs.declared.kinds.Units.{Units}
 use Rattle.judge.specs.Verdict.{isNone}
-use Rattle.judge.proofs.First.{none-empty}
+use Rattle.judge.proofs.Reports.{none-empty}
 use Rattle.dispatch.specs.declared.Run.{Run}
 use Rattle.dispatch.specs.Dues.{carriedOf, slowAfter}
-use Rattle.dispatch.specs.Shares.{served, turn, capped, filled}
+use Rattle.dispatch.specs.inner.Shares.{served, rank, capped, filled}
 use Rattle.dispatch.specs.Step.{soundAt, slotSound, slotFault, advanced, stepped}
-use Rattle.dispatch.specs.Standing.{standing, begun, faultBy}
-use Rattle.dispatch.specs.Answers.{report}
-use Rattle.dispatch.proofs.Line.{neither}
-use Rattle.dispatch.proofs.Sound.{sound-parts, Parts, deadline-small, size-small, last-small}
-use Rattle.dispatch.proofs.Stands.{stands-fault, stands-clear, left-by}
-use Rattle.dispatch.proofs.Fills.{filled-start, filled-next, capped-small, stored-grants, stored-carried}
+use Rattle.dispatch.specs.inner.Readiness.{readiness, begun, faultBy}
+use Rattle.dispatch.specs.Answers.{answerView}
+use Rattle.dispatch.proofs.Queues.{neither}
+use Rattle.dispatch.proofs.SlotSoundness.{sound-parts, Parts, deadline-small, size-small, last-small}
+use Rattle.dispatch.proofs.Readiness.{readiness-fault, readiness-clear, left-by}
+use Rattle.dispatch.proofs.RowShares.{filled-start, filled-next, capped-small, stored-grants, stored-carried}
 use Rattle.dispatch.proofs.step.step.Statement.{statement}
 use Rattle.dispatch.proofs.step.step.Tie as tie
 
--- A run at a clock with those carried units; claims do not look at its marks.
+-- A run with this clock and these carried units; claims do not depend on its marks.
 abbrev with : Slots → List ℕ → Run
 with clock carried = record { clock = clock; slow = false; below = false; carried = carried }
 
--- The sum of the first numbers of a row is what is allotted in as many intervals.
+-- The sum of the first numbers of a row is the sum of the allotments in as many intervals.
 allotted : (table : List ℕ) (i spans : ℕ) → sum (strided table (mostIntervals * i) 1) spans ≡ sum (allotment mostIntervals table i) spans
 allotted table i spans =
     sum-ext (strided table (mostIntervals * i) 1) (allotment mostIntervals table i) spans
     (λ k l. ap (λ x. getD table (mostIntervals * i + x) 0) (one-mul k))
 
--- The claim that a turn of the loop finds, from what each call in it gives.
+-- The claim that one loop iteration computes, from the results of the calls in it.
 one-claim : (p : Plan) (table : List ℕ) (run : Run) (slow : Bool) (v i : ℕ) {claim total spans : ℕ} {carried : Units}
     → claim ≡ min (on (served p (run .clock .0) slow i) (cond slow (size p i) (min (size p i) total) - carried .0)) v
     → carried ≡ record { 0 = carriedOf run i }
@@ -54,14 +55,14 @@ one-claim p table run slow v i is by-units by-sum by-begun =
     is ∙ rw (by-units, by-sum, by-begun, allotted table i (suc (present p (run .clock .0)))) refl
 
 abbrev Inv-loop : tie.InvT-loop
-Inv-loop table v grants p clock carried jobs short answer slow below begun turns₀ claims₀ i₀ turns claims i =
-    (i ≤ jobs) × (turns ≡ filled (turn p) i (replicate mostJobs 0))
+Inv-loop table v grants p clock carried jobs short answer slow below begun ranks₀ claims₀ i₀ ranks claims i =
+    (i ≤ jobs) × (ranks ≡ filled (rank p) i (replicate mostJobs 0))
     × (claims ≡ filled (capped p table (with clock carried) slow v) i (replicate mostJobs 0))
 
 abbrev μ-loop : tie.MeasureT-loop
-μ-loop table v grants p clock carried jobs short answer slow below begun turns₀ claims₀ i₀ turns claims i = jobs - i
+μ-loop table v grants p clock carried jobs short answer slow below begun ranks₀ claims₀ i₀ ranks claims i = jobs - i
 
--- What the answer says: the slot's fault, by the run's standing.
+-- The view of the answer is the refusal of the slot's call.
 module _ (c : tie.After-answer-to Inv-loop μ-loop) where
   abbrev p : Plan
   p = c .before .before .before .before .before .before .before .before .before .args .t1
@@ -78,29 +79,29 @@ module _ (c : tie.After-answer-to Inv-loop μ-loop) where
   abbrev grants : List ℕ
   grants = c .before .before .before .before .before .before .before .before .before .args .grants .now
 
-  by-standing : report (c .answer-to .result)
-      ≡ faultBy (standing p (run .clock .0) (run .carried)) (ltb (length table) places || ltb (length grants) (counted p)) (ltb (p .n .0) v)
-  by-standing =
+  by-readiness : answerView (c .answer-to .result)
+      ≡ faultBy (readiness p (run .clock .0) (run .carried)) (ltb (length table) places || ltb (length grants) (counted p)) (ltb (p .n .0) v)
+  by-readiness =
       c .answer-to .ensures
-      ∙ ap₂ (λ s n. faultBy s (ltb (length table) places || ltb (length grants) n) (ltb (p .n .0) v)) (c .before .before .standing-of .ensures) (c .before .before .before .before .counted-of .ensures)
+      ∙ ap₂ (λ s n. faultBy s (ltb (length table) places || ltb (length grants) n) (ltb (p .n .0) v)) (c .before .before .readiness-of .ensures) (c .before .before .before .before .counted-of .ensures)
 
-  told : report (c .answer-to .result) ≡ slotFault p table run v grants
-  told = by-standing ∙ stands-fault p table run v grants
+  told : answerView (c .answer-to .result) ≡ slotFault p table run v grants
+  told = by-readiness ∙ readiness-fault p table run v grants
 
--- Where the answer is that it is done: plan and run are sound, and there is room.
+-- If the answer is done, plan and run are sound and no buffer is too short.
 module _ (c : tie.Else1 Inv-loop μ-loop) where
   abbrev here : tie.After-answer-to Inv-loop μ-loop
   here = c .before .before
 
-  none : isNone (report (here .answer-to .result)) ≡ true
+  none : isNone (answerView (here .answer-to .result)) ≡ true
   none = sym (c .before .is-done .ensures) ∙ not-false _ (c .if1 .left)
 
   going : (soundAt (p here) (run here .clock .0) (run here .carried) ≡ true)
       × ((ltb (length (table here)) places || ltb (length (grants here)) (counted (p here))) ≡ false)
-      × (begun (standing (p here) (run here .clock .0) (run here .carried)) ≡ suc (present (p here) (run here .clock .0)))
+      × (begun (readiness (p here) (run here .clock .0) (run here .carried)) ≡ suc (present (p here) (run here .clock .0)))
   going =
-      stands-clear (p here) (run here .clock .0) (run here .carried) (ltb (length (table here)) places || ltb (length (grants here)) (counted (p here))) (ltb (p here .n .0) (v here))
-      (ap isNone (sym (by-standing here)) ∙ none)
+      readiness-clear (p here) (run here .clock .0) (run here .carried) (ltb (length (table here)) places || ltb (length (grants here)) (counted (p here))) (ltb (p here .n .0) (v here))
+      (ap isNone (sym (by-readiness here)) ∙ none)
 
   parts : Parts (p here) (run here)
   unfolding slotSound
@@ -109,15 +110,15 @@ module _ (c : tie.Else1 Inv-loop μ-loop) where
   room : counted (p here) ≤ length (grants here)
   room = ltb-false (length (grants here)) (counted (p here)) (neither (ltb (length (table here)) places) _ (going .1) .1)
 
--- As many intervals have begun as end with the present one.
+-- The intervals begun are those up to and including the present one.
 spans : (c : tie.After-begun-in Inv-loop μ-loop) → c .begun-in .result ≡ suc (present (p (here (c .before .before .before .before .before))) (run (here (c .before .before .before .before .before)) .clock .0))
-spans c = c .begun-in .ensures ∙ ap begun (c .before .before .before .before .before .before .before .before .before .standing-of .ensures) ∙ going (c .before .before .before .before .before) .2
+spans c = c .begun-in .ensures ∙ ap begun (c .before .before .before .before .before .before .before .before .before .readiness-of .ensures) ∙ going (c .before .before .before .before .before) .2
 
 counted-of-requires : tie.Need-counted-of-requires Inv-loop μ-loop
 counted-of-requires c κs = search needs
 
-standing-of-requires : tie.Need-standing-of-requires Inv-loop μ-loop
-standing-of-requires c κs = search needs
+readiness-of-requires : tie.Need-readiness-of-requires Inv-loop μ-loop
+readiness-of-requires c κs = search needs
 
 answer-to-requires : tie.Need-answer-to-requires Inv-loop μ-loop
 answer-to-requires c κs = search needs
@@ -153,16 +154,16 @@ mul-job c = search needs
 element-copy-out-job : tie.Need-element-copy-out-job Inv-loop μ-loop
 element-copy-out-job c = search needs
 
-turn-of-requires : tie.Need-turn-of-requires Inv-loop μ-loop
-turn-of-requires c κs =
+rank-of-requires : tie.Need-rank-of-requires Inv-loop μ-loop
+rank-of-requires c κs =
     let was = c .before .before .before .before .before .before .before .before in
     (deadline-small (p (here was)) (parts was .bounds) (c .before .before .loop .i) (omega arith), omega arith)
 
-mul-turns : tie.Need-mul-turns Inv-loop μ-loop
-mul-turns c = search needs
+mul-ranks : tie.Need-mul-ranks Inv-loop μ-loop
+mul-ranks c = search needs
 
-array-write-turns : tie.Need-array-write-turns Inv-loop μ-loop
-array-write-turns c = omega arith
+array-write-ranks : tie.Need-array-write-ranks Inv-loop μ-loop
+array-write-ranks c = omega arith
 
 mul-sum-of : tie.Need-mul-sum-of Inv-loop μ-loop
 mul-sum-of c = search needs
@@ -199,13 +200,13 @@ loop-again c =
     let at = here (c .before .before .before .before .before .before .before .before .before .before .before .before) in
     let loop = c .before .before .before .before .before .before .loop in (
       omega arith,
-      filled-next (turn (p at)) (loop .i) (replicate mostJobs 0) (loop .inv .1) (c .before .before .before .turn-of .ensures),
+      filled-next (rank (p at)) (loop .i) (replicate mostJobs 0) (loop .inv .1) (c .before .before .before .rank-of .ensures),
       filled-next (capped (p at) (table at) (run at) (c .before .before .before .before .before .before .before .before .before .before .mark-after .result) (v at)) (loop .i) (replicate mostJobs 0) (loop .inv .2)
           (one-claim (p at) (table at) (run at) (c .before .before .before .before .before .before .before .before .before .before .mark-after .result) (v at) (loop .i)
           (c .claim-of .ensures) (c .before .units .ensures) (c .before .before .sum-of .ensures) (spans (c .before .before .before .before .before .before .before))),
     )
 
--- Past the loop both rows are whole.
+-- After the loop both rows are complete.
 module _ (c : tie.After-loop Inv-loop μ-loop) where
   abbrev at : tie.After-answer-to Inv-loop μ-loop
   at = here (c .before .before .before .before .before .before .before)
@@ -213,8 +214,8 @@ module _ (c : tie.After-loop Inv-loop μ-loop) where
   whole : c .before .loop .i ≡ counted (p at)
   whole = omega (arith, c .before .before .before .before .before .before .before .before .before .before .before .before .before .counted-of .ensures)
 
-  turn-row : c .before .loop .turns ≡ filled (turn (p at)) (counted (p at)) (replicate mostJobs 0)
-  turn-row = c .before .loop .inv .1 ∙ ap (λ n. filled (turn (p at)) n (replicate mostJobs 0)) whole
+  rank-row : c .before .loop .ranks ≡ filled (rank (p at)) (counted (p at)) (replicate mostJobs 0)
+  rank-row = c .before .loop .inv .1 ∙ ap (λ n. filled (rank (p at)) n (replicate mostJobs 0)) whole
 
   claim-row : c .before .loop .claims ≡ filled (capped (p at) (table at) (run at) (slowAfter (p at) (run at) (v at)) (v at)) (counted (p at)) (replicate mostJobs 0)
   claim-row =
@@ -246,11 +247,11 @@ returns-2 c =
     let rows = c .before .before .before .before .before .before .before .before in
     let was = c .before .before .before .before .before .before .before .before .before .before .before .before .before .before .before in
     let at = here was in
-    let empty = none-empty (report (at .answer-to .result)) (none was) in
+    let empty = none-empty (answerView (at .answer-to .result)) (none was) in
     let jobs = c .before .before .before .before .before .before .before .before .before .before .before .before .before .before .before .before .before .before .before .before .before .counted-of .ensures in
     let stored = c .before .before .before .grant-all .ensures in
-    let carried = stored-carried (p at) (table at) (run at) (v at) (grants at) (parts was .bounds) (room was) (turn-row rows) (claim-row rows) jobs (stored .0) in
-    let granted = stored-grants (p at) (table at) (run at) (v at) (grants at) (parts was .bounds) (room was) (turn-row rows) (claim-row rows) jobs (stored .1) in
+    let carried = stored-carried (p at) (table at) (run at) (v at) (grants at) (parts was .bounds) (room was) (rank-row rows) (claim-row rows) jobs (stored .0) in
+    let granted = stored-grants (p at) (table at) (run at) (v at) (grants at) (parts was .bounds) (room was) (rank-row rows) (claim-row rows) jobs (stored .1) in
     rw (sym (told at) ∙ empty)
     (λ t. record {
       answer = empty t;
@@ -270,7 +271,7 @@ step-spec =
     Inv-loop
     μ-loop
     counted-of-requires
-    standing-of-requires
+    readiness-of-requires
     answer-to-requires
     is-done-requires
     refused-requires
@@ -281,9 +282,9 @@ step-spec =
     loop-holds
     mul-job
     element-copy-out-job
-    turn-of-requires
-    mul-turns
-    array-write-turns
+    rank-of-requires
+    mul-ranks
+    array-write-ranks
     mul-sum-of
     sum-of-requires
     mul-units

@@ -1,18 +1,18 @@
--- `gateway::files::gateway_name` meets its contract: a name that is shown stands at its place inside the file.
+-- `gateway::files::gateway_name` meets its contract: a name that is shown lies inside the file.
 use mathlib.Core.Path.{_≡_, refl, sym, _∙_, ap}
 use Prim.Native.Nat.{_+_, _≤_}
 use native.Mathlib.Omega.{arith}
 use borrow.Author.Tests.{eq-eqb, ne-eqb}
 use lib.ListN.{length}
-use Rattle.planfile.specs.Reading.{nameAt, nameShown}
-use Rattle.planfile.proofs.Extent.{shown-inside}
+use Rattle.planfile.specs.Reader.{nameAt, nameShown}
+use Rattle.planfile.proofs.Offsets.{shown-inside}
 use Rattle.gateway.specs.Calls.{nameCall}
 use Rattle.gateway.proofs.Laws.{some-shown}
 use borrow.Author.Needs.{needs}
 use Rattle.gateway.proofs.files.gateway_name.Statement.{statement}
 use Rattle.gateway.proofs.files.gateway_name.Tie as tie
 
--- Past the test a name is shown, so it stands inside the file.
+-- After the test a name is shown, so it lies inside the file.
 some : (c : tie.Else1) → length (nameShown (c .before .before .before .args .file .now) (c .before .before .before .args .position)) ≡ 0 → ⊥
 some c e = c .if1 .left (ap length (c .before .name-of .ensures) ∙ e)
 

@@ -1,4 +1,4 @@
--- `gateway::files::gateway_read` meets its contract: 22, and else what the reader leaves.
+-- `gateway::files::gateway_read` meets its contract: 22, otherwise the effect of the reader.
 use mathlib.Core.Path.{refl}
 use borrow.Author.Tests.{lt-ltb, le-ltb}
 use borrow.Author.Needs.{needs}

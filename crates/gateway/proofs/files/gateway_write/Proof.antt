@@ -1,4 +1,4 @@
--- `gateway::files::gateway_write` meets its contract: 22, and else what the writer leaves.
+-- `gateway::files::gateway_write` meets its contract: 22, otherwise the effect of the writer.
 use mathlib.Core.Path.{refl}
 use borrow.Author.Tests.{lt-ltb, le-ltb}
 use Rattle.gateway.specs.Calls.{writeCall}

@@ -1,18 +1,18 @@
--- `gateway::judging::gateway_judge` meets its contract: 22, and else the verdict with its place.
+-- `gateway::judging::gateway_judge` meets its contract: 22, otherwise the verdict with its location.
 use mathlib.Core.Path.{refl}
 use native.Mathlib.Omega.{arith}
 use Prim.Native.Nat.{_≤_}
 use lib.ListN.{length, length-set}
-use Rattle.hostwords.specs.Memory.{planWords, placeWords}
+use Rattle.hostmemory.specs.Memory.{planWords, locationWords}
 use Rattle.gateway.specs.Calls.{judgeCall}
 use Rattle.gateway.proofs.Laws.{both-long}
 use borrow.Author.Needs.{needs}
 use Rattle.gateway.proofs.judging.gateway_judge.Statement.{statement}
 use Rattle.gateway.proofs.judging.gateway_judge.Tie as tie
 
--- Past the first test both buffers are long enough.
-long : (c : tie.Else1) → (planWords ≤ length (c .before .before .before .before .args .plan .now)) × (placeWords ≤ length (c .before .before .before .before .args .place .now))
-long c = both-long (c .before .before .before .before .args .plan .now) (c .before .before .before .before .args .place .now) planWords placeWords (c .if1 .left)
+-- After the first test both buffers are long enough.
+long : (c : tie.Else1) → (planWords ≤ length (c .before .before .before .before .args .plan .now)) × (locationWords ≤ length (c .before .before .before .before .args .location .now))
+long c = both-long (c .before .before .before .before .args .plan .now) (c .before .before .before .before .args .location .now) planWords locationWords (c .if1 .left)
 
 cast-result : tie.Need-cast-result
 cast-result c = search needs
@@ -30,14 +30,14 @@ judge-requires c κs = search needs
 first-of-requires : tie.Need-first-of-requires
 first-of-requires c κs = search needs
 
-slice-write-place : tie.Need-slice-write-place
-slice-write-place c = omega (arith, long (c .before .before .before) .1)
+slice-write-location : tie.Need-slice-write-location
+slice-write-location c = omega (arith, long (c .before .before .before) .1)
 
 second-of-requires : tie.Need-second-of-requires
 second-of-requires c κs = search needs
 
-slice-write-place-2 : tie.Need-slice-write-place-2
-slice-write-place-2 c = simp length-set (omega (arith, long (c .before .before .before .before) .1))
+slice-write-location-2 : tie.Need-slice-write-location-2
+slice-write-location-2 c = simp length-set (omega (arith, long (c .before .before .before .before) .1))
 
 number-of-requires : tie.Need-number-of-requires
 number-of-requires c κs = search needs
@@ -59,9 +59,9 @@ gateway-judge-spec =
     plan-of-requires
     judge-requires
     first-of-requires
-    slice-write-place
+    slice-write-location
     second-of-requires
-    slice-write-place-2
+    slice-write-location-2
     number-of-requires
     same-length
     returns-2)

@@ -1,20 +1,20 @@
--- `gateway::judging::gateway_slack` meets its contract: 22, and else the figure with its place.
+-- `gateway::judging::gateway_slack` meets its contract: 22, otherwise the figure with its location.
 use mathlib.Core.Path.{refl}
 use Prim.Native.Nat.{_≤_}
 use native.Mathlib.Omega.{arith}
 use lib.ListN.{length, length-set}
 use mir.Syntax.{w64}
 use mir.Facts.{toZ-ofZ}
-use Rattle.hostwords.specs.Memory.{planWords, placeWords}
+use Rattle.hostmemory.specs.Memory.{planWords, locationWords}
 use Rattle.gateway.specs.Calls.{slackCall}
 use Rattle.gateway.proofs.Laws.{both-long}
 use borrow.Author.Needs.{needs, sfits-of}
 use Rattle.gateway.proofs.judging.gateway_slack.Statement.{statement}
 use Rattle.gateway.proofs.judging.gateway_slack.Tie as tie
 
--- Past the first test both buffers are long enough.
-long : (c : tie.Else1) → (planWords ≤ length (c .before .before .before .before .args .plan .now)) × (placeWords ≤ length (c .before .before .before .before .args .place .now))
-long c = both-long (c .before .before .before .before .args .plan .now) (c .before .before .before .before .args .place .now) planWords placeWords (c .if1 .left)
+-- After the first test both buffers are long enough.
+long : (c : tie.Else1) → (planWords ≤ length (c .before .before .before .before .args .plan .now)) × (locationWords ≤ length (c .before .before .before .before .args .location .now))
+long c = both-long (c .before .before .before .before .args .plan .now) (c .before .before .before .before .args .location .now) planWords locationWords (c .if1 .left)
 
 cast-result : tie.Need-cast-result
 cast-result c = search needs
@@ -35,14 +35,14 @@ slack-figure-requires c κs = search needs
 slack-first-requires : tie.Need-slack-first-requires
 slack-first-requires c κs = search needs
 
-slice-write-place : tie.Need-slice-write-place
-slice-write-place c = omega (arith, long (c .before .before .before .before) .1)
+slice-write-location : tie.Need-slice-write-location
+slice-write-location c = omega (arith, long (c .before .before .before .before) .1)
 
 slack-second-requires : tie.Need-slack-second-requires
 slack-second-requires c κs = search needs
 
-slice-write-place-2 : tie.Need-slice-write-place-2
-slice-write-place-2 c = simp length-set (omega (arith, long (c .before .before .before .before .before) .1))
+slice-write-location-2 : tie.Need-slice-write-location-2
+slice-write-location-2 c = simp length-set (omega (arith, long (c .before .before .before .before .before) .1))
 
 slack-number-requires : tie.Need-slack-number-requires
 slack-number-requires c κs = search needs
@@ -66,9 +66,9 @@ gateway-slack-spec =
     slack-requires
     slack-figure-requires
     slack-first-requires
-    slice-write-place
+    slice-write-location
     slack-second-requires
-    slice-write-place-2
+    slice-write-location-2
     slack-number-requires
     same-length
     returns-2)

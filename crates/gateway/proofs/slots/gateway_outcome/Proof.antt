@@ -1,4 +1,4 @@
--- `gateway::slots::gateway_outcome` meets its contract: 22 and 21 in turn, and else the outcome.
+-- `gateway::slots::gateway_outcome` meets its contract: 22, then 21, otherwise the outcome.
 use mathlib.Core.Path.{refl, sym, _∙_}
 use borrow.Author.Tests.{not-true, not-false}
 use Rattle.gateway.specs.Calls.{outcomeCall}

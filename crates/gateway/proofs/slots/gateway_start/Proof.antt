@@ -1,20 +1,21 @@
--- `gateway::slots::gateway_start` meets its contract: 22, and else the verdict with its place and the run that it allows.
+-- `gateway::slots::gateway_start` meets its contract: 22, otherwise
+-- the verdict with its location, and the run.
 use mathlib.Core.Path.{refl}
 use Prim.Native.Nat.{_≤_}
 use native.Mathlib.Omega.{arith}
 use lib.ListN.{length, length-set}
-use Rattle.hostwords.specs.Memory.{planWords, runWords, placeWords}
+use Rattle.hostmemory.specs.Memory.{planWords, runWords, locationWords}
 use Rattle.gateway.specs.Calls.{startCall}
 use Rattle.gateway.proofs.Laws.{all-long}
 use borrow.Author.Needs.{needs}
 use Rattle.gateway.proofs.slots.gateway_start.Statement.{statement}
 use Rattle.gateway.proofs.slots.gateway_start.Tie as tie
 
--- Past the first test all three buffers are long enough.
+-- After the first test all three buffers are long enough.
 long : (c : tie.Else1)
-    → (planWords ≤ length (c .before .before .before .before .before .args .plan .now)) × (runWords ≤ length (c .before .before .before .before .before .args .run .now)) × (placeWords ≤ length (c .before .before .before .before .before .args .place .now))
+    → (planWords ≤ length (c .before .before .before .before .before .args .plan .now)) × (runWords ≤ length (c .before .before .before .before .before .args .run .now)) × (locationWords ≤ length (c .before .before .before .before .before .args .location .now))
 long c =
-    all-long (c .before .before .before .before .before .args .plan .now) (c .before .before .before .before .before .args .run .now) (c .before .before .before .before .before .args .place .now) planWords runWords placeWords (c .if1 .left)
+    all-long (c .before .before .before .before .before .args .plan .now) (c .before .before .before .before .before .args .run .now) (c .before .before .before .before .before .args .location .now) planWords runWords locationWords (c .if1 .left)
 
 cast-result : tie.Need-cast-result
 cast-result c = search needs
@@ -32,14 +33,14 @@ start-in-requires c κs = search needs
 first-of-requires : tie.Need-first-of-requires
 first-of-requires c κs = search needs
 
-slice-write-place : tie.Need-slice-write-place
-slice-write-place c = omega (arith, long (c .before .before .before .before .before .before) .2)
+slice-write-location : tie.Need-slice-write-location
+slice-write-location c = omega (arith, long (c .before .before .before .before .before .before) .2)
 
 second-of-requires : tie.Need-second-of-requires
 second-of-requires c κs = search needs
 
-slice-write-place-2 : tie.Need-slice-write-place-2
-slice-write-place-2 c = simp length-set (omega (arith, long (c .before .before .before .before .before .before .before) .2))
+slice-write-location-2 : tie.Need-slice-write-location-2
+slice-write-location-2 c = simp length-set (omega (arith, long (c .before .before .before .before .before .before .before) .2))
 
 number-of-requires : tie.Need-number-of-requires
 number-of-requires c κs = search needs
@@ -64,9 +65,9 @@ gateway-start-spec =
     plan-of-requires
     start-in-requires
     first-of-requires
-    slice-write-place
+    slice-write-location
     second-of-requires
-    slice-write-place-2
+    slice-write-location-2
     number-of-requires
     same-length
     same-length-2

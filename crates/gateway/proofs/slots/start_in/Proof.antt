@@ -1,9 +1,10 @@
--- `gateway::slots::start_in` meets its contract: the verdict tells whether the run is put into the words.
+-- `gateway::slots::start_in` meets its contract: the verdict decides
+-- whether the run is written to the words.
 use mathlib.Core.Path.{sym, _∙_, ap}
 use Rattle.judge.specs.Verdict.{isNone, judged}
 use Rattle.dispatch.specs.Step.{started, noRun}
-use Rattle.dispatch.proofs.Fresh as fresh
-use Rattle.hostwords.specs.Memory.{runPut}
+use Rattle.dispatch.proofs.StartEffect as fresh
+use Rattle.hostmemory.specs.Memory.{runPut}
 use Rattle.gateway.proofs.Laws.{starts, stays}
 use borrow.Author.Needs.{needs}
 use Rattle.gateway.proofs.slots.start_in.Statement.{statement}

@@ -1,9 +1,10 @@
--- `judge::faults::constraints` meets its contract: each rule answers only where those before it have nothing.
+-- `judge::faults::constraints` meets its contract: each rule reports only if
+-- the rules before it have nothing to report.
 use mathlib.Core.Path.{refl, sym, _∙_}
 use native.Mathlib.Omega.{arith}
 use borrow.Author.Needs.{needs}
 use Rattle.judge.specs.Verdict.{capacityFault}
-use Rattle.judge.proofs.First.{or-none, stops, passes}
+use Rattle.judge.proofs.Reports.{or-none, stops, passes}
 use Rattle.judge.proofs.faults.constraints.Statement.{statement}
 use Rattle.judge.proofs.faults.constraints.Tie as tie
 

@@ -10,7 +10,7 @@ use Rattle.plan.specs.Refusal.{unsound, bufferTooShort}
 use Rattle.plan.specs.Table.{sound}
 use Rattle.plan.proofs.Stray.{sound-told}
 use Rattle.judge.specs.Verdict.{fault, orElse}
-use Rattle.judge.proofs.Hand.{unbounded}
+use Rattle.judge.proofs.HandFault.{unbounded}
 use Rattle.judge.proofs.faults.in_hand.Statement.{statement}
 use Rattle.judge.proofs.faults.in_hand.Tie as tie
 
@@ -31,7 +31,7 @@ sub-sound-of c = search needs
 sound-of-requires : tie.Need-sound-of-requires
 sound-of-requires c κs = search needs
 
--- What the soundness test told is whether the plan is sound.
+-- The result of `sound_of` is whether the plan is sound.
 tested : (c : tie.After-sound-of) → c .sound-of .result ≡ sound (c .before .before .before .before .args .p) (c .before .before .before .before .args .table .now)
 tested c =
     let a = c .before .before .before .before .args in

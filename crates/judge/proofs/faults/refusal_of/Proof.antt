@@ -11,8 +11,8 @@ use Rattle.plan.specs.Rules.{rulesHold}
 use Rattle.plan.specs.Boundaries.{boundaries}
 use Rattle.plan.specs.declared.kinds.Plan.{Plan}
 use Rattle.judge.specs.Verdict.{handFault}
-use Rattle.judge.proofs.First.{or-none, stops, passes}
-use Rattle.judge.proofs.Hand.{hand-ready}
+use Rattle.judge.proofs.Reports.{or-none, stops, passes}
+use Rattle.judge.proofs.HandFault.{hand-ready}
 use Rattle.judge.proofs.faults.refusal_of.Statement.{statement}
 use Rattle.judge.proofs.faults.refusal_of.Tie as tie
 
@@ -25,7 +25,7 @@ is-accepted-requires c κs = search needs
 returns : tie.Need-returns
 returns c = stops _ _ _ _ (c .before .before .in-hand .ensures) (c .before .is-accepted .ensures) (c .if1 .taken)
 
--- Where nothing is refused so far.
+-- The branch in which nothing has been refused so far.
 module _ (c : tie.Else1) where
   abbrev p : Plan
   p = c .before .before .before .before .before .args .p

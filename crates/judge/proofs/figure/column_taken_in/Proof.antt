@@ -1,4 +1,5 @@
--- `judge::figure::column_taken_in` meets its contract: from interval l on, the sum, and the least slack, with which the intervals before l lead to the whole column's figure.
+-- `judge::figure::column_taken_in` meets its contract. Loop invariant: the sum from interval l on,
+-- and a least slack that leads, with the intervals before l, to the figure of the whole column.
 use mathlib.Core.Path.{sym, _∙_, ap, ap₂, _≡_}
 use mathlib.Core.Bool.{cond}
 use Prim.Native.Nat.{_+_, _*_, _-_, _^_, _≤_, _<_}
@@ -8,14 +9,14 @@ use borrow.Author.Needs.{needs}
 use lib.IntN.{subℕ}
 use lib.ListN.{getD}
 use lib.Signed.{leZ}
-use Rattle.sums.specs.Sum.{sum}
-use Rattle.sums.proofs.Laws.{sum-start}
+use Rattle.base.specs.Sum.{sum}
+use Rattle.base.proofs.SumLaws.{sum-start}
 use Rattle.plan.specs.Edition.{mostJobs, mostIntervals}
-use Rattle.judge.specs.Constraints.{mostAtPlace, mostSide}
-use Rattle.judge.specs.Columns.{sooner, columnTaken}
-use Rattle.judge.specs.Answers.{figure}
+use Rattle.judge.specs.inner.Widths.{mostAtPlace, mostSide}
+use Rattle.judge.specs.inner.Columns.{sooner, columnTaken}
+use Rattle.judge.specs.Answers.{slackView}
 use Rattle.judge.proofs.Signed.{difference-fits, kept-difference, kept-choice}
-use Rattle.judge.proofs.Taken.{sooner-two, taken-none, taken-some, taken-start, taken-next, choice-from}
+use Rattle.judge.proofs.ColumnUpdate.{sooner-two, taken-none, taken-some, taken-start, taken-next, choice-from}
 use Rattle.judge.proofs.figure.column_taken_in.Statement.{statement}
 use Rattle.judge.proofs.figure.column_taken_in.Tie as tie
 use mir.Syntax.{w64}
@@ -24,7 +25,7 @@ use mir.Facts.{sfits-lit}
 
 abbrev Inv-loop : tie.InvT-loop
 Inv-loop due d sums times m known time best₀ at₀ asked₀ l₀ best at asked l =
-    (l ≤ m) × (asked .0 ≡ sum (λ k. getD sums (l + k) 0) (m - l)) × (asked .0 ≤ (m - l) * (mostJobs * mostAtPlace)) × (columnTaken (d .0) sums times m l (sooner (figure known) (toZ w64 best) at (getD times m 0)) ≡ columnTaken (d .0) sums times m m (figure known)) × (l ≤ at) × SFits w64 (toZ w64 best)
+    (l ≤ m) × (asked .0 ≡ sum (λ k. getD sums (l + k) 0) (m - l)) × (asked .0 ≤ (m - l) * (mostJobs * mostAtPlace)) × (columnTaken (d .0) sums times m l (sooner (slackView known) (toZ w64 best) at (getD times m 0)) ≡ columnTaken (d .0) sums times m m (slackView known)) × (l ≤ at) × SFits w64 (toZ w64 best)
 
 abbrev μ-loop : tie.MeasureT-loop
 μ-loop due d sums times m known time best₀ at₀ asked₀ l₀ best at asked l = l
@@ -32,7 +33,7 @@ abbrev μ-loop : tie.MeasureT-loop
 returns : tie.Need-returns Inv-loop μ-loop
 returns c =
     let a = c .before .before .before .args in
-    taken-none (a .due) (a .d .0) (a .sums .now) (a .times .now) (a .m) (figure (a .known)) (c .if1 .taken)
+    taken-none (a .due) (a .d .0) (a .sums .now) (a .times .now) (a .m) (slackView (a .known)) (c .if1 .taken)
 
 mul-time : tie.Need-mul-time Inv-loop μ-loop
 mul-time c = search needs
@@ -45,7 +46,7 @@ loop-holds c =
     let a = c .before .before .before .before .args in
     let none : a .m - a .m ≡ 0 = omega arith in
     let product = mul-le-mul {n₁ = a .d .0} {m₁ = getD (a .times .now) (a .m) 0} {n₂ = 65535} {m₂ = 4294967295} (omega arith) (omega (arith, c .shared-slice-known3 .given (a .m))) in
-    (omega arith, sym (ap (sum _) none ∙ sum-start _), omega arith, taken-start (a .d .0) (a .sums .now) (a .times .now) (a .m) (2 ^ 63 - 1) (figure (a .known)) (taken-some (a .due) (a .m) (c .before .if1 .left) .1) (omega (arith, product)), omega arith, sfits-lit tt)
+    (omega arith, sym (ap (sum _) none ∙ sum-start _), omega arith, taken-start (a .d .0) (a .sums .now) (a .times .now) (a .m) (2 ^ 63 - 1) (slackView (a .known)) (taken-some (a .due) (a .m) (c .before .if1 .left) .1) (omega (arith, product)), omega arith, sfits-lit tt)
 
 sub-l : tie.Need-sub-l Inv-loop μ-loop
 sub-l c = omega (arith, c .loop-test .taken)
@@ -56,7 +57,7 @@ mul-t21 c = omega (arith, c .before .loop .inv .0, c .before .before .before .be
 shared-slice-read-t23 : tie.Need-shared-slice-read-t23 Inv-loop μ-loop
 shared-slice-read-t23 c = omega (arith, c .before .loop-test .taken, c .before .before .loop .inv .0, c .before .before .before .before .before .before .before .pre .1)
 
--- The sum stays small with one interval more.
+-- The sum stays below 2^62 with one more interval.
 small : (c : tie.In-loop Inv-loop μ-loop) → c .before .loop .asked .0 + getD (c .before .before .before .before .before .before .args .sums .now) (c .before .loop .l - 1) 0 < mostSide
 small c =
     omega (arith, c .before .before .before .before .before .before .pre .3 (c .before .loop .l - 1) (omega (arith, c .loop-test .taken, c .before .loop .inv .0)), mul-le-mul-right {m = c .before .before .before .before .before .before .args .m - c .before .loop .l} {n = mostIntervals} (mostJobs * mostAtPlace) (omega (arith, c .before .before .before .before .before .before .pre .2)), c .before .loop .inv .2)
@@ -64,17 +65,17 @@ small c =
 add-t24 : tie.Need-add-t24 Inv-loop μ-loop
 add-t24 c = omega (arith, small (c .before .before))
 
-mul-carried : tie.Need-mul-carried Inv-loop μ-loop
-mul-carried c = omega (arith, c .before .before .before .loop .inv .0, c .before .before .before .before .before .before .before .before .pre .2)
+mul-capacity : tie.Need-mul-capacity Inv-loop μ-loop
+mul-capacity c = omega (arith, c .before .before .before .loop .inv .0, c .before .before .before .before .before .before .before .before .pre .2)
 
-shared-slice-read-carried : tie.Need-shared-slice-read-carried Inv-loop μ-loop
-shared-slice-read-carried c = omega (arith, c .before .before .before .loop-test .taken, c .before .before .before .before .loop .inv .0, c .before .before .before .before .before .before .before .before .before .pre .0)
+shared-slice-read-capacity : tie.Need-shared-slice-read-capacity Inv-loop μ-loop
+shared-slice-read-capacity c = omega (arith, c .before .before .before .loop-test .taken, c .before .before .before .before .loop .inv .0, c .before .before .before .before .before .before .before .before .before .pre .0)
 
-carried-requires : tie.Need-carried-requires Inv-loop μ-loop
-carried-requires c κs = search needs
+capacity-requires : tie.Need-capacity-requires Inv-loop μ-loop
+capacity-requires c κs = search needs
 
 slack-from-requires : tie.Need-slack-from-requires Inv-loop μ-loop
-slack-from-requires c κs = (c .carried .ensures .1, small (c .before .before .before .before))
+slack-from-requires c κs = (c .capacity .ensures .1, small (c .before .before .before .before))
 
 pick-requires : tie.Need-pick-requires Inv-loop μ-loop
 pick-requires c κs = search needs
@@ -96,14 +97,14 @@ loop-again c =
     let best = toZ w64 (here .best) in
     let slack = toZ w64 (ofZ w64 (c .before .before .slack-from .result)) in
     let time = getD (a .times .now) (a .m) 0 in
-    let carries = c .before .before .before .carried in
+    let carries = c .before .before .before .capacity in
     let more = small (c .before .before .before .before .before .before .before) in
     let is : slack ≡ subℕ (carries .result .0) (asked + getD (a .sums .now) (l - 1) 0) = kept-difference _ _ _ (carries .ensures .1) more (c .before .before .slack-from .ensures) in
     let fits : SFits w64 slack = rw is (difference-fits _ _ (carries .ensures .1) more) in
     let kept = kept-choice (leZ slack best) slack best (c .lesser-of .result) fits (here .inv .5) (c .lesser-of .ensures) in
-    let turn = taken-next (a .d .0) (a .sums .now) (a .times .now) (a .m) l asked slack (sooner (figure (a .known)) best (here .at) time) (sooner (figure (a .known)) (toZ w64 (ofZ w64 (c .lesser-of .result))) (c .before .pick .result) time) some (here .inv .0) (here .inv .1)
+    let turn = taken-next (a .d .0) (a .sums .now) (a .times .now) (a .m) l asked slack (sooner (slackView (a .known)) best (here .at) time) (sooner (slackView (a .known)) (toZ w64 (ofZ w64 (c .lesser-of .result))) (c .before .pick .result) time) some (here .inv .0) (here .inv .1)
     (is ∙ ap (λ n. subℕ n (asked + getD (a .sums .now) (l - 1) 0)) (carries .ensures .0))
-    (ap₂ (λ s n. sooner (figure (a .known)) s n time) (kept .0) (c .before .pick .ensures) ∙ sym (sooner-two (figure (a .known)) best slack (here .at) (l - 1) time (omega (arith, some, here .inv .4)))) in
+    (ap₂ (λ s n. sooner (slackView (a .known)) s n time) (kept .0) (c .before .pick .ensures) ∙ sym (sooner-two (slackView (a .known)) best slack (here .at) (l - 1) time (omega (arith, some, here .inv .4)))) in
     let one-more : a .m - (l - 1) ≡ a .m - l + 1 = omega (arith, some, here .inv .0) in (
       omega (arith, here .inv .0),
       turn .0,
@@ -122,7 +123,7 @@ returns-2 c =
     let a = c .before .before .before .before .before .before .before .args in
     let end : c .before .before .loop .l ≡ 0 = omega (arith, c .before .loop-test .left) in
     c .sooner-of .ensures ∙ (rw end at (c .before .before .loop .inv .3))
-    ∙ sym (ap (λ b. cond b (columnTaken (a .d .0) (a .sums .now) (a .times .now) (a .m) (a .m) (figure (a .known))) (figure (a .known))) (taken-some (a .due) (a .m) (c .before .before .before .before .if1 .left) .0))
+    ∙ sym (ap (λ b. cond b (columnTaken (a .d .0) (a .sums .now) (a .times .now) (a .m) (a .m) (slackView (a .known))) (slackView (a .known))) (taken-some (a .due) (a .m) (c .before .before .before .before .if1 .left) .0))
 
 pub column-taken-in-spec : {M : Type 1} → statement M
 column-taken-in-spec =
@@ -138,9 +139,9 @@ column-taken-in-spec =
     mul-t21
     shared-slice-read-t23
     add-t24
-    mul-carried
-    shared-slice-read-carried
-    carried-requires
+    mul-capacity
+    shared-slice-read-capacity
+    capacity-requires
     slack-from-requires
     pick-requires
     lesser-of-requires

@@ -1,4 +1,5 @@
--- `judge::figure::least_slack` meets its contract: after m boundaries, the column sums of the jobs due by then, and the least slack of the pairs with one of them.
+-- `judge::figure::least_slack` meets its contract. Loop invariant: after m boundaries, the column
+-- sums of the jobs due so far, and the least slack of the pairs with these boundaries.
 use mathlib.Core.Path.{sym, _≡_}
 use Prim.Native.Nat.{ℕ, suc, _-_, _≤_}
 use native.Mathlib.Numerals.{add-one}
@@ -6,18 +7,18 @@ use native.Mathlib.Omega.{arith}
 use borrow.Author.Needs.{needs}
 use lib.ListN.{getD}
 use Rattle.plan.specs.Boundaries.{boundary, intervals}
-use Rattle.judge.specs.Constraints.{mostAtPlace}
+use Rattle.judge.specs.inner.Widths.{mostAtPlace}
 use Rattle.judge.specs.Verdict.{isHiDeadline}
-use Rattle.judge.specs.Answers.{figure}
-use Rattle.judge.proofs.Passes.{ReadyFor, Summed, ready-from, summed-start, few-intervals, rows-fit, due-is, summed-next, column-fits}
-use Rattle.judge.proofs.Least.{LeastAmong}
-use Rattle.judge.proofs.Tightest.{Before, tightest-start, tightest-next, tightest-end}
+use Rattle.judge.specs.Answers.{slackView}
+use Rattle.judge.proofs.FloorPass.{ReadyFor, Summed, ready-from, summed-start, few-intervals, rows-fit, due-is, summed-next, column-fits}
+use Rattle.judge.specs.Slack.{LeastAmong}
+use Rattle.judge.proofs.SlackPass.{Before, tightest-start, tightest-next, tightest-end}
 use Rattle.judge.proofs.figure.least_slack.Statement.{statement}
 use Rattle.judge.proofs.figure.least_slack.Tie as tie
 
 abbrev Inv-loop : tie.InvT-loop
 Inv-loop p table times spans deadlines sums₀ best₀ m₀ sums best m =
-    (m ≤ suc spans) × Summed p table m sums × LeastAmong p table (Before p m) (figure best)
+    (m ≤ suc spans) × Summed p table m sums × LeastAmong p table (Before p m) (slackView best)
 
 abbrev μ-loop : tie.MeasureT-loop
 μ-loop p table times spans deadlines sums₀ best₀ m₀ sums best m = suc spans - m
@@ -42,7 +43,7 @@ slice-aggregate-add-rows c = sym (c .before .before .before .loop .inv .1 .room)
 slice-aggregate-add-rows-2 : tie.Need-slice-aggregate-add-rows-2 Inv-loop μ-loop
 slice-aggregate-add-rows-2 c = sym (c .before .before .before .before .before .hi-deadlines-of .ensures .0)
 
--- What the pass reads, and what a place of the table can hold.
+-- The inputs of the pass, and the bound of each place of the table.
 ready : (c : tie.After-hi-deadlines-of Inv-loop μ-loop) → ReadyFor (c .before .before .before .args .p) (c .before .before .before .args .table .now) (c .before .before .before .args .times .now) (c .hi-deadlines-of .result) (c .before .before .before .args .spans)
 ready c =
     let a = c .before .before .before .args in
@@ -54,7 +55,7 @@ most c q = omega (arith, c .shared-slice-known .given q)
 add-rows-requires : tie.Need-add-rows-requires Inv-loop μ-loop
 add-rows-requires c κs = rows-fit (ready (c .before .before .before .before .before)) (most (c .before .before .before .before .before .before .before)) (c .before .before .before .loop-test .taken) (c .before .before .before .before .loop .inv .1)
 
--- After the rows of a boundary are added, the column sums are those of the jobs due by it.
+-- After the rows of boundary m are added, the column sums include the jobs due there.
 summed : (c : tie.After-add-rows Inv-loop μ-loop) → Summed (c .before .before .before .before .before .before .before .before .before .args .p) (c .before .before .before .before .before .before .before .before .before .args .table .now) (suc (c .before .before .before .before .before .loop .m)) (c .add-rows .last .0)
 summed c =
     summed-next (ready (c .before .before .before .before .before .before)) (most (c .before .before .before .before .before .before .before .before)) (c .before .before .before .before .loop-test .taken) (c .add-rows .last .0) (c .before .before .before .before .before .loop .inv .1) (c .add-rows .ensures .1) (c .add-rows .ensures .2)
@@ -81,13 +82,13 @@ loop-again c =
     let in-time : m ≤ intervals (a .p) = omega (arith, c .before .before .before .before .before .before .before .before .loop-test .taken, c .before .before .before .before .before .before .before .before .before .before .before .before .before .pre .1) in (
       omega (arith, c .before .before .before .before .before .before .before .before .loop-test .taken),
       rw (add-one m) (summed (c .before .before .before .before)),
-      tightest-next (a .p) (a .table .now) (c .before .before .before .before .add-rows .last .0) (a .times .now) m (c .before .before .before .before .before .before .before .before .before .before .before .before .before .pre .0) in-time (summed (c .before .before .before .before)) (c .before .before .before .before .add-rows .result) (figure (c .before .before .before .before .before .before .before .before .before .loop .best)) (figure (c .column-taken-in .result)) (due (c .before .before .before .before)) (c .column-taken-in .ensures) (c .before .before .before .before .before .before .before .before .before .loop .inv .2),
+      tightest-next (a .p) (a .table .now) (c .before .before .before .before .add-rows .last .0) (a .times .now) m (c .before .before .before .before .before .before .before .before .before .before .before .before .before .pre .0) in-time (summed (c .before .before .before .before)) (c .before .before .before .before .add-rows .result) (slackView (c .before .before .before .before .before .before .before .before .before .loop .best)) (slackView (c .column-taken-in .result)) (due (c .before .before .before .before)) (c .column-taken-in .ensures) (c .before .before .before .before .before .before .before .before .before .loop .inv .2),
     )
 
 returns : tie.Need-returns Inv-loop μ-loop
 returns c =
     let a = c .before .before .before .before .before .args in
-    tightest-end (a .p) (a .table .now) (c .before .loop .m) (figure (c .before .loop .best)) (omega (arith, c .before .before .before .before .before .pre .1, c .loop-test .left, c .before .loop .inv .0)) (c .before .loop .inv .2)
+    tightest-end (a .p) (a .table .now) (c .before .loop .m) (slackView (c .before .loop .best)) (omega (arith, c .before .before .before .before .before .pre .1, c .loop-test .left, c .before .loop .inv .0)) (c .before .loop .inv .2)
 
 pub least-slack-spec : {M : Type 1} → statement M
 least-slack-spec =

@@ -12,9 +12,9 @@ use Rattle.plan.specs.Boundaries.{boundaries}
 use Rattle.plan.specs.declared.kinds.Plan.{Plan}
 use Rattle.judge.specs.Verdict.{handFault, constraintFault, orElse}
 use Rattle.judge.specs.Slack.{slackFigure}
-use Rattle.judge.proofs.First.{passes}
-use Rattle.judge.proofs.Unless.{refuses, unless-none}
-use Rattle.judge.proofs.Hand.{refused-by-none}
+use Rattle.judge.proofs.Reports.{passes}
+use Rattle.judge.proofs.RefusedFigure.{refuses, unless-none}
+use Rattle.judge.proofs.HandFault.{refused-by-none}
 use Rattle.judge.proofs.figure.slack_at.Statement.{statement}
 use Rattle.judge.proofs.figure.slack_at.Tie as tie
 
@@ -29,7 +29,7 @@ unfolding slackFigure
 returns c =
     refuses _ _ _ _ (c .before .before .refusal-of .ensures) (c .before .is-accepted .ensures) (c .if1 .taken)
 
--- Where nothing is refused so far.
+-- The branch in which nothing has been refused so far.
 module _ (c : tie.Else1) where
   abbrev p : Plan
   p = c .before .before .before .before .before .args .p

@@ -5,8 +5,8 @@ use borrow.Author.Needs.{needs}
 use lib.Dec.{ltb}
 use lib.Signed.{ltZ, leZ}
 use Rattle.judge.specs.Slack.{least}
-use Rattle.judge.specs.Columns.{sooner}
-use Rattle.judge.specs.Answers.{figure}
+use Rattle.judge.specs.inner.Columns.{sooner}
+use Rattle.judge.specs.Answers.{slackView}
 use Rattle.judge.proofs.figure.sooner_of.Statement.{statement}
 use Rattle.judge.proofs.figure.sooner_of.Tie as tie
 use mir.Syntax.{w64}
@@ -25,7 +25,7 @@ enum-told-2 c = search needs
 returns : tie.Need-returns
 returns c =
     let a = c .before .before .args in
-    ap (λ s. least s (a .l) (a .time .0)) (toZ-ofZ (c .before .before .fits .slack)) ∙ sym (ap (λ k. sooner (figure k) (a .slack) (a .l) (a .time .0)) (c .enum-told .given .1))
+    ap (λ s. least s (a .l) (a .time .0)) (toZ-ofZ (c .before .before .fits .slack)) ∙ sym (ap (λ k. sooner (slackView k) (a .slack) (a .l) (a .time .0)) (c .enum-told .given .1))
 
 returns-2 : tie.Need-returns-2
 returns-2 c =

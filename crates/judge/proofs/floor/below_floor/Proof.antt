@@ -1,4 +1,5 @@
--- `judge::floor::below_floor` meets its contract: after m boundaries, the column sums of the jobs due by then, and the lowest interval that falls short of one of them.
+-- `judge::floor::below_floor` meets its contract. Loop invariant: after m boundaries, the column sums
+-- of the jobs due so far, and the lowest interval that violates rule 18 at one of these boundaries.
 use mathlib.Core.Path.{sym, _∙_, ap₂, subst, _≡_}
 use mathlib.Core.List.{[], _∷_}
 use Prim.Native.Nat.{ℕ, suc, _-_, _≤_}
@@ -9,9 +10,9 @@ use lib.Dec.{ltb}
 use lib.ListN.{getD}
 use Rattle.plan.specs.Refusal.{belowFloorRule}
 use Rattle.plan.specs.Boundaries.{boundary, intervals}
-use Rattle.judge.specs.Constraints.{mostAtPlace}
+use Rattle.judge.specs.inner.Widths.{mostAtPlace}
 use Rattle.judge.specs.Verdict.{fault, isHiDeadline}
-use Rattle.judge.proofs.Passes.{Lowest, ReadyFor, Summed, ready-from, summed-start, few-intervals, rows-fit, due-is, summed-next, column-fits, lowest-start, lowest-next, place-is}
+use Rattle.judge.proofs.FloorPass.{Lowest, ReadyFor, Summed, ready-from, summed-start, few-intervals, rows-fit, due-is, summed-next, column-fits, lowest-start, lowest-next, place-is}
 use Rattle.judge.proofs.floor.below_floor.Statement.{statement}
 use Rattle.judge.proofs.floor.below_floor.Tie as tie
 
@@ -42,7 +43,7 @@ slice-aggregate-add-rows c = sym (c .before .before .before .loop .inv .1 .room)
 slice-aggregate-add-rows-2 : tie.Need-slice-aggregate-add-rows-2 Inv-loop μ-loop
 slice-aggregate-add-rows-2 c = sym (c .before .before .before .before .before .hi-deadlines-of .ensures .0)
 
--- What the pass reads, and what a place of the table can hold.
+-- The inputs of the pass, and the bound of each place of the table.
 ready : (c : tie.After-hi-deadlines-of Inv-loop μ-loop) → ReadyFor (c .before .before .before .args .p) (c .before .before .before .args .table .now) (c .before .before .before .args .times .now) (c .hi-deadlines-of .result) (c .before .before .before .args .spans)
 ready c =
     let a = c .before .before .before .args in
@@ -54,7 +55,7 @@ most c q = omega (arith, c .shared-slice-known .given q)
 add-rows-requires : tie.Need-add-rows-requires Inv-loop μ-loop
 add-rows-requires c κs = rows-fit (ready (c .before .before .before .before .before)) (most (c .before .before .before .before .before .before .before)) (c .before .before .before .loop-test .taken) (c .before .before .before .before .loop .inv .1)
 
--- After the rows of a boundary are added, the column sums are those of the jobs due by it.
+-- After the rows of boundary m are added, the column sums include the jobs due there.
 summed : (c : tie.After-add-rows Inv-loop μ-loop) → Summed (c .before .before .before .before .before .before .before .before .before .args .p) (c .before .before .before .before .before .before .before .before .before .args .table .now) (suc (c .before .before .before .before .before .loop .m)) (c .add-rows .last .0)
 summed c =
     summed-next (ready (c .before .before .before .before .before .before)) (most (c .before .before .before .before .before .before .before .before)) (c .before .before .before .before .loop-test .taken) (c .add-rows .last .0) (c .before .before .before .before .before .loop .inv .1) (c .add-rows .ensures .1) (c .add-rows .ensures .2)
@@ -87,7 +88,7 @@ loop-again c =
       lowest-next (a .p) (a .table .now) (c .before .before .before .before .before .add-rows .last .0) (a .times .now) m (c .before .before .before .before .before .before .before .before .before .before .loop .low) (c .before .before .before .before .before .before .before .before .before .before .loop .until) (c .before .lowered .result) (c .pick .result) (c .before .before .before .before .before .add-rows .result) (c .before .before .before .before .before .before .before .before .before .before .before .before .before .before .pre .0) in-time (summed (c .before .before .before .before .before) .columns) (due (c .before .before .before .before .before)) (c .before .lowered .ensures) (c .pick .ensures) (c .before .before .before .before .before .before .before .before .before .before .loop .inv .2),
     )
 
--- After the last boundary the pass has looked at all of them.
+-- After the loop the pass has covered all boundaries.
 whole : (c : tie.After-loop Inv-loop μ-loop) → Lowest (c .before .before .before .before .before .args .p) (c .before .before .before .before .before .args .table .now) (suc (intervals (c .before .before .before .before .before .args .p))) (c .before .loop .low) (c .before .loop .until)
 whole c =
     let a = c .before .before .before .before .before .args in

@@ -1,4 +1,5 @@
--- `judge::floor::lowered` meets its contract: from interval l on, the sum and the lowest so far.
+-- `judge::floor::lowered` meets its contract. Loop invariant: the sum and the
+-- lowest violating interval, from interval l on.
 use mathlib.Core.Path.{sym, _∙_, ap, _≡_}
 use mathlib.Core.Bool.{cond}
 use Prim.Native.Nat.{_+_, _*_, _-_, _≤_, min}
@@ -8,11 +9,11 @@ use borrow.Author.Needs.{needs}
 use borrow.Author.Tests.{not-true, not-false}
 use lib.Dec.{ltb}
 use lib.ListN.{getD}
-use Rattle.sums.specs.Sum.{sum}
-use Rattle.sums.proofs.Laws.{sum-start}
+use Rattle.base.specs.Sum.{sum}
+use Rattle.base.proofs.SumLaws.{sum-start}
 use Rattle.plan.specs.Edition.{mostJobs, mostIntervals}
-use Rattle.judge.specs.Constraints.{mostAtPlace}
-use Rattle.judge.specs.Columns.{lowest, asksMore}
+use Rattle.judge.specs.inner.Widths.{mostAtPlace}
+use Rattle.judge.specs.inner.Columns.{lowest, asksMore}
 use Rattle.judge.proofs.Columns.{lowest-end, column-next, lesser-is}
 use Rattle.judge.proofs.floor.lowered.Statement.{statement}
 use Rattle.judge.proofs.floor.lowered.Tie as tie
@@ -52,14 +53,14 @@ add-t20 : tie.Need-add-t20 Inv-loop μ-loop
 add-t20 c =
     omega (arith, c .before .before .before .before .before .before .before .before .pre .3 (c .before .before .before .loop .l - 1) (omega (arith, c .before .before .loop-test .taken, c .before .before .before .loop .inv .0)), mul-le-mul-right {m = c .before .before .before .before .before .before .before .before .args .m - c .before .before .before .loop .l} {n = mostIntervals} (mostJobs * mostAtPlace) (omega (arith, c .before .before .before .before .before .before .before .before .pre .2)), c .before .before .before .loop .inv .2)
 
-mul-carried : tie.Need-mul-carried Inv-loop μ-loop
-mul-carried c = omega (arith, c .before .before .before .loop .inv .0, c .before .before .before .before .before .before .before .before .pre .2)
+mul-capacity : tie.Need-mul-capacity Inv-loop μ-loop
+mul-capacity c = omega (arith, c .before .before .before .loop .inv .0, c .before .before .before .before .before .before .before .before .pre .2)
 
-shared-slice-read-carried : tie.Need-shared-slice-read-carried Inv-loop μ-loop
-shared-slice-read-carried c = omega (arith, c .before .before .before .loop-test .taken, c .before .before .before .before .loop .inv .0, c .before .before .before .before .before .before .before .before .before .pre .0)
+shared-slice-read-capacity : tie.Need-shared-slice-read-capacity Inv-loop μ-loop
+shared-slice-read-capacity c = omega (arith, c .before .before .before .loop-test .taken, c .before .before .before .before .loop .inv .0, c .before .before .before .before .before .before .before .before .before .pre .0)
 
-carried-requires : tie.Need-carried-requires Inv-loop μ-loop
-carried-requires c κs = search needs
+capacity-requires : tie.Need-capacity-requires Inv-loop μ-loop
+capacity-requires c κs = search needs
 
 pick-requires : tie.Need-pick-requires Inv-loop μ-loop
 pick-requires c κs = search needs
@@ -74,7 +75,7 @@ loop-again c =
     let asked = c .before .before .before .before .before .before .before .before .loop .asked .0 in
     let low = c .before .before .before .before .before .before .before .before .loop .low in
     let turn = column-next (a .d .0) (a .sums .now) (a .times .now) (a .m) (a .other) l asked low (c .pick .result) (c .before .before .before .before .before .before .before .loop-test .taken) (c .before .before .before .before .before .before .before .before .loop .inv .0) (c .before .before .before .before .before .before .before .before .loop .inv .1) (c .before .before .before .before .before .before .before .before .loop .inv .3)
-    (c .pick .ensures ∙ ap (λ n. cond (ltb n (asked + getD (a .sums .now) (l - 1) 0)) (l - 1) low) (c .before .before .before .carried .ensures .0)) in
+    (c .pick .ensures ∙ ap (λ n. cond (ltb n (asked + getD (a .sums .now) (l - 1) 0)) (l - 1) low) (c .before .before .before .capacity .ensures .0)) in
     let one-more : a .m - (l - 1) ≡ a .m - l + 1 = omega (arith, c .before .before .before .before .before .before .before .loop-test .taken, c .before .before .before .before .before .before .before .before .loop .inv .0) in (
       omega (arith, c .before .before .before .before .before .before .before .before .loop .inv .0),
       turn .0,
@@ -108,9 +109,9 @@ lowered-spec =
     mul-t17
     shared-slice-read-t19
     add-t20
-    mul-carried
-    shared-slice-read-carried
-    carried-requires
+    mul-capacity
+    shared-slice-read-capacity
+    capacity-requires
     pick-requires
     loop-less
     loop-again

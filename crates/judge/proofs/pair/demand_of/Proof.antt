@@ -5,14 +5,14 @@ use Prim.Native.Nat.{_+_, _*_, _-_, _≤_}
 use native.Mathlib.Omega.{arith}
 use borrow.Author.Needs.{needs}
 use lib.Dec.{leb}
-use Rattle.sums.specs.Sum.{strided, sum, on}
+use Rattle.base.specs.Sum.{strided, sum, on}
 use Rattle.plan.specs.Edition.{mostIntervals}
 use Rattle.plan.specs.Rules.{counted, deadline, isHi}
 use Rattle.plan.specs.Boundaries.{boundaries}
-use Rattle.plan.proofs.Rising.{boundaries-few}
-use Rattle.plan.proofs.Come.{come-few}
+use Rattle.plan.proofs.BoundaryOrder.{boundaries-few}
+use Rattle.plan.proofs.BoundaryCount.{come-few}
 use Rattle.judge.specs.Constraints.{demand}
-use Rattle.judge.proofs.Running.{sum-of-none}
+use Rattle.judge.proofs.RunningSums.{sum-of-none}
 use Rattle.judge.proofs.Demand.{demand-is, end-by-present}
 use Rattle.judge.proofs.pair.demand_of.Statement.{statement}
 use Rattle.judge.proofs.pair.demand_of.Tie as tie
@@ -20,7 +20,7 @@ use Rattle.judge.proofs.pair.demand_of.Tie as tie
 present-of-requires : tie.Need-present-of-requires
 present-of-requires c κs = search needs
 
--- The intervals that end by the time come before its present interval.
+-- The result of `present_of` is at most `mostIntervals`.
 few : (c : tie.After-present-of) → c .present-of .result ≤ mostIntervals
 few c =
     let p = c .before .before .args .p in

@@ -1,4 +1,4 @@
--- `judge::pair::hi_units` meets its contract: after i jobs, the sum over the first i.
+-- `judge::pair::hi_units` meets its contract. Loop invariant: the sum over the first i jobs.
 use mathlib.Core.Path.{sym, _∙_, ap, _≡_}
 use mathlib.Core.Bool.{_&&_}
 use Prim.Native.Nat.{_+_, _*_, _-_, _≤_}
@@ -7,10 +7,11 @@ use borrow.Author.Needs.{needs}
 use lib.Dec.{leb}
 use Rattle.plan.specs.Edition.{mostIntervals}
 use Rattle.plan.specs.Rules.{counted, deadline, isHi}
-use Rattle.sums.specs.Sum.{sum, on, strided}
-use Rattle.sums.proofs.Laws.{sum-start}
-use Rattle.judge.specs.Constraints.{mostAtPlace, total}
-use Rattle.judge.proofs.Running.{sum-next}
+use Rattle.base.specs.Sum.{sum, on, strided}
+use Rattle.base.proofs.SumLaws.{sum-start}
+use Rattle.judge.specs.Constraints.{total}
+use Rattle.judge.specs.inner.Widths.{mostAtPlace}
+use Rattle.judge.proofs.RunningSums.{sum-next}
 use Rattle.judge.proofs.pair.hi_units.Statement.{statement}
 use Rattle.judge.proofs.pair.hi_units.Tie as tie
 

@@ -6,8 +6,8 @@ use lib.ListN.{getD, List·getD-eq-default}
 use Rattle.plan.specs.Rules.{counted}
 use Rattle.plan.specs.Boundaries.{boundaries}
 use Rattle.plan.specs.declared.boundaries.Boundaries.{Boundaries}
-use Rattle.plan.proofs.Rising.{boundaries-few}
-use Rattle.judge.proofs.Hand.{room-at}
+use Rattle.plan.proofs.BoundaryOrder.{boundaries-few}
+use Rattle.judge.proofs.HandFault.{room-at}
 use Rattle.judge.proofs.pair.start_of.Statement.{statement}
 use Rattle.judge.proofs.pair.start_of.Tie as tie
 

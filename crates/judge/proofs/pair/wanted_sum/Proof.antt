@@ -4,9 +4,9 @@ use Prim.Native.Nat.{_+_, _*_}
 use native.Mathlib.Omega.{arith}
 use native.Mathlib.Nat.{mul-le-mul-right}
 use borrow.Author.Needs.{needs}
-use Rattle.sums.specs.Sum.{strided}
-use Rattle.sums.proofs.Laws.{sum-bound}
-use Rattle.judge.specs.Constraints.{mostAtPlace}
+use Rattle.base.specs.Sum.{strided}
+use Rattle.base.proofs.SumLaws.{sum-bound}
+use Rattle.judge.specs.inner.Widths.{mostAtPlace}
 use Rattle.judge.proofs.pair.wanted_sum.Statement.{statement}
 use Rattle.judge.proofs.pair.wanted_sum.Tie as tie
 

@@ -1,4 +1,4 @@
--- `judge::rows::add_row` meets its contract: after j intervals the first j numbers are added.
+-- `judge::rows::add_row` meets its contract. Loop invariant: the first j numbers of the row are added.
 use mathlib.Core.Path.{refl, sym, _∙_, ap}
 use Prim.Native.Nat.{_+_, _-_, _≤_}
 use native.Mathlib.Omega.{arith}
@@ -6,7 +6,7 @@ use native.Mathlib.Nat.{add-zero}
 use borrow.Author.Needs.{needs}
 use borrow.Author.Tests.{not-true, not-false}
 use lib.ListN.{getD}
-use Rattle.sums.specs.Sum.{on}
+use Rattle.base.specs.Sum.{on}
 use Rattle.judge.proofs.Columns.{Added, added-start, added-next}
 use Rattle.judge.proofs.rows.add_row.Statement.{statement}
 use Rattle.judge.proofs.rows.add_row.Tie as tie

@@ -1,4 +1,5 @@
--- `judge::rows::add_rows` meets its contract: after i jobs, the rows of those among the first i are added.
+-- `judge::rows::add_rows` meets its contract. Loop invariant: the rows of the jobs among the
+-- first i that are due at `time` are added.
 use mathlib.Core.Path.{refl, sym, _∙_, ap, _≡_}
 use mathlib.Core.Bool.{not}
 use mathlib.Core.List.{List}
@@ -8,16 +9,17 @@ use native.Mathlib.Nat.{add-zero}
 use borrow.Author.Needs.{needs}
 use lib.Dec.{eqb}
 use lib.ListN.{length, getD}
-use Rattle.sums.specs.Sum.{sum, on}
-use Rattle.sums.proofs.Laws.{sum-start, sum-step, sum-bound}
+use Rattle.base.specs.Sum.{sum, on}
+use Rattle.base.proofs.SumLaws.{sum-start, sum-step, sum-bound}
 use Rattle.plan.specs.Edition.{mostIntervals}
-use Rattle.judge.specs.Constraints.{mostAtPlace, units}
-use Rattle.judge.proofs.Running.{on-at-most}
+use Rattle.judge.specs.Constraints.{units}
+use Rattle.judge.specs.inner.Widths.{mostAtPlace}
+use Rattle.base.proofs.Choice.{on-at-most}
 use Rattle.judge.proofs.Columns.{none-due}
 use Rattle.judge.proofs.rows.add_rows.Statement.{statement}
 use Rattle.judge.proofs.rows.add_rows.Tie as tie
 
--- What job k has due at a time in interval j.
+-- The units that job k has in interval j if its deadline is `time`, otherwise 0.
 abbrev dueOf : List ℕ → List ℕ → ℕ → ℕ → ℕ → ℕ
 dueOf table deadlines time j k = on (eqb (getD deadlines k 0) time) (units table k j)
 

@@ -1,4 +1,5 @@
--- `judge::rows::hi_deadlines_of` meets its contract: after i records, the first i numbers of the row stand.
+-- `judge::rows::hi_deadlines_of` meets its contract. Loop invariant:
+-- the first i numbers of the row are written.
 use mathlib.Core.Path.{refl, _∙_, ap, _≡_}
 use mathlib.Core.Bool.{cond, _&&_}
 use Prim.Native.Nat.{ℕ, _-_, _≤_, _<_}
@@ -8,7 +9,7 @@ use lib.Dec.{ltb}
 use lib.ListN.{length, getD, length-set}
 use Rattle.plan.specs.Edition.{mostJobs}
 use Rattle.plan.specs.Rules.{deadline, isHi}
-use Rattle.judge.specs.Columns.{never, hiDeadline}
+use Rattle.judge.specs.inner.Columns.{never, hiDeadline}
 use Rattle.judge.proofs.Columns.{stands-next}
 use Rattle.judge.proofs.rows.hi_deadlines_of.Statement.{statement}
 use Rattle.judge.proofs.rows.hi_deadlines_of.Tie as tie

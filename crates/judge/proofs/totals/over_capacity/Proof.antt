@@ -1,4 +1,5 @@
--- `judge::totals::over_capacity` meets its contract: the first j intervals are within the normal rate.
+-- `judge::totals::over_capacity` meets its contract. Loop
+-- invariant: rule 17 holds in the first j intervals.
 use mathlib.Core.Path.{sym, _∙_, ap, _≡_}
 use mathlib.Core.List.{[], _∷_}
 use Prim.Native.Nat.{suc, _*_, _-_, _≤_}
@@ -8,10 +9,10 @@ use borrow.Author.Needs.{needs}
 use lib.Dec.{ltb}
 use lib.ListN.{getD}
 use Rattle.plan.specs.Refusal.{overCapacity}
-use Rattle.sums.specs.Sum.{sum}
+use Rattle.base.specs.Sum.{sum}
 use Rattle.judge.specs.Verdict.{first, fault}
 use Rattle.judge.specs.Constraints.{units}
-use Rattle.judge.proofs.First.{first-start, first-next, found-here}
+use Rattle.judge.proofs.Reports.{first-start, first-next, found-here}
 use Rattle.judge.proofs.totals.over_capacity.Statement.{statement}
 use Rattle.judge.proofs.totals.over_capacity.Tie as tie
 

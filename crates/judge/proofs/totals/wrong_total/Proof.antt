@@ -1,4 +1,4 @@
--- `judge::totals::wrong_total` meets its contract: the first i jobs have their sizes.
+-- `judge::totals::wrong_total` meets its contract. Loop invariant: rule 16 holds for the first i jobs.
 use mathlib.Core.Path.{sym, _∙_, ap, _≡_}
 use mathlib.Core.Bool.{not}
 use mathlib.Core.List.{[], _∷_}
@@ -8,16 +8,16 @@ use borrow.Author.Needs.{needs}
 use borrow.Author.Tests.{eq-eqb, ne-eqb}
 use lib.Dec.{eqb}
 use lib.ListN.{getD}
-use Rattle.sums.specs.Sum.{sum}
-use Rattle.sums.proofs.Laws.{sum-ext}
+use Rattle.base.specs.Sum.{sum}
+use Rattle.base.proofs.SumLaws.{sum-ext}
 use Rattle.plan.specs.Refusal.{wrongTotal}
 use Rattle.plan.specs.Rules.{counted, size}
-use Rattle.plan.proofs.Rising.{boundaries-few}
+use Rattle.plan.proofs.BoundaryOrder.{boundaries-few}
 use Rattle.plan.specs.Edition.{mostIntervals}
 use Rattle.plan.specs.Boundaries.{intervals}
 use Rattle.judge.specs.Verdict.{first, fault, totalFault}
 use Rattle.judge.specs.Constraints.{total}
-use Rattle.judge.proofs.First.{first-start, first-next, found-here}
+use Rattle.judge.proofs.Reports.{first-start, first-next, found-here}
 use Rattle.judge.proofs.totals.wrong_total.Statement.{statement}
 use Rattle.judge.proofs.totals.wrong_total.Tie as tie
 
@@ -50,7 +50,7 @@ cast-sum-of c =
 sum-of-requires : tie.Need-sum-of-requires Inv-loop μ-loop
 sum-of-requires c κs = search needs
 
--- The sum is job i's total.
+-- The sum is the total of job i.
 summed : (c : tie.After-sum-of Inv-loop μ-loop) → c .sum-of .result ≡ total (c .before .before .before .before .before .before .before .args .t1) (c .before .before .before .before .before .before .before .args .table .now) (c .before .before .before .before .loop .i)
 summed c =
     let a = c .before .before .before .before .before .before .before .args in

@@ -1,4 +1,5 @@
--- `judge::windows::outside_in_row` meets its contract: the row up to interval j is inside.
+-- `judge::windows::outside_in_row` meets its contract. Loop invariant: rule
+-- 15 holds in the row's first j intervals.
 use mathlib.Core.Path.{sym, _∙_, ap, _≡_}
 use mathlib.Core.Bool.{true, not, _||_}
 use mathlib.Core.List.{[], _∷_}
@@ -13,7 +14,7 @@ use Rattle.plan.specs.Below.{every}
 use Rattle.plan.proofs.Below.{every-start}
 use Rattle.judge.specs.Verdict.{fault}
 use Rattle.judge.specs.Constraints.{within}
-use Rattle.judge.proofs.First.{faults-none, last-fails, found-here}
+use Rattle.judge.proofs.Reports.{faults-none, last-fails, found-here}
 use Rattle.judge.proofs.windows.outside_in_row.Statement.{statement}
 use Rattle.judge.proofs.windows.outside_in_row.Tie as tie
 

@@ -1,4 +1,5 @@
--- `judge::windows::outside_window` meets its contract: the first i rows have nothing outside.
+-- `judge::windows::outside_window` meets its contract. Loop
+-- invariant: rule 15 holds for the first i jobs.
 use mathlib.Core.Path.{ap₂, refl, sym, _∙_, _≡_}
 use mathlib.Core.Bool.{Bool, not, _||_}
 use mathlib.Core.List.{[], _∷_, List}
@@ -10,25 +11,25 @@ use lib.Dec.{eqb}
 use Rattle.plan.specs.Refusal.{outsideWindow}
 use Rattle.plan.specs.Rules.{counted, release, deadline}
 use Rattle.plan.specs.Boundaries.{intervals, boundaries}
-use Rattle.plan.proofs.Rising.{boundaries-few}
+use Rattle.plan.proofs.BoundaryOrder.{boundaries-few}
 use Rattle.plan.specs.Below.{every}
 use Rattle.plan.specs.declared.kinds.Plan.{Plan}
-use Rattle.judge.specs.Verdict.{first, fault, isStray, outsideFault, isNone}
+use Rattle.judge.specs.Verdict.{first, fault, isOutside, outsideFault, isNone}
 use Rattle.judge.specs.Constraints.{within, units, inWindow}
-use Rattle.judge.proofs.First.{first-start, first-next, first-found, none-empty, none-faults}
+use Rattle.judge.proofs.Reports.{first-start, first-next, first-found, none-empty, none-faults}
 use Rattle.judge.proofs.windows.outside_window.Statement.{statement}
 use Rattle.judge.proofs.windows.outside_window.Tie as tie
 
--- A row has no report exactly where all of it is inside.
+-- A row has no report exactly if rule 15 holds in all its intervals.
 row-none : (p : Plan) (table times : List ℕ) (spans i : ℕ) {inside : Bool} → times ≡ boundaries p → spans ≡ intervals p
     → inside ≡ every (λ j. within times (release p i) (deadline p i) j || eqb (units table i j) 0) spans
-    → isNone (first (λ j. fault (isStray p table i j) (outsideWindow ∷ i ∷ j ∷ [])) (intervals p)) ≡ inside
+    → isNone (first (λ j. fault (isOutside p table i j) (outsideWindow ∷ i ∷ j ∷ [])) (intervals p)) ≡ inside
 row-none p table times spans i t s e =
     none-faults (λ j. inWindow p i j || eqb (units table i j) 0) outsideWindow (λ j. i ∷ j ∷ []) (intervals p) ∙ sym (e ∙ rw (t, s) refl)
 
 abbrev Inv-loop : tie.InvT-loop
 Inv-loop table times spans p jobs i₀ i =
-    (i ≤ jobs) × (first (λ k. first (λ j. fault (isStray p table k j) (outsideWindow ∷ k ∷ j ∷ [])) (intervals p)) i ≡ [])
+    (i ≤ jobs) × (first (λ k. first (λ j. fault (isOutside p table k j) (outsideWindow ∷ k ∷ j ∷ [])) (intervals p)) i ≡ [])
 
 abbrev μ-loop : tie.MeasureT-loop
 μ-loop table times spans p jobs i₀ i = jobs - i

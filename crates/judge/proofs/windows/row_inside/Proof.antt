@@ -1,4 +1,5 @@
--- `judge::windows::row_inside` meets its contract: after j intervals the units of the first j are inside.
+-- `judge::windows::row_inside` meets its contract. Loop invariant: `inside` says
+-- whether rule 15 holds in the first j intervals.
 use mathlib.Core.Path.{sym, _∙_, ap, _≡_}
 use mathlib.Core.Bool.{_||_}
 use Prim.Native.Nat.{_+_, _-_, _≤_}

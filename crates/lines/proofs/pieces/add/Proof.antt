@@ -1,4 +1,4 @@
--- `lines::pieces::add` meets its contract: a copied text is a piece.
+-- `lines::pieces::add` meets its contract: copying a text appends it.
 use borrow.Author.Needs.{needs}
 use Rattle.lines.proofs.Growth.{grown-by-text}
 use Rattle.lines.proofs.pieces.add.Statement.{statement}

@@ -1,10 +1,11 @@
--- `lines::pieces::add_each_grant` meets its contract: after i turns the grants of the first i jobs stand there.
+-- `lines::pieces::add_each_grant` meets its contract. Loop invariant: the
+-- grants of the first i jobs are appended.
 use mathlib.Core.Path.{_≡_, sym, ap}
 use Prim.Native.Nat.{_+_, _*_, _-_, _≤_}
 use native.Mathlib.Omega.{arith}
 use borrow.Author.Needs.{needs}
 use Rattle.plan.specs.Rules.{name, counted}
-use Rattle.lines.specs.Growth.{Grown, grantBytes}
+use Rattle.lines.specs.inner.Growth.{Grown, grantBytes}
 use Rattle.lines.specs.Lines.{grantsText, grantText}
 use Rattle.lines.proofs.Grants.{grants-start, grants-next}
 use Rattle.lines.proofs.Growth.{grown-by-none, grown-twice, grown-same}

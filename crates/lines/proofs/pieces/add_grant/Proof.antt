@@ -1,4 +1,4 @@
--- `lines::pieces::add_grant` meets its contract, piece by piece; no grant adds nothing.
+-- `lines::pieces::add_grant` meets its contract, piece by piece; a grant of 0 appends nothing.
 use native.Mathlib.Omega.{arith}
 use borrow.Author.Tests.{eq-eqb, ne-eqb}
 use borrow.Author.Needs.{needs}

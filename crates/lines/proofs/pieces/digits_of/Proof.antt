@@ -1,11 +1,13 @@
--- `lines::pieces::digits_of` meets its contract: the digits found and what is left of the number always make the same text.
+-- `lines::pieces::digits_of` meets its contract. Loop invariant: the rest of the number
+-- followed by the digits found is the same text.
 use mathlib.Core.Path.{_≡_, refl, sym, _∙_}
 use Prim.Native.Nat.{ℕ, zero, suc, _-_, _%_, _^_, _<_}
 use native.Mathlib.Omega.{arith}
 use lib.ListN.{length, drop, length-set}
 use Rattle.lines.specs.Text.{digits, digit, decimal}
-use Rattle.lines.specs.Growth.{mostDigits}
-use Rattle.lines.proofs.Decimal.{digits-one, digits-ten, digits-turn, drop-set, shorter}
+use Rattle.lines.specs.inner.Growth.{mostDigits}
+use Rattle.lines.proofs.Decimal.{digits-one, digits-ten, digits-turn, shorter}
+use Rattle.base.proofs.Stores.{drop-set}
 use Rattle.lines.proofs.pieces.digits_of.Statement.{statement}
 use Rattle.lines.proofs.pieces.digits_of.Tie as tie
 
@@ -17,7 +19,7 @@ Inv-loop number bytes₀ from₀ rest₀ bytes from rest =
 abbrev μ-loop : tie.MeasureT-loop
 μ-loop number bytes₀ from₀ rest₀ bytes from rest = from
 
--- A number of more than one digit leaves a place free.
+-- While the rest has more than one digit, `from` is above 0.
 more : (c : tie.In-loop Inv-loop μ-loop) → 0 < c .before .loop .from
 more c = go (c .before .loop .from) (c .before .loop .inv .1)
   where

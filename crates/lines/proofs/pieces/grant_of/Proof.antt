@@ -1,4 +1,4 @@
--- `lines::pieces::grant_of` meets its contract: past the end a row reads as 0.
+-- `lines::pieces::grant_of` meets its contract: past its end a row reads as 0.
 use mathlib.Core.Path.{sym}
 use borrow.Author.Needs.{needs}
 use lib.ListN.{List·getD-eq-default}

@@ -1,4 +1,4 @@
--- `lines::pieces::put` meets its contract: after k turns the first k bytes of the text stand at the place.
+-- `lines::pieces::put` meets its contract. Loop invariant: the first k bytes of the text are copied.
 use mathlib.Core.Path.{_≡_, sym, _∙_, ap}
 use Prim.Native.Nat.{_+_, _-_, _≤_}
 use native.Mathlib.Numerals.{add-one}
@@ -14,7 +14,7 @@ Inv-loop out₀ at text k₀ out k = (k ≤ length text) × (out ≡ paste out�
 abbrev μ-loop : tie.MeasureT-loop
 μ-loop out₀ at text k₀ out k = length text - k
 
--- The lent part is as long as it was.
+-- The buffer's length is unchanged.
 room : (c : tie.After-shared-slice-known Inv-loop μ-loop) → length (c .before .before .loop .out) ≡ length (c .before .before .before .args .out .now)
 room c =
     let a = c .before .before .before .args in

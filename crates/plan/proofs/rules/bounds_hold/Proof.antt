@@ -1,4 +1,5 @@
--- `plan::rules::bounds_hold` meets its contract: after i jobs the rule holds over the first i.
+-- `plan::rules::bounds_hold` meets its contract:
+-- after i iterations `holds` is the rule over the first i jobs.
 use mathlib.Core.Path.{_≡_, sym, _∙_, ap, ap₂}
 use mathlib.Core.Bool.{_&&_}
 use Prim.Native.Nat.{_-_, _≤_}

@@ -1,4 +1,5 @@
--- `plan::rules::is_absent` meets its contract: after k numbers, none of the first k is x.
+-- `plan::rules::is_absent` meets its contract:
+-- after k iterations `absent` says whether none of the first k numbers is x.
 use mathlib.Core.Path.{_≡_, refl, sym, _∙_, ap}
 use mathlib.Core.Bool.{not}
 use Prim.Native.Nat.{_-_, _≤_}

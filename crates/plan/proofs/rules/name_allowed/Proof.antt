@@ -1,4 +1,5 @@
--- `plan::rules::name_allowed` meets its contract: after k bytes, taken off the low end, those k are allowed.
+-- `plan::rules::name_allowed` meets its contract: after k iterations `allowed` is the test
+-- of the lowest k bytes, and `rest` is the name without them.
 use mathlib.Core.Path.{_≡_, refl, sym, _∙_, ap}
 use mathlib.Core.Bool.{_&&_}
 use Prim.Native.Nat.{ℕ, _+_, _-_, _/_, _^_, _≤_}
@@ -20,7 +21,7 @@ Inv-loop rest₀ allowed₀ k₀ rest allowed k =
 abbrev μ-loop : tie.MeasureT-loop
 μ-loop rest₀ allowed₀ k₀ rest allowed k = 8 - k
 
--- One byte further down.
+-- x / 256^k divided by 256 is x / 256^(k + 1).
 next-byte : (x k : ℕ) → x / 256 ^ k / 256 ≡ x / 256 ^ (k + 1)
 next-byte x k = div-div-eq-div-mul x (256 ^ k) 256 ∙ ap (λ m. x / m) (sym (pow-suc 256 k) ∙ ap (λ n. 256 ^ n) (sym (add-one k)))
 

@@ -1,4 +1,5 @@
--- `plan::rules::names_differ` meets its contract: after i jobs, no name of the first i stands twice.
+-- `plan::rules::names_differ` meets its contract:
+-- after i iterations `differ` says whether the first i names are pairwise different.
 use mathlib.Core.Path.{_≡_, refl, sym, _∙_, ap}
 use mathlib.Core.Bool.{not}
 use Prim.Native.Nat.{_-_, _≤_}

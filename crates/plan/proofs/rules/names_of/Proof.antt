@@ -1,4 +1,5 @@
--- `plan::rules::names_of` meets its contract: after i records, the first i names stand in the row.
+-- `plan::rules::names_of` meets its contract:
+-- after i iterations the first i entries are the first i names.
 use mathlib.Core.Path.{_≡_, refl, sym, _∙_, ap}
 use mathlib.Core.List.{List, map}
 use Prim.Native.Nat.{ℕ, _+_, _-_, _≤_, _<_}
@@ -41,7 +42,7 @@ add-i c = search needs
 loop-less : tie.Need-loop-less Inv-loop μ-loop
 loop-less c = omega arith
 
--- One more name stands in the row.
+-- Storing the name of record i extends the prefix of names to length i + 1.
 one-more : (p : Plan) (row : List ℕ) (i : ℕ) → i < length (p .jobs) → i < length row → take i row ≡ take i (names p)
     → take (i + 1) (set row i (jobOf p i .name .0)) ≡ take (i + 1) (names p)
 unfolding names

@@ -1,4 +1,4 @@
--- `plan::rules::rules_hold` meets its contract: each rule's answer is that rule over the plan.
+-- `plan::rules::rules_hold` meets its contract: each conjunct is the rule over the plan.
 use borrow.Author.Needs.{needs}
 use Rattle.plan.specs.Rules.{rulesHold}
 use Rattle.plan.proofs.rules.rules_hold.Statement.{statement}

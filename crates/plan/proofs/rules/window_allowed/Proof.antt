@@ -1,4 +1,5 @@
--- `plan::rules::window_allowed` meets its contract: the code's test is the definition's.
+-- `plan::rules::window_allowed` meets its contract:
+-- the test in the code is the one in the definition.
 use mathlib.Core.Path.{refl}
 use Rattle.plan.proofs.rules.window_allowed.Statement.{statement}
 use Rattle.plan.proofs.rules.window_allowed.Tie as tie

@@ -1,4 +1,5 @@
--- `plan::table::all_zero` meets its contract: after q, the numbers from the start up to q are 0.
+-- `plan::table::all_zero` meets its contract:
+-- at index q, `zero` says whether the entries from `start` up to q are 0.
 use mathlib.Core.Path.{_≡_, sym, _∙_, ap}
 use Prim.Native.Nat.{_+_, _-_, _≤_}
 use native.Mathlib.Omega.{arith}

@@ -1,4 +1,4 @@
--- `plan::table::allotment` meets its contract: past the end of the table nothing stands.
+-- `plan::table::allotment` meets its contract: an index past the end of the table reads as 0.
 use Prim.Native.Nat.{_+_, _*_}
 use native.Mathlib.Omega.{arith}
 use borrow.Author.Tests.{lt-ltb, le-ltb}

@@ -1,4 +1,5 @@
--- `plan::table::no_stray` meets its contract: after i jobs, the first i rows are clear behind the intervals.
+-- `plan::table::no_stray` meets its contract:
+-- after i iterations `clear` says whether the first i rows are 0 after the intervals.
 use mathlib.Core.Path.{_≡_, sym, _∙_, ap, ap₂}
 use mathlib.Core.Bool.{_&&_}
 use Prim.Native.Nat.{_+_, _*_, _-_, _≤_}

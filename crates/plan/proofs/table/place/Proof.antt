@@ -1,4 +1,4 @@
--- `plan::table::place` meets its contract: the tests tell whether the table has room.
+-- `plan::table::place` meets its contract: the tests decide whether the table has the place.
 use borrow.Author.Tests.{lt-ltb, le-ltb}
 use borrow.Author.Needs.{needs}
 use Rattle.plan.proofs.table.place.Statement.{statement}

@@ -1,4 +1,4 @@
--- `plan::table::sound_of` meets its contract: the rules hold, and no place is stray.
+-- `plan::table::sound_of` meets its contract: soundness is the rules and no stray place.
 use native.Mathlib.Omega.{arith}
 use borrow.Author.Needs.{needs}
 use Rattle.plan.proofs.table.sound_of.Statement.{statement}

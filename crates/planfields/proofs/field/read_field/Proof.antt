@@ -1,4 +1,5 @@
--- `planfields::field::read_field` meets its contract: behind place k, the bytes' value is in hand.
+-- `planfields::field::read_field` meets its contract:
+-- at index k, `value` is the value of the field's bytes from k on.
 use mathlib.Core.Path.{_≡_, refl, sym}
 use mathlib.Core.List.{List}
 use Prim.Native.Nat.{ℕ, suc, _+_, _*_, _-_, _≤_, _<_, _^_}
@@ -8,12 +9,12 @@ use borrow.Author.Needs.{needs}
 use lib.Dec.{lit<}
 use lib.ListN.{getD, take, drop}
 use Rattle.planfields.specs.Bytes as rule
-use Rattle.planfields.proofs.Digits.{value-start, value-turn, within, room}
-use Rattle.planfields.proofs.Steps.{field-whole, field-cut}
+use Rattle.planfields.proofs.ByteLaws.{value-start, value-turn, within, room}
+use Rattle.planfields.proofs.ParserLaws.{field-whole, field-cut}
 use Rattle.planfields.proofs.field.read_field.Statement.{statement}
 use Rattle.planfields.proofs.field.read_field.Tie as tie
 
--- The value of the bytes from k on.
+-- `value` is the value of the last w − k bytes of the field, and is below 256^(w − k).
 abbrev Has : List ℕ → ℕ → ℕ → ℕ → ℕ → Type 0
 Has file at w k value = (value ≡ rule.value 0 (take (w - k) (drop (at + k) file))) × (value < 256 ^ (w - k))
 
@@ -24,7 +25,7 @@ Inv-loop file at w value₀ scale₀ k₀ value scale k =
 abbrev μ-loop : tie.MeasureT-loop
 μ-loop file at w value₀ scale₀ k₀ value scale k = k
 
--- The byte in hand, and what it makes of the value.
+-- One iteration: the byte that is read, and the value with it.
 module _ (c : tie.After-shared-slice-known Inv-loop μ-loop) where
   byte : getD (c .before .before .before .before .before .args .file .now) (c .before .before .before .before .before .args .at + (c .before .before .loop .k - 1)) 0 < 256
   byte = c .shared-slice-known .given (c .before .before .before .before .before .args .at + (c .before .before .loop .k - 1)) .fits

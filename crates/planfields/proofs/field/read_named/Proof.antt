@@ -3,8 +3,8 @@ use borrow.Author.Tests.{eq-eqb, ne-eqb}
 use mathlib.Core.Path.{refl}
 use borrow.Author.Needs.{needs}
 use Rattle.planfields.specs.Fields.{named}
-use Rattle.planfields.specs.Answers.{fieldTold, fieldRefusal}
-use Rattle.planfields.proofs.Steps.{so, refused}
+use Rattle.planfields.specs.Answers.{fieldView, fieldRefusal}
+use Rattle.planfields.proofs.ParserLaws.{so, refused}
 use Rattle.planfields.proofs.field.read_named.Statement.{statement}
 use Rattle.planfields.proofs.field.read_named.Tie as tie
 
@@ -23,12 +23,12 @@ field-refusal-requires c κs = search needs
 returns : tie.Need-returns
 unfolding named
 returns c =
-    rw (refused fieldTold fieldRefusal (c .before .before .before .read-field .ensures .0) (c .before .enum-told .given .1) refl refl (c .field-refusal .ensures))
+    rw (refused fieldView fieldRefusal (c .before .before .before .read-field .ensures .0) (c .before .enum-told .given .1) refl refl (c .field-refusal .ensures))
 
 returns-2 : tie.Need-returns-2
 unfolding named
 returns-2 c =
-    simp (so fieldTold (c .before .before .before .before .read-field .ensures .0) (c .before .before .long .given .1), ne-eqb _ _ (c .if1 .taken))
+    simp (so fieldView (c .before .before .before .before .read-field .ensures .0) (c .before .before .long .given .1), ne-eqb _ _ (c .if1 .taken))
 
 read-field-requires-2 : tie.Need-read-field-requires-2
 read-field-requires-2 c κs = search needs
@@ -36,7 +36,7 @@ read-field-requires-2 c κs = search needs
 returns-3 : tie.Need-returns-3
 unfolding named
 returns-3 c =
-    simp (so fieldTold (c .before .before .before .before .before .read-field .ensures .0) (c .before .before .before .long .given .1), eq-eqb _ _ (c .before .if1 .left)) (c .read-field2 .ensures .0)
+    simp (so fieldView (c .before .before .before .before .before .read-field .ensures .0) (c .before .before .before .long .given .1), eq-eqb _ _ (c .before .if1 .left)) (c .read-field2 .ensures .0)
 
 pub read-named-spec : {M : Type 1} → statement M
 read-named-spec =

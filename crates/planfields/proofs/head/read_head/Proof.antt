@@ -1,11 +1,11 @@
 -- `planfields::head::read_head` meets its contract.
 use Rattle.plan.specs.Edition.{mostJobs}
-use Rattle.planfields.proofs.Heads.{head-unopened, head-no-normal, head-no-floor, head-rates, head-no-count, head-count-refused, head-whole}
+use Rattle.planfields.proofs.HeadLaws.{head-unopened, head-no-normal, head-no-floor, head-rates, head-no-count, head-count-refused, head-whole}
 use mathlib.Core.Path.{refl}
 use native.Mathlib.Omega.{arith}
 use borrow.Author.Needs.{needs}
-use Rattle.planfields.specs.Answers.{fieldTold, fieldRefusal}
-use Rattle.planfields.proofs.Steps.{so, small, refused, failed, held}
+use Rattle.planfields.specs.Answers.{fieldView, fieldRefusal}
+use Rattle.planfields.proofs.ParserLaws.{so, small, refused, failed, held}
 use Rattle.planfields.proofs.head.read_head.Statement.{statement}
 use Rattle.planfields.proofs.head.read_head.Tie as tie
 
@@ -24,7 +24,7 @@ field-refusal-requires c κs = search needs
 returns : tie.Need-returns
 returns c =
     head-unopened mostJobs (c .before .before .before .before .before .args .file .now) 0
-    (refused fieldTold fieldRefusal (c .before .before .before .read-opening .ensures) (c .before .enum-told .given .1) refl refl (c .field-refusal .ensures))
+    (refused fieldView fieldRefusal (c .before .before .before .read-opening .ensures) (c .before .enum-told .given .1) refl refl (c .field-refusal .ensures))
 
 read-field-requires : tie.Need-read-field-requires
 read-field-requires c κs = search needs
@@ -41,8 +41,8 @@ field-refusal-requires-2 c κs = search needs
 returns-2 : tie.Need-returns-2
 returns-2 c =
     head-no-normal mostJobs (c .before .before .before .before .before .before .before .before .before .args .file .now) 0
-    (so fieldTold (c .before .before .before .before .before .before .before .read-opening .ensures) (c .before .before .before .before .before .opening .given .1))
-    (refused fieldTold fieldRefusal (c .before .before .before .read-field .ensures .0) (c .before .enum-told2 .given .1) refl refl (c .field-refusal2 .ensures))
+    (so fieldView (c .before .before .before .before .before .before .before .read-opening .ensures) (c .before .before .before .before .before .opening .given .1))
+    (refused fieldView fieldRefusal (c .before .before .before .read-field .ensures .0) (c .before .enum-told2 .given .1) refl refl (c .field-refusal2 .ensures))
 
 read-field-requires-2 : tie.Need-read-field-requires-2
 read-field-requires-2 c κs = search needs
@@ -59,9 +59,9 @@ field-refusal-requires-3 c κs = search needs
 returns-3 : tie.Need-returns-3
 returns-3 c =
     head-no-floor mostJobs (c .before .before .before .before .before .before .before .before .before .before .before .before .before .args .file .now) 0
-    (so fieldTold (c .before .before .before .before .before .before .before .before .before .before .before .read-opening .ensures) (c .before .before .before .before .before .before .before .before .before .opening .given .1))
-    (so fieldTold (c .before .before .before .before .before .before .before .read-field .ensures .0) (c .before .before .before .before .before .normal .given .1))
-    (refused fieldTold fieldRefusal (c .before .before .before .read-field2 .ensures .0) (c .before .enum-told3 .given .1) refl refl (c .field-refusal3 .ensures))
+    (so fieldView (c .before .before .before .before .before .before .before .before .before .before .before .read-opening .ensures) (c .before .before .before .before .before .before .before .before .before .opening .given .1))
+    (so fieldView (c .before .before .before .before .before .before .before .read-field .ensures .0) (c .before .before .before .before .before .normal .given .1))
+    (refused fieldView fieldRefusal (c .before .before .before .read-field2 .ensures .0) (c .before .enum-told3 .given .1) refl refl (c .field-refusal3 .ensures))
 
 cast-t17 : tie.Need-cast-t17
 cast-t17 c =
@@ -77,9 +77,9 @@ rates-allowed-requires c κs = search needs
 returns-4 : tie.Need-returns-4
 returns-4 c =
     head-rates mostJobs (c .before .before .before .before .before .before .before .before .before .before .before .before .before .before .before .args .file .now) 0
-    (so fieldTold (c .before .before .before .before .before .before .before .before .before .before .before .before .before .read-opening .ensures) (c .before .before .before .before .before .before .before .before .before .before .before .opening .given .1))
-    (so fieldTold (c .before .before .before .before .before .before .before .before .before .read-field .ensures .0) (c .before .before .before .before .before .before .before .normal .given .1))
-    (so fieldTold (c .before .before .before .before .before .read-field2 .ensures .0) (c .before .before .before .floor .given .1))
+    (so fieldView (c .before .before .before .before .before .before .before .before .before .before .before .before .before .read-opening .ensures) (c .before .before .before .before .before .before .before .before .before .before .before .opening .given .1))
+    (so fieldView (c .before .before .before .before .before .before .before .before .before .read-field .ensures .0) (c .before .before .before .before .before .before .before .normal .given .1))
+    (so fieldView (c .before .before .before .before .before .read-field2 .ensures .0) (c .before .before .before .floor .given .1))
     (failed (c .before .rates-allowed .ensures) (c .if1 .taken))
 
 read-field-requires-3 : tie.Need-read-field-requires-3
@@ -97,11 +97,11 @@ field-refusal-requires-4 c κs = search needs
 returns-5 : tie.Need-returns-5
 returns-5 c =
     head-no-count mostJobs (c .before .before .before .before .before .before .before .before .before .before .before .before .before .before .before .before .before .before .before .args .file .now) 0
-    (so fieldTold (c .before .before .before .before .before .before .before .before .before .before .before .before .before .before .before .before .before .read-opening .ensures) (c .before .before .before .before .before .before .before .before .before .before .before .before .before .before .before .opening .given .1))
-    (so fieldTold (c .before .before .before .before .before .before .before .before .before .before .before .before .before .read-field .ensures .0) (c .before .before .before .before .before .before .before .before .before .before .before .normal .given .1))
-    (so fieldTold (c .before .before .before .before .before .before .before .before .before .read-field2 .ensures .0) (c .before .before .before .before .before .before .before .floor .given .1))
+    (so fieldView (c .before .before .before .before .before .before .before .before .before .before .before .before .before .before .before .before .before .read-opening .ensures) (c .before .before .before .before .before .before .before .before .before .before .before .before .before .before .before .opening .given .1))
+    (so fieldView (c .before .before .before .before .before .before .before .before .before .before .before .before .before .read-field .ensures .0) (c .before .before .before .before .before .before .before .before .before .before .before .normal .given .1))
+    (so fieldView (c .before .before .before .before .before .before .before .before .before .read-field2 .ensures .0) (c .before .before .before .before .before .before .before .floor .given .1))
     (held (c .before .before .before .before .before .rates-allowed .ensures) (c .before .before .before .before .if1 .left))
-    (refused fieldTold fieldRefusal (c .before .before .before .read-field3 .ensures .0) (c .before .enum-told4 .given .1) refl refl (c .field-refusal4 .ensures))
+    (refused fieldView fieldRefusal (c .before .before .before .read-field3 .ensures .0) (c .before .enum-told4 .given .1) refl refl (c .field-refusal4 .ensures))
 
 count-allowed-requires : tie.Need-count-allowed-requires
 count-allowed-requires c κs = search needs
@@ -109,11 +109,11 @@ count-allowed-requires c κs = search needs
 returns-6 : tie.Need-returns-6
 returns-6 c =
     head-count-refused mostJobs (c .before .before .before .before .before .before .before .before .before .before .before .before .before .before .before .before .before .before .before .before .before .args .file .now) 0
-    (so fieldTold (c .before .before .before .before .before .before .before .before .before .before .before .before .before .before .before .before .before .before .before .read-opening .ensures) (c .before .before .before .before .before .before .before .before .before .before .before .before .before .before .before .before .before .opening .given .1))
-    (so fieldTold (c .before .before .before .before .before .before .before .before .before .before .before .before .before .before .before .read-field .ensures .0) (c .before .before .before .before .before .before .before .before .before .before .before .before .before .normal .given .1))
-    (so fieldTold (c .before .before .before .before .before .before .before .before .before .before .before .read-field2 .ensures .0) (c .before .before .before .before .before .before .before .before .before .floor .given .1))
+    (so fieldView (c .before .before .before .before .before .before .before .before .before .before .before .before .before .before .before .before .before .before .before .read-opening .ensures) (c .before .before .before .before .before .before .before .before .before .before .before .before .before .before .before .before .before .opening .given .1))
+    (so fieldView (c .before .before .before .before .before .before .before .before .before .before .before .before .before .before .before .read-field .ensures .0) (c .before .before .before .before .before .before .before .before .before .before .before .before .before .normal .given .1))
+    (so fieldView (c .before .before .before .before .before .before .before .before .before .before .before .read-field2 .ensures .0) (c .before .before .before .before .before .before .before .before .before .floor .given .1))
     (held (c .before .before .before .before .before .before .before .rates-allowed .ensures) (c .before .before .before .before .before .before .if1 .left))
-    (so fieldTold (c .before .before .before .before .before .read-field3 .ensures .0) (c .before .before .before .jobs .given .1))
+    (so fieldView (c .before .before .before .before .before .read-field3 .ensures .0) (c .before .before .before .jobs .given .1))
     (failed (c .before .count-allowed .ensures) (c .if2 .taken))
 
 cast-t17-2 : tie.Need-cast-t17-2
@@ -127,11 +127,11 @@ cast-t19-2 c =
 returns-7 : tie.Need-returns-7
 returns-7 c =
     head-whole mostJobs (c .before .before .before .before .before .before .before .before .before .before .before .before .before .before .before .before .before .before .before .before .before .args .file .now) 0
-    (so fieldTold (c .before .before .before .before .before .before .before .before .before .before .before .before .before .before .before .before .before .before .before .read-opening .ensures) (c .before .before .before .before .before .before .before .before .before .before .before .before .before .before .before .before .before .opening .given .1))
-    (so fieldTold (c .before .before .before .before .before .before .before .before .before .before .before .before .before .before .before .read-field .ensures .0) (c .before .before .before .before .before .before .before .before .before .before .before .before .before .normal .given .1))
-    (so fieldTold (c .before .before .before .before .before .before .before .before .before .before .before .read-field2 .ensures .0) (c .before .before .before .before .before .before .before .before .before .floor .given .1))
+    (so fieldView (c .before .before .before .before .before .before .before .before .before .before .before .before .before .before .before .before .before .before .before .read-opening .ensures) (c .before .before .before .before .before .before .before .before .before .before .before .before .before .before .before .before .before .opening .given .1))
+    (so fieldView (c .before .before .before .before .before .before .before .before .before .before .before .before .before .before .before .read-field .ensures .0) (c .before .before .before .before .before .before .before .before .before .before .before .before .before .normal .given .1))
+    (so fieldView (c .before .before .before .before .before .before .before .before .before .before .before .read-field2 .ensures .0) (c .before .before .before .before .before .before .before .before .before .floor .given .1))
     (held (c .before .before .before .before .before .before .before .rates-allowed .ensures) (c .before .before .before .before .before .before .if1 .left))
-    (so fieldTold (c .before .before .before .before .before .read-field3 .ensures .0) (c .before .before .before .jobs .given .1))
+    (so fieldView (c .before .before .before .before .before .read-field3 .ensures .0) (c .before .before .before .jobs .given .1))
     (held (c .before .count-allowed .ensures) (c .if2 .left))
 
 pub read-head-spec : {M : Type 1} → statement M

@@ -1,10 +1,10 @@
 -- `planfields::head::read_opening` meets its contract.
-use Rattle.planfields.proofs.Heads.{opening-empty, opening-other, opening-cut, opening-wrong, opening-right}
+use Rattle.planfields.proofs.HeadLaws.{opening-empty, opening-other, opening-cut, opening-wrong, opening-right}
 use mathlib.Core.Path.{_∙_, ap}
 use native.Mathlib.Omega.{arith}
 use borrow.Author.Needs.{needs}
-use Rattle.planfields.specs.Answers.{fieldTold}
-use Rattle.planfields.proofs.Steps.{so}
+use Rattle.planfields.specs.Answers.{fieldView}
+use Rattle.planfields.proofs.ParserLaws.{so}
 use Rattle.planfields.proofs.head.read_opening.Statement.{statement}
 use Rattle.planfields.proofs.head.read_opening.Tie as tie
 
@@ -31,14 +31,14 @@ returns-3 : tie.Need-returns-3
 returns-3 c =
     let file = c .before .before .before .before .before .before .before .args .file .now in
     let f = c .before .before in
-    ap fieldTold (c .enum-told .given .1)
-    ∙ opening-cut file (omega arith) (f .before .if2 .left) (so fieldTold (f .read-field .ensures .0) (c .enum-told .given .1))
+    ap fieldView (c .enum-told .given .1)
+    ∙ opening-cut file (omega arith) (f .before .if2 .left) (so fieldView (f .read-field .ensures .0) (c .enum-told .given .1))
 
 returns-4 : tie.Need-returns-4
 returns-4 c =
     let file = c .before .before .before .before .before .before .before .before .before .args .file .now in
     let f = c .before .before .before .before in
-    opening-wrong file (omega arith) (f .before .if2 .left) (so fieldTold (c .before .before .before .before .read-field .ensures .0) (c .before .before .length .given .1)) (λ e. absurd (omega arith))
+    opening-wrong file (omega arith) (f .before .if2 .left) (so fieldView (c .before .before .before .before .read-field .ensures .0) (c .before .before .length .given .1)) (λ e. absurd (omega arith))
 
 sub-if4 : tie.Need-sub-if4
 sub-if4 c = search needs
@@ -47,13 +47,13 @@ returns-5 : tie.Need-returns-5
 returns-5 c =
     let file = c .before .before .before .before .before .before .before .before .before .before .args .file .now in
     let f = c .before .before .before .before .before in
-    opening-wrong file (omega arith) (f .before .if2 .left) (so fieldTold (c .before .before .before .before .before .read-field .ensures .0) (c .before .before .before .length .given .1)) (λ e. c .if4 .taken (omega arith))
+    opening-wrong file (omega arith) (f .before .if2 .left) (so fieldView (c .before .before .before .before .before .read-field .ensures .0) (c .before .before .before .length .given .1)) (λ e. c .if4 .taken (omega arith))
 
 returns-6 : tie.Need-returns-6
 returns-6 c =
     let file = c .before .before .before .before .before .before .before .before .before .before .args .file .now in
     let f = c .before .before .before .before .before in
-    opening-right file (omega arith) (f .before .if2 .left) (so fieldTold (c .before .before .before .before .before .read-field .ensures .0) (c .before .before .before .length .given .1)) (omega arith)
+    opening-right file (omega arith) (f .before .if2 .left) (so fieldView (c .before .before .before .before .before .read-field .ensures .0) (c .before .before .before .length .given .1)) (omega arith)
 
 pub read-opening-spec : {M : Type 1} → statement M
 read-opening-spec =

@@ -2,8 +2,8 @@
 use native.Mathlib.Omega.{arith}
 use borrow.Author.Needs.{needs}
 use lib.Dec.{lit<}
-use Rattle.planfields.specs.Answers.{fieldTold}
-use Rattle.planfields.proofs.Steps.{so, small, failed, held}
+use Rattle.planfields.specs.Answers.{fieldView}
+use Rattle.planfields.proofs.ParserLaws.{so, small, failed, held}
 use Rattle.planfields.proofs.job.read_grade.Statement.{statement}
 use Rattle.planfields.proofs.job.read_grade.Tie as tie
 
@@ -18,7 +18,7 @@ enum-told c = search needs
 
 returns : tie.Need-returns
 returns c =
-    (simp (so fieldTold (c .before .before .read-field .ensures .0) (c .enum-told .given .1), c .enum-told .given .1), c .before .before .read-field .ensures .1)
+    (simp (so fieldView (c .before .before .read-field .ensures .0) (c .enum-told .given .1), c .enum-told .given .1), c .before .before .read-field .ensures .1)
 
 cast-grade-allowed : tie.Need-cast-grade-allowed
 cast-grade-allowed c =
@@ -29,11 +29,11 @@ grade-allowed-requires c κs = search needs
 
 returns-2 : tie.Need-returns-2
 returns-2 c =
-    (simp (so fieldTold (c .before .before .before .before .before .read-field .ensures .0) (c .before .before .before .byte .given .1), failed (c .before .grade-allowed .ensures) (c .if1 .taken)), lit< tt)
+    (simp (so fieldView (c .before .before .before .before .before .read-field .ensures .0) (c .before .before .before .byte .given .1), failed (c .before .grade-allowed .ensures) (c .if1 .taken)), lit< tt)
 
 returns-3 : tie.Need-returns-3
 returns-3 c =
-    (simp (so fieldTold (c .before .before .before .before .before .read-field .ensures .0) (c .before .before .before .byte .given .1), held (c .before .grade-allowed .ensures) (c .if1 .left)), small (c .before .before .before .before .before .read-field .ensures .1) (c .before .before .before .byte .given .1))
+    (simp (so fieldView (c .before .before .before .before .before .read-field .ensures .0) (c .before .before .before .byte .given .1), held (c .before .grade-allowed .ensures) (c .if1 .left)), small (c .before .before .before .before .before .read-field .ensures .1) (c .before .before .before .byte .given .1))
 
 pub read-grade-spec : {M : Type 1} → statement M
 read-grade-spec =

@@ -1,12 +1,12 @@
 -- `planfields::job::read_job` meets its contract.
-use Rattle.planfields.proofs.Heads.{job-bounds, job-whole}
+use Rattle.planfields.proofs.HeadLaws.{job-bounds, job-whole}
 use mathlib.Core.Path.{refl, ap₂}
 use mathlib.Core.Bool.{_&&_}
 use native.Mathlib.Omega.{arith}
 use borrow.Author.Needs.{needs}
-use Rattle.planfields.specs.Answers.{fieldTold, fieldRefusal}
+use Rattle.planfields.specs.Answers.{fieldView, fieldRefusal}
 use Rattle.planfields.specs.Fields.{oneJob}
-use Rattle.planfields.proofs.Steps.{so, small, refused, failed, held}
+use Rattle.planfields.proofs.ParserLaws.{so, small, refused, failed, held}
 use Rattle.planfields.proofs.job.read_job.Statement.{statement}
 use Rattle.planfields.proofs.job.read_job.Tie as tie
 
@@ -25,7 +25,7 @@ field-refusal-requires c κs = search needs
 returns : tie.Need-returns
 unfolding oneJob
 returns c =
-    simp (refused fieldTold fieldRefusal (c .before .before .before .read-name .ensures) (c .before .enum-told .given .1) refl refl (c .field-refusal .ensures))
+    simp (refused fieldView fieldRefusal (c .before .before .before .read-name .ensures) (c .before .enum-told .given .1) refl refl (c .field-refusal .ensures))
 
 read-grade-requires : tie.Need-read-grade-requires
 read-grade-requires c κs = search needs
@@ -42,7 +42,7 @@ field-refusal-requires-2 c κs = search needs
 returns-2 : tie.Need-returns-2
 unfolding oneJob
 returns-2 c =
-    simp (so fieldTold (c .before .before .before .before .before .before .before .read-name .ensures) (c .before .before .before .before .before .named .given .1), refused fieldTold fieldRefusal (c .before .before .before .read-grade .ensures .0) (c .before .enum-told2 .given .1) refl refl (c .field-refusal2 .ensures))
+    simp (so fieldView (c .before .before .before .before .before .before .before .read-name .ensures) (c .before .before .before .before .before .named .given .1), refused fieldView fieldRefusal (c .before .before .before .read-grade .ensures .0) (c .before .enum-told2 .given .1) refl refl (c .field-refusal2 .ensures))
 
 read-field-requires : tie.Need-read-field-requires
 read-field-requires c κs = search needs
@@ -59,7 +59,7 @@ field-refusal-requires-3 c κs = search needs
 returns-3 : tie.Need-returns-3
 unfolding oneJob
 returns-3 c =
-    simp (so fieldTold (c .before .before .before .before .before .before .before .before .before .before .before .read-name .ensures) (c .before .before .before .before .before .before .before .before .before .named .given .1), so fieldTold (c .before .before .before .before .before .before .before .read-grade .ensures .0) (c .before .before .before .before .before .graded .given .1), refused fieldTold fieldRefusal (c .before .before .before .read-field .ensures .0) (c .before .enum-told3 .given .1) refl refl (c .field-refusal3 .ensures))
+    simp (so fieldView (c .before .before .before .before .before .before .before .before .before .before .before .read-name .ensures) (c .before .before .before .before .before .before .before .before .before .named .given .1), so fieldView (c .before .before .before .before .before .before .before .read-grade .ensures .0) (c .before .before .before .before .before .graded .given .1), refused fieldView fieldRefusal (c .before .before .before .read-field .ensures .0) (c .before .enum-told3 .given .1) refl refl (c .field-refusal3 .ensures))
 
 read-field-requires-2 : tie.Need-read-field-requires-2
 read-field-requires-2 c κs = search needs
@@ -76,7 +76,7 @@ field-refusal-requires-4 c κs = search needs
 returns-4 : tie.Need-returns-4
 unfolding oneJob
 returns-4 c =
-    simp (so fieldTold (c .before .before .before .before .before .before .before .before .before .before .before .before .before .before .before .read-name .ensures) (c .before .before .before .before .before .before .before .before .before .before .before .before .before .named .given .1), so fieldTold (c .before .before .before .before .before .before .before .before .before .before .before .read-grade .ensures .0) (c .before .before .before .before .before .before .before .before .before .graded .given .1), so fieldTold (c .before .before .before .before .before .before .before .read-field .ensures .0) (c .before .before .before .before .before .released .given .1), refused fieldTold fieldRefusal (c .before .before .before .read-field2 .ensures .0) (c .before .enum-told4 .given .1) refl refl (c .field-refusal4 .ensures))
+    simp (so fieldView (c .before .before .before .before .before .before .before .before .before .before .before .before .before .before .before .read-name .ensures) (c .before .before .before .before .before .before .before .before .before .before .before .before .before .named .given .1), so fieldView (c .before .before .before .before .before .before .before .before .before .before .before .read-grade .ensures .0) (c .before .before .before .before .before .before .before .before .before .graded .given .1), so fieldView (c .before .before .before .before .before .before .before .read-field .ensures .0) (c .before .before .before .before .before .released .given .1), refused fieldView fieldRefusal (c .before .before .before .read-field2 .ensures .0) (c .before .enum-told4 .given .1) refl refl (c .field-refusal4 .ensures))
 
 read-field-requires-3 : tie.Need-read-field-requires-3
 read-field-requires-3 c κs = search needs
@@ -93,7 +93,7 @@ field-refusal-requires-5 c κs = search needs
 returns-5 : tie.Need-returns-5
 unfolding oneJob
 returns-5 c =
-    simp (so fieldTold (c .before .before .before .before .before .before .before .before .before .before .before .before .before .before .before .before .before .before .before .read-name .ensures) (c .before .before .before .before .before .before .before .before .before .before .before .before .before .before .before .before .before .named .given .1), so fieldTold (c .before .before .before .before .before .before .before .before .before .before .before .before .before .before .before .read-grade .ensures .0) (c .before .before .before .before .before .before .before .before .before .before .before .before .before .graded .given .1), so fieldTold (c .before .before .before .before .before .before .before .before .before .before .before .read-field .ensures .0) (c .before .before .before .before .before .before .before .before .before .released .given .1), so fieldTold (c .before .before .before .before .before .before .before .read-field2 .ensures .0) (c .before .before .before .before .before .sized .given .1), refused fieldTold fieldRefusal (c .before .before .before .read-field3 .ensures .0) (c .before .enum-told5 .given .1) refl refl (c .field-refusal5 .ensures))
+    simp (so fieldView (c .before .before .before .before .before .before .before .before .before .before .before .before .before .before .before .before .before .before .before .read-name .ensures) (c .before .before .before .before .before .before .before .before .before .before .before .before .before .before .before .before .before .named .given .1), so fieldView (c .before .before .before .before .before .before .before .before .before .before .before .before .before .before .before .read-grade .ensures .0) (c .before .before .before .before .before .before .before .before .before .before .before .before .before .graded .given .1), so fieldView (c .before .before .before .before .before .before .before .before .before .before .before .read-field .ensures .0) (c .before .before .before .before .before .before .before .before .before .released .given .1), so fieldView (c .before .before .before .before .before .before .before .read-field2 .ensures .0) (c .before .before .before .before .before .sized .given .1), refused fieldView fieldRefusal (c .before .before .before .read-field3 .ensures .0) (c .before .enum-told5 .given .1) refl refl (c .field-refusal5 .ensures))
 
 cast-t26 : tie.Need-cast-t26
 cast-t26 c =
@@ -117,22 +117,22 @@ returns-6 : tie.Need-returns-6
 returns-6 c =
     let a = c .before .before .before .before .before .before .before .before .before .before .before .before .before .before .before .before .before .before .before .before .before .before .before .before .before .args in
     job-bounds (a .earlier .now) (a .file .now) (a .at)
-    (so fieldTold (c .before .before .before .before .before .before .before .before .before .before .before .before .before .before .before .before .before .before .before .before .before .before .read-name .ensures) (c .before .before .before .before .before .before .before .before .before .before .before .before .before .before .before .before .before .before .before .before .named .given .1))
-    (so fieldTold (c .before .before .before .before .before .before .before .before .before .before .before .before .before .before .before .before .before .before .read-grade .ensures .0) (c .before .before .before .before .before .before .before .before .before .before .before .before .before .before .before .before .graded .given .1))
-    (so fieldTold (c .before .before .before .before .before .before .before .before .before .before .before .before .before .before .read-field .ensures .0) (c .before .before .before .before .before .before .before .before .before .before .before .before .released .given .1))
-    (so fieldTold (c .before .before .before .before .before .before .before .before .before .before .read-field2 .ensures .0) (c .before .before .before .before .before .before .before .before .sized .given .1))
-    (so fieldTold (c .before .before .before .before .before .before .read-field3 .ensures .0) (c .before .before .before .before .dead .given .1))
+    (so fieldView (c .before .before .before .before .before .before .before .before .before .before .before .before .before .before .before .before .before .before .before .before .before .before .read-name .ensures) (c .before .before .before .before .before .before .before .before .before .before .before .before .before .before .before .before .before .before .before .before .named .given .1))
+    (so fieldView (c .before .before .before .before .before .before .before .before .before .before .before .before .before .before .before .before .before .before .read-grade .ensures .0) (c .before .before .before .before .before .before .before .before .before .before .before .before .before .before .before .before .graded .given .1))
+    (so fieldView (c .before .before .before .before .before .before .before .before .before .before .before .before .before .before .read-field .ensures .0) (c .before .before .before .before .before .before .before .before .before .before .before .before .released .given .1))
+    (so fieldView (c .before .before .before .before .before .before .before .before .before .before .read-field2 .ensures .0) (c .before .before .before .before .before .before .before .before .sized .given .1))
+    (so fieldView (c .before .before .before .before .before .before .read-field3 .ensures .0) (c .before .before .before .before .dead .given .1))
     (failed (ap₂ _&&_ (c .before .before .window-allowed .ensures) (c .before .size-allowed .ensures)) (c .if1 .taken))
 
 returns-7 : tie.Need-returns-7
 returns-7 c =
     let a = c .before .before .before .before .before .before .before .before .before .before .before .before .before .before .before .before .before .before .before .before .before .before .before .before .before .args in
     job-whole (a .earlier .now) (a .file .now) (a .at)
-    (so fieldTold (c .before .before .before .before .before .before .before .before .before .before .before .before .before .before .before .before .before .before .before .before .before .before .read-name .ensures) (c .before .before .before .before .before .before .before .before .before .before .before .before .before .before .before .before .before .before .before .before .named .given .1))
-    (so fieldTold (c .before .before .before .before .before .before .before .before .before .before .before .before .before .before .before .before .before .before .read-grade .ensures .0) (c .before .before .before .before .before .before .before .before .before .before .before .before .before .before .before .before .graded .given .1))
-    (so fieldTold (c .before .before .before .before .before .before .before .before .before .before .before .before .before .before .read-field .ensures .0) (c .before .before .before .before .before .before .before .before .before .before .before .before .released .given .1))
-    (so fieldTold (c .before .before .before .before .before .before .before .before .before .before .read-field2 .ensures .0) (c .before .before .before .before .before .before .before .before .sized .given .1))
-    (so fieldTold (c .before .before .before .before .before .before .read-field3 .ensures .0) (c .before .before .before .before .dead .given .1))
+    (so fieldView (c .before .before .before .before .before .before .before .before .before .before .before .before .before .before .before .before .before .before .before .before .before .before .read-name .ensures) (c .before .before .before .before .before .before .before .before .before .before .before .before .before .before .before .before .before .before .before .before .named .given .1))
+    (so fieldView (c .before .before .before .before .before .before .before .before .before .before .before .before .before .before .before .before .before .before .read-grade .ensures .0) (c .before .before .before .before .before .before .before .before .before .before .before .before .before .before .before .before .graded .given .1))
+    (so fieldView (c .before .before .before .before .before .before .before .before .before .before .before .before .before .before .read-field .ensures .0) (c .before .before .before .before .before .before .before .before .before .before .before .before .released .given .1))
+    (so fieldView (c .before .before .before .before .before .before .before .before .before .before .read-field2 .ensures .0) (c .before .before .before .before .before .before .before .before .sized .given .1))
+    (so fieldView (c .before .before .before .before .before .before .read-field3 .ensures .0) (c .before .before .before .before .dead .given .1))
     (held (ap₂ _&&_ (c .before .before .window-allowed .ensures) (c .before .size-allowed .ensures)) (c .if1 .left))
 
 pub read-job-spec : {M : Type 1} → statement M

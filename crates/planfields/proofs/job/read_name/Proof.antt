@@ -1,8 +1,8 @@
 -- `planfields::job::read_name` meets its contract.
 use borrow.Author.Needs.{needs}
-use Rattle.planfields.specs.Answers.{fieldTold}
+use Rattle.planfields.specs.Answers.{fieldView}
 use Rattle.planfields.specs.Fields.{jobName}
-use Rattle.planfields.proofs.Steps.{so, failed, held}
+use Rattle.planfields.proofs.ParserLaws.{so, failed, held}
 use Rattle.planfields.proofs.job.read_name.Statement.{statement}
 use Rattle.planfields.proofs.job.read_name.Tie as tie
 
@@ -18,7 +18,7 @@ enum-told c = search needs
 returns : tie.Need-returns
 unfolding jobName
 returns c =
-    simp (so fieldTold (c .before .before .read-named .ensures) (c .enum-told .given .1), c .enum-told .given .1)
+    simp (so fieldView (c .before .before .read-named .ensures) (c .enum-told .given .1), c .enum-told .given .1)
 
 name-allowed-requires : tie.Need-name-allowed-requires
 name-allowed-requires c κs = search needs
@@ -26,7 +26,7 @@ name-allowed-requires c κs = search needs
 returns-2 : tie.Need-returns-2
 unfolding jobName
 returns-2 c =
-    simp (so fieldTold (c .before .before .before .before .before .read-named .ensures) (c .before .before .before .named .given .1), failed (c .before .name-allowed .ensures) (c .if1 .taken))
+    simp (so fieldView (c .before .before .before .before .before .read-named .ensures) (c .before .before .before .named .given .1), failed (c .before .name-allowed .ensures) (c .if1 .taken))
 
 is-absent-requires : tie.Need-is-absent-requires
 is-absent-requires c κs = search needs
@@ -34,12 +34,12 @@ is-absent-requires c κs = search needs
 returns-3 : tie.Need-returns-3
 unfolding jobName
 returns-3 c =
-    simp (so fieldTold (c .before .before .before .before .before .before .before .read-named .ensures) (c .before .before .before .before .before .named .given .1), held (c .before .before .before .name-allowed .ensures) (c .before .before .if1 .left), failed (c .before .is-absent .ensures) (c .if2 .taken))
+    simp (so fieldView (c .before .before .before .before .before .before .before .read-named .ensures) (c .before .before .before .before .before .named .given .1), held (c .before .before .before .name-allowed .ensures) (c .before .before .if1 .left), failed (c .before .is-absent .ensures) (c .if2 .taken))
 
 returns-4 : tie.Need-returns-4
 unfolding jobName
 returns-4 c =
-    simp (so fieldTold (c .before .before .before .before .before .before .before .read-named .ensures) (c .before .before .before .before .before .named .given .1), held (c .before .before .before .name-allowed .ensures) (c .before .before .if1 .left), held (c .before .is-absent .ensures) (c .if2 .left))
+    simp (so fieldView (c .before .before .before .before .before .before .before .read-named .ensures) (c .before .before .before .before .before .named .given .1), held (c .before .before .before .name-allowed .ensures) (c .before .before .if1 .left), held (c .before .is-absent .ensures) (c .if2 .left))
 
 pub read-name-spec : {M : Type 1} → statement M
 read-name-spec =

@@ -1,8 +1,8 @@
 -- `planfields::numbers::read_row_count` meets its contract.
 use borrow.Author.Tests.{le-leb, lt-leb}
 use borrow.Author.Needs.{needs}
-use Rattle.planfields.specs.Answers.{fieldTold}
-use Rattle.planfields.proofs.Steps.{so}
+use Rattle.planfields.specs.Answers.{fieldView}
+use Rattle.planfields.proofs.ParserLaws.{so}
 use Rattle.planfields.proofs.numbers.read_row_count.Statement.{statement}
 use Rattle.planfields.proofs.numbers.read_row_count.Tie as tie
 
@@ -17,15 +17,15 @@ enum-told c = search needs
 
 returns : tie.Need-returns
 returns c =
-    simp (so fieldTold (c .before .before .read-field .ensures .0) (c .enum-told .given .1), c .enum-told .given .1)
+    simp (so fieldView (c .before .before .read-field .ensures .0) (c .enum-told .given .1), c .enum-told .given .1)
 
 returns-2 : tie.Need-returns-2
 returns-2 c =
-    simp (so fieldTold (c .before .before .before .before .read-field .ensures .0) (c .before .before .two .given .1), lt-leb _ _ (c .if1 .taken))
+    simp (so fieldView (c .before .before .before .before .read-field .ensures .0) (c .before .before .two .given .1), lt-leb _ _ (c .if1 .taken))
 
 returns-3 : tie.Need-returns-3
 returns-3 c =
-    simp (so fieldTold (c .before .before .before .before .read-field .ensures .0) (c .before .before .two .given .1), le-leb _ _ (c .if1 .left))
+    simp (so fieldView (c .before .before .before .before .read-field .ensures .0) (c .before .before .two .given .1), le-leb _ _ (c .if1 .left))
 
 pub read-row-count-spec : {M : Type 1} → statement M
 read-row-count-spec =

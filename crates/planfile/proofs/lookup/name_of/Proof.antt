@@ -1,12 +1,12 @@
--- `planfile::lookup::name_of` meets its contract: a name below the job count stands inside the file.
+-- `planfile::lookup::name_of` meets its contract: below the job count a name lies inside the file.
 use mathlib.Core.Path.{_≡_, sym, _∙_, ap}
 use Prim.Native.Nat.{_+_, _-_, _≤_}
 use native.Mathlib.Omega.{arith}
 use borrow.Author.Needs.{needs}
 use lib.ListN.{length, take, drop}
-use Rattle.planfile.specs.Reading.{readFile, nameAt, nameShown}
-use Rattle.planfile.proofs.Whole.{shown-none, shown-part}
-use Rattle.planfile.proofs.Extent.{shown-inside}
+use Rattle.planfile.specs.Reader.{readFile, nameAt, nameShown}
+use Rattle.planfile.proofs.WholeFile.{shown-none, shown-part}
+use Rattle.planfile.proofs.Offsets.{shown-inside}
 use Rattle.planfile.proofs.lookup.name_of.Statement.{statement}
 use Rattle.planfile.proofs.lookup.name_of.Tie as tie
 

@@ -1,4 +1,4 @@
--- `planfile::reader::clear` meets its contract: after k places, the first k are 0.
+-- `planfile::reader::clear` meets its contract: after k iterations the first k places are 0.
 use mathlib.Core.Path.{_≡_, refl, sym, _∙_, ap}
 use Prim.Native.Nat.{_-_, _≤_}
 use native.Mathlib.Numerals.{add-one}

@@ -1,4 +1,5 @@
--- `planfile::reader::fill` meets its contract: front, rows and end, each reached only through the one before.
+-- `planfile::reader::fill` meets its contract: preamble, rows and end are read in this order,
+-- and a refusal ends the reading.
 use mathlib.Core.Path.{_≡_, refl, sym}
 use mathlib.Core.List.{_++_}
 use borrow.Author.Needs.{needs}
@@ -6,44 +7,44 @@ use lib.ListN.{drop, replicate}
 use Rattle.plan.specs.Edition.{mostJobs, mostIntervals, places}
 use Rattle.plan.specs.Boundaries.{intervals}
 use Rattle.planfields.specs.Fields.{got}
-use Rattle.planfile.specs.Reading.{Front, front, allRows}
-use Rattle.planfields.specs.Answers.{passedTold, passedRefusal}
-use Rattle.planfile.specs.Answers.{RowsAnswer}
-use Rattle.planfields.proofs.Steps.{so, refused, passed-number, field-number}
-use Rattle.planfile.proofs.Fronts.{front-refused, front-got}
-use Rattle.planfile.proofs.Whole.{rows-refused, rows-got, file-frontless, file-rowless, file-endless, file-whole, taken-length, count-within, rows-asked, rows-same}
+use Rattle.planfile.specs.Reader.{Preamble, preamble, allRows}
+use Rattle.planfields.specs.Answers.{passedView, passedRefusal}
+use Rattle.planfile.specs.inner.Parts.{RowsAnswer}
+use Rattle.planfields.proofs.ParserLaws.{so, refused, passed-number, field-number}
+use Rattle.planfile.proofs.PreambleLaws.{preamble-refused, preamble-got}
+use Rattle.planfile.proofs.WholeFile.{rows-refused, rows-got, no-preamble, no-rows, no-end, file-whole, taken-length, count-within, rows-asked, rows-same}
 use Rattle.planfile.proofs.reader.fill.Statement.{statement}
 use Rattle.planfile.proofs.reader.fill.Tie as tie
 
--- What the front tells, once its answer is taken apart.
-front-here : (c : tie.After-known-told)
-    → (f : Front) × (front (c .before .before .before .before .before .before .before .before .before .args .file .now) 0 ≡ got f (c .before .counted .given .0 .1 .0)) × (f .rows ≡ c .before .counted .given .0 .0)
-    × (c .before .before .before .before .before .read-front .result .plan ≡ f .plan)
-    × (c .before .before .before .before .before .read-front .last .1 .0 ≡ f .names ++ drop (f .plan .count) (replicate mostJobs 0))
-front-here c =
-    front-got (replicate mostJobs 0) (c .before .before .before .before .before .read-front .result) (c .before .before .before .before .before .read-front .last .1 .0)
-    (front (c .before .before .before .before .before .before .before .before .before .args .file .now) 0) (c .before .before .before .before .before .read-front .ensures) (c .before .counted .given .1)
+-- What the answer of `read_preamble` gives, once it is matched.
+preamble-here : (c : tie.After-known-told)
+    → (f : Preamble) × (preamble (c .before .before .before .before .before .before .before .before .before .args .file .now) 0 ≡ got f (c .before .counted .given .0 .1 .0)) × (f .rows ≡ c .before .counted .given .0 .0)
+    × (c .before .before .before .before .before .read-preamble .result .plan ≡ f .plan)
+    × (c .before .before .before .before .before .read-preamble .last .1 .0 ≡ f .names ++ drop (f .plan .count) (replicate mostJobs 0))
+preamble-here c =
+    preamble-got (replicate mostJobs 0) (c .before .before .before .before .before .read-preamble .result) (c .before .before .before .before .before .read-preamble .last .1 .0)
+    (preamble (c .before .before .before .before .before .before .before .before .before .args .file .now) 0) (c .before .before .before .before .before .read-preamble .ensures) (c .before .counted .given .1)
 
--- The rows are those of the front, and so is what they leave in the table.
+-- The rows are those of the preamble, read into a table of zeros.
 rows-here : (c : tie.After-store-rows)
-    → RowsAnswer (allRows (front-here (c .before .before .before .before) .0 .rows) mostIntervals (front-here (c .before .before .before .before) .0 .names) (intervals (front-here (c .before .before .before .before) .0 .plan)) 0 (replicate places 0)
+    → RowsAnswer (allRows (preamble-here (c .before .before .before .before) .0 .rows) mostIntervals (preamble-here (c .before .before .before .before) .0 .names) (intervals (preamble-here (c .before .before .before .before) .0 .plan)) 0 (replicate places 0)
     (c .before .before .before .before .before .before .before .before .before .before .before .before .before .args .file .now) (c .before .before .before .before .before .counted .given .0 .1 .0)) (c .store-rows .result) (c .store-rows .last .1 .1 .1 .1 .1 .0)
 rows-here c =
-    let g = front-here (c .before .before .before .before) in
+    let g = preamble-here (c .before .before .before .before) in
     let same = rows-same (c .before .before .before .before .before .before .before .before .before .before .before .before .before .args .file .now) (g .1) (g .2) (g .3) (replicate mostJobs 0) (g .4) (c .before .before .before .intervals-of .result) (c .before .before .before .intervals-of .ensures) (replicate places 0) in
     rw (c .before .before .before .before .before .before .before .before .before .before .before .before .before .pre, same) at (c .store-rows .ensures)
 
 stored : (c : tie.After-known-told2)
-    → allRows (front-here (c .before .before .before .before .before .before .before .before .before) .0 .rows) mostIntervals (front-here (c .before .before .before .before .before .before .before .before .before) .0 .names) (intervals (front-here (c .before .before .before .before .before .before .before .before .before) .0 .plan)) 0 (replicate places 0)
+    → allRows (preamble-here (c .before .before .before .before .before .before .before .before .before) .0 .rows) mostIntervals (preamble-here (c .before .before .before .before .before .before .before .before .before) .0 .names) (intervals (preamble-here (c .before .before .before .before .before .before .before .before .before) .0 .plan)) 0 (replicate places 0)
     (c .before .before .before .before .before .before .before .before .before .before .before .before .before .before .before .before .before .before .args .file .now) (c .before .before .before .before .before .before .before .before .before .before .counted .given .0 .1 .0) ≡ got (c .before .before .before .before .before .store-rows .last .1 .1 .1 .1 .1 .0) (c .before .stored .given .0 .0)
 stored c =
     rows-got (c .before .before .before .before .before .store-rows .result) (c .before .before .before .before .before .store-rows .last .1 .1 .1 .1 .1 .0) _ (rows-here (c .before .before .before .before .before)) (c .before .stored .given .1)
 
-slice-aggregate-read-front : tie.Need-slice-aggregate-read-front
-slice-aggregate-read-front c = search needs
+slice-aggregate-read-preamble : tie.Need-slice-aggregate-read-preamble
+slice-aggregate-read-preamble c = search needs
 
-read-front-requires : tie.Need-read-front-requires
-read-front-requires c κs = search needs
+read-preamble-requires : tie.Need-read-preamble-requires
+read-preamble-requires c κs = search needs
 
 enum-known-counted : tie.Need-enum-known-counted
 enum-known-counted c = search needs
@@ -57,8 +58,8 @@ field-refusal-requires c κs = search needs
 returns : tie.Need-returns
 returns c =
     let file = c .before .before .before .before .before .before .before .before .before .args .file .now in
-    let r = c .before .before .before .before .before .read-front in
-    rw (file-frontless file (front-refused (replicate mostJobs 0) (r .result) (r .last .1 .0) (front file 0) (r .ensures)
+    let r = c .before .before .before .before .before .read-preamble in
+    rw (no-preamble file (preamble-refused (replicate mostJobs 0) (r .result) (r .last .1 .0) (preamble file 0) (r .ensures)
     (field-number (c .before .enum-told .given .1) (c .field-refusal .ensures)))) refl
 
 intervals-of-requires : tie.Need-intervals-of-requires
@@ -66,17 +67,17 @@ intervals-of-requires c κs = search needs
 
 array-share-prefix-names : tie.Need-array-share-prefix-names
 array-share-prefix-names c =
-    let g = front-here (c .before) in
+    let g = preamble-here (c .before) in
     count-within (c .before .before .before .before .before .before .before .before .before .before .args .file .now) (g .1) (g .2) (g .3) (replicate mostJobs 0) (g .4)
 
 slice-aggregate-store-rows : tie.Need-slice-aggregate-store-rows
 slice-aggregate-store-rows c =
-    let g = front-here (c .before .before) in
+    let g = preamble-here (c .before .before) in
     sym (taken-length (c .before .before .before .before .before .before .before .before .before .before .before .args .file .now) (g .1) (g .2) (g .3) (replicate mostJobs 0) (g .4))
 
 store-rows-requires : tie.Need-store-rows-requires
 store-rows-requires c κs =
-    let g = front-here (c .before .before .before) in
+    let g = preamble-here (c .before .before .before) in
     rows-asked (c .before .before .before .before .before .before .before .before .before .before .before .before .args .file .now) (g .1) (g .2) (g .3) (replicate mostJobs 0) (g .4) (c .before .before .intervals-of .result) (c .before .before .intervals-of .ensures)
 
 enum-known-stored : tie.Need-enum-known-stored
@@ -93,9 +94,9 @@ same-length c = search needs
 
 returns-2 : tie.Need-returns-2
 returns-2 c =
-    let g = front-here (c .before .before .before .before .before .before .before .before .before) in
+    let g = preamble-here (c .before .before .before .before .before .before .before .before .before) in
     let s = c .before .before .before .before .before .store-rows in
-    rw (file-rowless (c .before .before .before .before .before .before .before .before .before .before .before .before .before .before .before .before .before .before .args .file .now) (g .1)
+    rw (no-rows (c .before .before .before .before .before .before .before .before .before .before .before .before .before .before .before .before .before .before .args .file .now) (g .1)
     (rows-refused (s .result) (s .last .1 .1 .1 .1 .1 .0) _ (rows-here (c .before .before .before .before .before)) (passed-number (c .before .enum-told2 .given .1) (c .passed-refusal .ensures)))) refl
 
 read-end-requires : tie.Need-read-end-requires
@@ -115,25 +116,25 @@ same-length-2 c = search needs
 
 returns-3 : tie.Need-returns-3
 returns-3 c =
-    let g = front-here (c .before .before .before .before .before .before .before .before .before .before .before .before .before) in
-    rw (file-endless (c .before .before .before .before .before .before .before .before .before .before .before .before .before .before .before .before .before .before .before .before .before .before .args .file .now) (g .1) (stored (c .before .before .before .before))
-    (refused passedTold passedRefusal (c .before .before .before .read-end .ensures) (c .before .enum-told4 .given .1) refl refl (c .passed-refusal2 .ensures))) refl
+    let g = preamble-here (c .before .before .before .before .before .before .before .before .before .before .before .before .before) in
+    rw (no-end (c .before .before .before .before .before .before .before .before .before .before .before .before .before .before .before .before .before .before .before .before .before .before .args .file .now) (g .1) (stored (c .before .before .before .before))
+    (refused passedView passedRefusal (c .before .before .before .read-end .ensures) (c .before .enum-told4 .given .1) refl refl (c .passed-refusal2 .ensures))) refl
 
 same-length-3 : tie.Need-same-length-3
 same-length-3 c = search needs
 
 returns-4 : tie.Need-returns-4
 returns-4 c =
-    let g = front-here (c .before .before .before .before .before .before .before .before .before .before .before .before) in
-    rw (file-whole (c .before .before .before .before .before .before .before .before .before .before .before .before .before .before .before .before .before .before .before .before .before .args .file .now) (g .1) (stored (c .before .before .before)) (so passedTold (c .before .before .read-end .ensures) (c .enum-told3 .given .1)))
+    let g = preamble-here (c .before .before .before .before .before .before .before .before .before .before .before .before) in
+    rw (file-whole (c .before .before .before .before .before .before .before .before .before .before .before .before .before .before .before .before .before .before .before .before .before .args .file .now) (g .1) (stored (c .before .before .before)) (so passedView (c .before .before .read-end .ensures) (c .enum-told3 .given .1)))
     (refl, g .3, refl)
 
 pub fill-spec : {M : Type 1} → statement M
 fill-spec =
     tie.close
     (tie.spec
-    slice-aggregate-read-front
-    read-front-requires
+    slice-aggregate-read-preamble
+    read-preamble-requires
     enum-known-counted
     enum-told
     field-refusal-requires

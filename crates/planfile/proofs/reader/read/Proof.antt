@@ -1,6 +1,6 @@
--- `planfile::reader::read` meets its contract.
-use Rattle.planfile.proofs.Whole.{whole-beyond, reader-short, reader-long}
-use Rattle.planfile.specs.Reading.{readFile}
+-- `planfile::reader::read` meets its contract: places from 2,016 on are not lent to `read_whole`.
+use Rattle.planfile.proofs.WholeFile.{whole-beyond, reader-short, reader-long}
+use Rattle.planfile.specs.Reader.{readFile}
 use Rattle.plan.specs.Edition.{places}
 use lib.Seq.{length-take-le}
 use mathlib.Core.Path.{sym, _∙_}

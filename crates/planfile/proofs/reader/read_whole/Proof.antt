@@ -1,6 +1,6 @@
--- `planfile::reader::read_whole` meets its contract: a refusal clears what was stored.
-use Rattle.planfile.proofs.Whole.{whole-read, whole-refused}
-use Rattle.planfile.specs.Reading.{readFile}
+-- `planfile::reader::read_whole` meets its contract: after a refusal the table is cleared again.
+use Rattle.planfile.proofs.WholeFile.{whole-read, whole-refused}
+use Rattle.planfile.specs.Reader.{readFile}
 use mathlib.Core.Path.{_∙_, ap}
 use borrow.Author.Needs.{needs}
 use lib.ListN.{replicate}

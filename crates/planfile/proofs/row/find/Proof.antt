@@ -1,7 +1,8 @@
--- `planfile::row::find` meets its contract: what is found ahead is the position, since names differ; else the search from the start finds it.
+-- `planfile::row::find` meets its contract: as names are distinct,
+-- an index found from `start` on is the position; otherwise the search from 0 gives it.
 use native.Mathlib.Omega.{arith}
 use borrow.Author.Needs.{needs}
-use Rattle.planfile.proofs.Search.{position-first, position-only}
+use Rattle.planfile.proofs.PositionLaws.{position-first, position-only}
 use Rattle.planfile.proofs.row.find.Statement.{statement}
 use Rattle.planfile.proofs.row.find.Tie as tie
 

@@ -1,4 +1,4 @@
--- `planfile::row::find_from` meets its contract: the name stands at no place passed.
+-- `planfile::row::find_from` meets its contract: no index from `start` up to k has the name.
 use mathlib.Core.Path.{_≡_}
 use Prim.Native.Nat.{ℕ, _-_, _≤_, _<_}
 use mathlib.Core.Logic.{⊎-elim}

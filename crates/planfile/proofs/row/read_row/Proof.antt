@@ -6,14 +6,14 @@ use native.Mathlib.Omega.{arith}
 use borrow.Author.Tests.{lt-ltb, le-ltb}
 use borrow.Author.Needs.{needs}
 use lib.Dec.{ltb}
-use Rattle.planfields.specs.Answers.{fieldTold, fieldRefusal}
+use Rattle.planfields.specs.Answers.{fieldView, fieldRefusal}
 use Rattle.plan.specs.Edition.{mostIntervals}
-use Rattle.planfields.proofs.Steps.{so, small, refused}
+use Rattle.planfields.proofs.ParserLaws.{so, small, refused}
 use Rattle.planfile.proofs.Rows.{row-unnamed, row-jobless, row-unplaced, row-empty, row-late, row-whole}
 use Rattle.planfile.proofs.row.read_row.Statement.{statement}
 use Rattle.planfile.proofs.row.read_row.Tie as tie
 
--- What the search tells of the position.
+-- Whether the position is in bounds, by the index that `find` returned.
 found : {r p n : ℕ} → r ≡ p → r < n → ltb p n ≡ true
 found {r} {p} {n} e h = lt-ltb p n (rw e at h)
 
@@ -35,7 +35,7 @@ field-refusal-requires c κs = search needs
 returns : tie.Need-returns
 returns c =
     let a = c .before .before .before .before .before .before .args in
-    sym (row-unnamed mostIntervals (a .names .now) (a .spans) (a .low) (a .file .now) (a .at) (refused fieldTold fieldRefusal (c .before .before .before .read-named .ensures) (c .before .enum-told .given .1) refl refl (c .field-refusal .ensures)))
+    sym (row-unnamed mostIntervals (a .names .now) (a .spans) (a .low) (a .file .now) (a .at) (refused fieldView fieldRefusal (c .before .before .before .read-named .ensures) (c .before .enum-told .given .1) refl refl (c .field-refusal .ensures)))
 
 find-requires : tie.Need-find-requires
 find-requires c κs = search needs
@@ -43,7 +43,7 @@ find-requires c κs = search needs
 returns-2 : tie.Need-returns-2
 returns-2 c =
     let a = c .before .before .before .before .before .before .before .before .args in
-    sym (row-jobless mostIntervals (a .names .now) (a .spans) (a .low) (a .file .now) (a .at) (so fieldTold (c .before .before .before .before .before .read-named .ensures) (c .before .before .before .named .given .1)) (missing (c .before .find .ensures) (c .if1 .taken)))
+    sym (row-jobless mostIntervals (a .names .now) (a .spans) (a .low) (a .file .now) (a .at) (so fieldView (c .before .before .before .before .before .read-named .ensures) (c .before .before .before .named .given .1)) (missing (c .before .find .ensures) (c .if1 .taken)))
 
 read-interval-requires : tie.Need-read-interval-requires
 read-interval-requires c κs = search needs
@@ -60,7 +60,7 @@ field-refusal-requires-2 c κs = search needs
 returns-3 : tie.Need-returns-3
 returns-3 c =
     let a = c .before .before .before .before .before .before .before .before .before .before .before .before .args in
-    sym (row-unplaced mostIntervals (a .names .now) (a .spans) (a .low) (a .file .now) (a .at) (so fieldTold (c .before .before .before .before .before .before .before .before .before .read-named .ensures) (c .before .before .before .before .before .before .before .named .given .1)) (found (c .before .before .before .before .before .find .ensures) (c .before .before .before .before .if1 .left)) (refused fieldTold fieldRefusal (c .before .before .before .read-interval .ensures .0) (c .before .enum-told2 .given .1) refl refl (c .field-refusal2 .ensures)))
+    sym (row-unplaced mostIntervals (a .names .now) (a .spans) (a .low) (a .file .now) (a .at) (so fieldView (c .before .before .before .before .before .before .before .before .before .read-named .ensures) (c .before .before .before .before .before .before .before .named .given .1)) (found (c .before .before .before .before .before .find .ensures) (c .before .before .before .before .if1 .left)) (refused fieldView fieldRefusal (c .before .before .before .read-interval .ensures .0) (c .before .enum-told2 .given .1) refl refl (c .field-refusal2 .ensures)))
 
 read-units-requires : tie.Need-read-units-requires
 read-units-requires c κs = search needs
@@ -77,7 +77,7 @@ field-refusal-requires-3 c κs = search needs
 returns-4 : tie.Need-returns-4
 returns-4 c =
     let a = c .before .before .before .before .before .before .before .before .before .before .before .before .before .before .before .before .args in
-    sym (row-empty mostIntervals (a .names .now) (a .spans) (a .low) (a .file .now) (a .at) (so fieldTold (c .before .before .before .before .before .before .before .before .before .before .before .before .before .read-named .ensures) (c .before .before .before .before .before .before .before .before .before .before .before .named .given .1)) (found (c .before .before .before .before .before .before .before .before .before .find .ensures) (c .before .before .before .before .before .before .before .before .if1 .left)) (so fieldTold (c .before .before .before .before .before .before .before .read-interval .ensures .0) (c .before .before .before .before .before .placed .given .1)) (refused fieldTold fieldRefusal (c .before .before .before .read-units .ensures .0) (c .before .enum-told3 .given .1) refl refl (c .field-refusal3 .ensures)))
+    sym (row-empty mostIntervals (a .names .now) (a .spans) (a .low) (a .file .now) (a .at) (so fieldView (c .before .before .before .before .before .before .before .before .before .before .before .before .before .read-named .ensures) (c .before .before .before .before .before .before .before .before .before .before .before .named .given .1)) (found (c .before .before .before .before .before .before .before .before .before .find .ensures) (c .before .before .before .before .before .before .before .before .if1 .left)) (so fieldView (c .before .before .before .before .before .before .before .read-interval .ensures .0) (c .before .before .before .before .before .placed .given .1)) (refused fieldView fieldRefusal (c .before .before .before .read-units .ensures .0) (c .before .enum-told3 .given .1) refl refl (c .field-refusal3 .ensures)))
 
 mul-here : tie.Need-mul-here
 mul-here c =
@@ -92,7 +92,7 @@ add-here c =
 returns-5 : tie.Need-returns-5
 returns-5 c =
     let a = c .before .before .before .before .before .before .before .before .before .before .before .before .before .before .before .before .before .args in
-    sym (row-late mostIntervals (a .names .now) (a .spans) (a .low) (a .file .now) (a .at) (so fieldTold (c .before .before .before .before .before .before .before .before .before .before .before .before .before .before .read-named .ensures) (c .before .before .before .before .before .before .before .before .before .before .before .before .named .given .1)) (found (c .before .before .before .before .before .before .before .before .before .before .find .ensures) (c .before .before .before .before .before .before .before .before .before .if1 .left)) (so fieldTold (c .before .before .before .before .before .before .before .before .read-interval .ensures .0) (c .before .before .before .before .before .before .placed .given .1)) (so fieldTold (c .before .before .before .before .read-units .ensures .0) (c .before .before .counted .given .1)) (rw (← (c .before .before .before .before .before .before .before .before .before .before .find .ensures)) (c .if2 .taken)))
+    sym (row-late mostIntervals (a .names .now) (a .spans) (a .low) (a .file .now) (a .at) (so fieldView (c .before .before .before .before .before .before .before .before .before .before .before .before .before .before .read-named .ensures) (c .before .before .before .before .before .before .before .before .before .before .before .before .named .given .1)) (found (c .before .before .before .before .before .before .before .before .before .before .find .ensures) (c .before .before .before .before .before .before .before .before .before .if1 .left)) (so fieldView (c .before .before .before .before .before .before .before .before .read-interval .ensures .0) (c .before .before .before .before .before .before .placed .given .1)) (so fieldView (c .before .before .before .before .read-units .ensures .0) (c .before .before .counted .given .1)) (rw (← (c .before .before .before .before .before .before .before .before .before .before .find .ensures)) (c .if2 .taken)))
 
 cast-t25 : tie.Need-cast-t25
 cast-t25 c =
@@ -102,7 +102,7 @@ returns-6 : tie.Need-returns-6
 returns-6 c =
     let a = c .before .before .before .before .before .before .before .before .before .before .before .before .before .before .before .before .before .args in
     let f = c .before .before .before .before .before .before .before .before .before .before .find .ensures in
-    rw f (sym (row-whole mostIntervals (a .names .now) (a .spans) (a .low) (a .file .now) (a .at) (so fieldTold (c .before .before .before .before .before .before .before .before .before .before .before .before .before .before .read-named .ensures) (c .before .before .before .before .before .before .before .before .before .before .before .before .named .given .1)) (found (c .before .before .before .before .before .before .before .before .before .before .find .ensures) (c .before .before .before .before .before .before .before .before .before .if1 .left)) (so fieldTold (c .before .before .before .before .before .before .before .before .read-interval .ensures .0) (c .before .before .before .before .before .before .placed .given .1)) (so fieldTold (c .before .before .before .before .read-units .ensures .0) (c .before .before .counted .given .1)) (rw (← f) (c .if2 .left))))
+    rw f (sym (row-whole mostIntervals (a .names .now) (a .spans) (a .low) (a .file .now) (a .at) (so fieldView (c .before .before .before .before .before .before .before .before .before .before .before .before .before .before .read-named .ensures) (c .before .before .before .before .before .before .before .before .before .before .before .before .named .given .1)) (found (c .before .before .before .before .before .before .before .before .before .before .find .ensures) (c .before .before .before .before .before .before .before .before .before .if1 .left)) (so fieldView (c .before .before .before .before .before .before .before .before .read-interval .ensures .0) (c .before .before .before .before .before .before .placed .given .1)) (so fieldView (c .before .before .before .before .read-units .ensures .0) (c .before .before .counted .given .1)) (rw (← f) (c .if2 .left))))
 
 pub read-row-spec : {M : Type 1} → statement M
 read-row-spec =

@@ -1,4 +1,5 @@
--- `planfile::store::store_rows` meets its contract: after k rows, what is left gives the whole.
+-- `planfile::store::store_rows` meets its contract:
+-- after k rows, reading the remaining ones gives the result of the whole.
 use mathlib.Core.Path.{_≡_, refl, sym, _∙_, ap}
 use mathlib.Core.Logic.{⊎-elim}
 use Prim.Native.Nat.{_-_, _≤_, _<_}
@@ -9,9 +10,9 @@ use lib.ListN.{length, set, length-set}
 use lib.Seq.{set-out}
 use Rattle.plan.specs.Edition.{mostIntervals, places}
 use Rattle.planfields.specs.Fields.{got}
-use Rattle.planfile.specs.Reading.{oneRow, allRows}
-use Rattle.planfile.specs.Answers.{rowTold, rowRefusal}
-use Rattle.planfields.proofs.Steps.{so, refused}
+use Rattle.planfile.specs.Reader.{oneRow, allRows}
+use Rattle.planfile.specs.inner.Parts.{rowView, rowRefusal}
+use Rattle.planfields.proofs.ParserLaws.{so, refused}
 use Rattle.planfile.proofs.Rows.{row-inside, left-next, left-stop, left-done}
 use Rattle.planfile.proofs.store.store_rows.Statement.{statement}
 use Rattle.planfile.proofs.store.store_rows.Tie as tie
@@ -24,12 +25,12 @@ Inv-loop file at rows names spans table₀ next₀ low₀ job₀ k₀ table next
 abbrev μ-loop : tie.MeasureT-loop
 μ-loop file at rows names spans table₀ next₀ low₀ job₀ k₀ table next low job k = rows - k
 
--- The row in hand, and that a whole table has its place.
+-- The row that is read, and that its place is one of the table's own.
 module _ (c : tie.After-known-told Inv-loop μ-loop) where
   read-here :
       oneRow mostIntervals (c .before .before .before .before .before .before .before .before .before .args .names .now) (c .before .before .before .before .before .before .before .before .before .args .spans) (c .before .before .before .before .before .loop .low) (c .before .before .before .before .before .before .before .before .before .args .file .now) (c .before .before .before .before .before .loop .next)
       ≡ got (record { at = c .before .read .given .0 .0 .at; units = c .before .read .given .0 .0 .units }) (c .before .read .given .0 .1 .0)
-  read-here = so rowTold (c .before .before .before .read-row .ensures) (c .before .read .given .1)
+  read-here = so rowView (c .before .before .before .read-row .ensures) (c .before .read .given .1)
 
   inside : c .before .read .given .0 .0 .at < places
   inside =
@@ -37,7 +38,7 @@ module _ (c : tie.After-known-told Inv-loop μ-loop) where
       let pre = c .before .before .before .before .before .before .before .before .before .pre in
       omega (arith, pre .1, row-inside (a .names .now) (a .spans) (c .before .before .before .before .before .loop .low) (a .file .now) (c .before .before .before .before .before .loop .next) read-here (pre .2))
 
--- A place that the table does not have is not set, which leaves it as it is.
+-- Nothing is stored past the end of the table, and `set` does nothing there either.
 stored : (c : tie.Joined1 Inv-loop μ-loop)
     → c .if1 .table ≡ set (c .before .before .before .before .before .before .loop .table) (c .before .before .read .given .0 .0 .at) (c .before .before .read .given .0 .0 .units)
 stored c =
@@ -71,7 +72,7 @@ returns c =
     let a = c .before .before .before .before .before .before .before .before .before .args in
     let l = c .before .before .before .before .before .loop in
     rw (left-stop (a .rows) (l .k) mostIntervals (a .names .now) (a .spans) (l .low) (l .table) (a .file .now) (l .next) (l .inv .2) (omega arith)
-    (refused rowTold rowRefusal (c .before .before .before .read-row .ensures) (c .before .enum-told .given .1) refl refl (c .row-refusal .ensures))) refl
+    (refused rowView rowRefusal (c .before .before .before .read-row .ensures) (c .before .enum-told .given .1) refl refl (c .row-refusal .ensures))) refl
 
 mul-table : tie.Need-mul-table Inv-loop μ-loop
 mul-table c = record { fits = omega (arith, inside (c .before)) }

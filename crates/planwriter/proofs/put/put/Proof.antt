@@ -1,4 +1,5 @@
--- `planwriter::put::put` meets its contract: what is left to write, and the bytes already written behind it, are the whole field.
+-- `planwriter::put::put` meets its contract: the k bytes of `rest`, then the bytes written so far,
+-- are the whole field.
 use mathlib.Core.List.{[], _++_, append-nil}
 use mathlib.Core.Path.{_≡_, refl, _∙_, ap}
 use Prim.Native.Nat.{suc, _+_, _-_, _%_, _≤_, _<_, _^_}
@@ -9,7 +10,7 @@ use lib.Dec.{lit<}
 use lib.ListN.{length, drop, drop-of-length-le}
 use lib.Seq.{sets, length-sets}
 use Rattle.planfields.specs.Bytes.{bytes}
-use Rattle.planfields.proofs.Digits.{length-bytes, bytes-turn}
+use Rattle.planfields.proofs.ByteLaws.{length-bytes, bytes-turn}
 use Rattle.planwriter.proofs.Sets.{put-turn}
 use Rattle.planwriter.proofs.put.put.Statement.{statement}
 use Rattle.planwriter.proofs.put.put.Tie as tie

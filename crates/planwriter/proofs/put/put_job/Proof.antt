@@ -1,10 +1,10 @@
--- `planwriter::put::put_job` meets its contract: each field stands behind the one before.
+-- `planwriter::put::put_job` meets its contract: each field is written after the one before.
 use mathlib.Core.Path.{refl, _∙_}
 use native.Mathlib.Omega.{arith}
 use borrow.Author.Needs.{needs}
 use Rattle.plan.specs.Edition.{jobLength}
 use Rattle.planwriter.proofs.Sets.{put-start}
-use Rattle.planwriter.proofs.Pages.{put-field, job-long}
+use Rattle.planwriter.proofs.JobAndRowBytes.{put-field, job-long}
 use Rattle.planwriter.proofs.put.put_job.Statement.{statement}
 use Rattle.planwriter.proofs.put.put_job.Tie as tie
 

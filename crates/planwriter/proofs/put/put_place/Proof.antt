@@ -4,7 +4,7 @@ use native.Mathlib.Omega.{arith}
 use native.Mathlib.Nat.{add-zero}
 use borrow.Author.Needs.{needs}
 use lib.ListN.{length}
-use Rattle.planwriter.proofs.Pages.{place-none, place-row, row-long}
+use Rattle.planwriter.proofs.JobAndRowBytes.{place-none, place-row, row-long}
 use Rattle.planwriter.proofs.put.put_place.Statement.{statement}
 use Rattle.planwriter.proofs.put.put_place.Tie as tie
 

@@ -1,9 +1,9 @@
--- `planwriter::put::put_row` meets its contract: each field stands behind the one before.
+-- `planwriter::put::put_row` meets its contract: each field is written after the one before.
 use mathlib.Core.Path.{refl, _∙_}
 use borrow.Author.Needs.{needs}
 use Rattle.plan.specs.Edition.{rowLength}
 use Rattle.planwriter.proofs.Sets.{put-start}
-use Rattle.planwriter.proofs.Pages.{put-field, row-long}
+use Rattle.planwriter.proofs.JobAndRowBytes.{put-field, row-long}
 use Rattle.planwriter.proofs.put.put_row.Statement.{statement}
 use Rattle.planwriter.proofs.put.put_row.Tie as tie
 

@@ -1,4 +1,4 @@
--- `planwriter::writer::put_body` meets its contract: each part stands behind the one before.
+-- `planwriter::writer::put_body` meets its contract: each part is written after the one before.
 use Prim.Native.Nat.{_+_}
 use mathlib.Core.Path.{_≡_, refl, sym, _∙_, ap, ap₂}
 use native.Mathlib.Omega.{arith}
@@ -8,11 +8,11 @@ use lib.Seq.{sets}
 use Rattle.plan.specs.Edition.{mostJobs, mostIntervals}
 use Rattle.plan.specs.Rules.{counted}
 use Rattle.plan.specs.Table.{noStray}
-use Rattle.plan.proofs.Rising.{boundaries-few}
+use Rattle.plan.proofs.BoundaryOrder.{boundaries-few}
 use Rattle.planwriter.specs.Writing.{jobsBytes, rowsBytes}
 use Rattle.planwriter.proofs.Sets.{put-start, put-on}
-use Rattle.planwriter.proofs.Pages.{put-field, jobs-long, rows-long, count-few}
-use Rattle.planwriter.proofs.Files.{counted-is, body-of, body-long}
+use Rattle.planwriter.proofs.JobAndRowBytes.{put-field, jobs-long, rows-long, count-few}
+use Rattle.planwriter.proofs.WrittenFile.{counted-is, body-of, body-long}
 use Rattle.planwriter.proofs.writer.put_body.Statement.{statement}
 use Rattle.planwriter.proofs.writer.put_body.Tie as tie
 

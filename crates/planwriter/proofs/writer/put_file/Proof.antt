@@ -1,4 +1,5 @@
--- `planwriter::writer::put_file` meets its contract: the version, the length and the body.
+-- `planwriter::writer::put_file` meets its contract:
+-- the version, the length and the body are written one after the other.
 use Rattle.planfields.specs.Bytes.{bytes}
 use mathlib.Core.List.{_++_}
 use mathlib.Core.Path.{refl, _∙_, ap}
@@ -8,8 +9,8 @@ use lib.Dec.{lit<}
 use lib.Seq.{sets}
 use Rattle.planwriter.specs.Writing.{body}
 use Rattle.planwriter.proofs.Sets.{put-start, put-on}
-use Rattle.planwriter.proofs.Pages.{put-field}
-use Rattle.planwriter.proofs.Files.{body-short, written-of, written-long}
+use Rattle.planwriter.proofs.JobAndRowBytes.{put-field}
+use Rattle.planwriter.proofs.WrittenFile.{body-short, written-of, written-long}
 use Rattle.planwriter.proofs.writer.put_file.Statement.{statement}
 use Rattle.planwriter.proofs.writer.put_file.Tie as tie
 

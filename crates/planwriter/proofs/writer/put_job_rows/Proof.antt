@@ -1,4 +1,5 @@
--- `planwriter::writer::put_job_rows` meets its contract: after j places, their rows stand one behind the other.
+-- `planwriter::writer::put_job_rows` meets its contract:
+-- after j iterations the rows of the first j places are written.
 use mathlib.Core.List.{[], _∷_}
 use Prim.Native.Nat.{_-_, _≤_}
 use native.Mathlib.Omega.{arith}
@@ -8,7 +9,7 @@ use lib.Seq.{take-all}
 use Rattle.plan.specs.Edition.{mostIntervals}
 use Rattle.planwriter.specs.Writing.{rowAt, rowsBytes}
 use Rattle.planwriter.proofs.Sets.{Put, put-start, put-length, put-on}
-use Rattle.planwriter.proofs.Pages.{rows-next, rows-fit, rows-none}
+use Rattle.planwriter.proofs.JobAndRowBytes.{rows-next, rows-fit, rows-none}
 use Rattle.planwriter.proofs.writer.put_job_rows.Statement.{statement}
 use Rattle.planwriter.proofs.writer.put_job_rows.Tie as tie
 

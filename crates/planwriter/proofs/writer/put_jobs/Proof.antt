@@ -1,4 +1,5 @@
--- `planwriter::writer::put_jobs` meets its contract: after i jobs, their bytes stand one behind the other.
+-- `planwriter::writer::put_jobs` meets its contract:
+-- after i iterations the first i jobs are written.
 use Rattle.plan.specs.Rules.{jobOf}
 use mathlib.Core.Path.{_≡_, refl, _∙_}
 use Prim.Native.Nat.{_-_, _≤_}
@@ -6,7 +7,7 @@ use native.Mathlib.Omega.{arith}
 use borrow.Author.Needs.{needs}
 use Rattle.planwriter.specs.Writing.{jobBytes, jobsBytes}
 use Rattle.planwriter.proofs.Sets.{Put, put-start, put-length, put-on}
-use Rattle.planwriter.proofs.Pages.{job-long, jobs-long, jobs-start, jobs-next}
+use Rattle.planwriter.proofs.JobAndRowBytes.{job-long, jobs-long, jobs-start, jobs-next}
 use Rattle.planwriter.proofs.writer.put_jobs.Statement.{statement}
 use Rattle.planwriter.proofs.writer.put_jobs.Tie as tie
 

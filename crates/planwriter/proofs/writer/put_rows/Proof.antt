@@ -1,4 +1,5 @@
--- `planwriter::writer::put_rows` meets its contract: after i jobs, the rows of their places stand one behind the other.
+-- `planwriter::writer::put_rows` meets its contract:
+-- after i iterations the rows of the first i jobs are written.
 use mathlib.Core.Path.{_≡_, _∙_, ap}
 use mathlib.Core.List.{[], _∷_}
 use Prim.Native.Nat.{_+_, _*_, _-_, _≤_}
@@ -9,7 +10,7 @@ use lib.Seq.{sets}
 use Rattle.plan.specs.Edition.{mostIntervals}
 use Rattle.planwriter.specs.Writing.{rowsBytes}
 use Rattle.planwriter.proofs.Sets.{Put, put-start, put-length, put-on}
-use Rattle.planwriter.proofs.Pages.{rows-none}
+use Rattle.planwriter.proofs.JobAndRowBytes.{rows-none}
 use Rattle.planwriter.proofs.JobRows.{job-rows-next, job-rows-fit, job-rows-all}
 use Rattle.planwriter.proofs.writer.put_rows.Statement.{statement}
 use Rattle.planwriter.proofs.writer.put_rows.Tie as tie
@@ -20,7 +21,7 @@ Inv-loop out₀ at names table jobs spans next₀ i₀ out next i = (i ≤ jobs)
 abbrev μ-loop : tie.MeasureT-loop
 μ-loop out₀ at names table jobs spans next₀ i₀ out next i = jobs - i
 
--- The places of the next job stand in the table.
+-- The places of the next job lie inside the table.
 inside : (c : tie.In-loop Inv-loop μ-loop) → mostIntervals * c .before .loop .i + mostIntervals ≤ length (c .before .before .before .before .before .args .table .now)
 inside c = omega (arith, c .loop-test .taken, c .before .before .before .before .before .pre .2)
 

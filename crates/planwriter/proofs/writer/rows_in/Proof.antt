@@ -1,4 +1,5 @@
--- `planwriter::writer::rows_in` meets its contract: after q places, their rows are counted.
+-- `planwriter::writer::rows_in` meets its contract:
+-- after q iterations the rows of the first q places are counted.
 use mathlib.Core.Path.{_≡_, _∙_, ap}
 use Prim.Native.Nat.{_+_, _-_, _≤_}
 use native.Mathlib.Omega.{arith}
@@ -6,7 +7,7 @@ use borrow.Author.Needs.{needs}
 use lib.ListN.{length, take, length-take}
 use lib.Seq.{take-all}
 use Rattle.planwriter.specs.Writing.{rowCount}
-use Rattle.planwriter.proofs.Pages.{count-start, count-next, count-few}
+use Rattle.planwriter.proofs.JobAndRowBytes.{count-start, count-next, count-few}
 use Rattle.planwriter.proofs.writer.rows_in.Statement.{statement}
 use Rattle.planwriter.proofs.writer.rows_in.Tie as tie
 

@@ -10,27 +10,27 @@ use Rattle.plan.specs.Edition.{places, jobLength, rowLength}
 use Rattle.plan.specs.Table.{sound}
 use Rattle.plan.proofs.Stray.{sound-told}
 use Rattle.planwriter.specs.Writing.{body, written}
-use Rattle.planwriter.specs.Answers.{Writable}
-use Rattle.planfields.proofs.Steps.{failed, held}
-use Rattle.planwriter.proofs.Pages.{count-few}
-use Rattle.planwriter.proofs.Files.{writable, body-long, written-long, writer-short, writer-unsound, writer-tight, writer-whole}
+use Rattle.planwriter.specs.inner.Writable.{Writable}
+use Rattle.planfields.proofs.ParserLaws.{failed, held}
+use Rattle.planwriter.proofs.JobAndRowBytes.{count-few}
+use Rattle.planwriter.proofs.WrittenFile.{writable, body-long, written-long, writer-short, writer-unsound, writer-tight, writer-whole}
 use Rattle.planwriter.proofs.writer.write.Statement.{statement}
 use Rattle.planwriter.proofs.writer.write.Tie as tie
 
--- What the soundness test told is whether the plan is sound.
+-- The result of `sound_of` is whether the plan with its table is sound.
 tested : (c : tie.After-sound-of) → c .sound-of .result ≡ sound (c .before .before .before .before .before .args .p) (c .before .before .before .before .before .args .table .now)
 tested c =
     let a = c .before .before .before .before .before .args in
     c .sound-of .ensures ∙ sound-told (a .p) (a .table .now) _ (c .before .intervals-of .ensures)
 
--- Past the second test the plan is sound, and can be written.
+-- After the second test the plan is sound, so it can be written.
 sound-here : (c : tie.Else2) → sound (c .before .before .before .before .before .before .args .p) (c .before .before .before .before .before .before .args .table .now) ≡ true
 sound-here c = held (tested (c .before)) (c .if2 .left)
 
 writable-here : (c : tie.Else2) → Writable (c .before .before .before .before .before .before .args .p) (take places (c .before .before .before .before .before .before .args .table .now))
 writable-here c = writable (c .before .before .before .before .before .before .args .p) (c .before .before .before .before .before .before .args .table .now) (sound-here c) (c .before .before .before .if1 .left)
 
--- The lengths that the code adds up are those of the file.
+-- The lengths that the code computes are those of the body and of the file.
 follows-here : (c : tie.After-struct-known)
     → 5 + c .before .before .before .before .before .before .before .before .before .args .p .count * (1 + jobLength) + 2 + c .before .rows-in .result * (1 + rowLength) ≡ length (body (c .before .before .before .before .before .before .before .before .before .args .p) (take places (c .before .before .before .before .before .before .before .before .before .args .table .now)))
 follows-here c =

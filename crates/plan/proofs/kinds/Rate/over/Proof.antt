@@ -1,4 +1,5 @@
--- `plan::kinds::Rate::over` meets its contract: 16 bits times 32 bits fit 64.
+-- `plan::kinds::Rate::over` meets its contract:
+-- a 16-bit number times a 32-bit number fits in 64 bits.
 use native.Mathlib.Nat.{mul-le-mul}
 use native.Mathlib.Omega.{arith}
 use borrow.Author.Needs.{needs}

@@ -1,0 +1,86 @@
+-- The contract of each call for hosts, the predicate in its `ensures`, determines the number and
+-- the content of each lent buffer, and can be met for every input.
+use mathlib.Core.Path.{_≡_, refl, sym, _∙_, ap}
+use mathlib.Core.List.{List}
+use Prim.Native.Nat.{ℕ}
+use lib.IntN.{ℤ}
+use Rattle.gateway.specs.Calls.{HostJudgeEffect, HostSlackEffect, HostStartEffect, HostStepEffect, HostReadEffect, HostWriteEffect, judgeCall, startCall, stepCall, outcomeCall, slackCall, readCall, writeCall, nameCall}
+use Rattle.gateway.specs.Answers.{HostReads, HostWrites, HostShows, HostJudges, HostMeasures, HostStarts, HostSteps, HostEnds}
+
+-- `gateway_read`.
+pub one-read : (file plan table : List ℕ) (r s : ℕ) (words others cells other-cells : List ℕ) → HostReads file plan table r words cells
+    → HostReads file plan table s others other-cells → (r ≡ s) × (words ≡ others) × (cells ≡ other-cells)
+one-read file plan table r s words others cells other-cells d e =
+    let same = d ∙ sym e in
+    (ap (λ (x : HostReadEffect). x .number) same, ap (λ (x : HostReadEffect). x .plan) same, ap (λ (x : HostReadEffect). x .table) same)
+
+pub some-read : (file plan table : List ℕ) → (r : ℕ) × (words : List ℕ) × (cells : List ℕ) × HostReads file plan table r words cells
+some-read file plan table = let c = readCall file plan table in (c .number, c .plan, c .table, refl)
+
+-- `gateway_write`.
+pub one-write : (plan table out : List ℕ) (r s : ℕ) (left other : List ℕ) (length long : ℕ) → HostWrites plan table out r left length
+    → HostWrites plan table out s other long → (r ≡ s) × (left ≡ other) × (length ≡ long)
+one-write plan table out r s left other length long d e =
+    let same = d ∙ sym e in
+    (ap (λ (x : HostWriteEffect). x .number) same, ap (λ (x : HostWriteEffect). x .out) same, ap (λ (x : HostWriteEffect). x .length) same)
+
+pub some-write : (plan table out : List ℕ) → (r : ℕ) × (left : List ℕ) × (length : ℕ) × HostWrites plan table out r left length
+some-write plan table out = let c = writeCall plan table out in (c .number, c .out, c .length, refl)
+
+-- `gateway_name`.
+pub one-name : (file : List ℕ) (position r s : ℕ) → HostShows file position r → HostShows file position s → r ≡ s
+one-name file position r s d e = d ∙ sym e
+
+pub some-name : (file : List ℕ) (position : ℕ) → (r : ℕ) × HostShows file position r
+some-name file position = (nameCall file position, refl)
+
+-- `gateway_judge`.
+pub one-judge : (plan table location : List ℕ) (r s : ℕ) (left other : List ℕ) → HostJudges plan table location r left
+    → HostJudges plan table location s other → (r ≡ s) × (left ≡ other)
+one-judge plan table location r s left other d e =
+    let same = d ∙ sym e in
+    (ap (λ (x : HostJudgeEffect). x .number) same, ap (λ (x : HostJudgeEffect). x .location) same)
+
+pub some-judge : (plan table location : List ℕ) → (r : ℕ) × (left : List ℕ) × HostJudges plan table location r left
+some-judge plan table location = let c = judgeCall plan table location in (c .number, c .location, refl)
+
+-- `gateway_slack`.
+pub one-slack : (plan table : List ℕ) (was : ℤ) (location : List ℕ) (r s : ℕ) (least slack : ℤ) (left other : List ℕ)
+    → HostMeasures plan table was location r least left → HostMeasures plan table was location s slack other → (r ≡ s) × (least ≡ slack) × (left ≡ other)
+one-slack plan table was location r s least slack left other d e =
+    let same = d ∙ sym e in
+    (ap (λ (x : HostSlackEffect). x .number) same, ap (λ (x : HostSlackEffect). x .slack) same, ap (λ (x : HostSlackEffect). x .location) same)
+
+pub some-slack : (plan table : List ℕ) (was : ℤ) (location : List ℕ)
+    → (r : ℕ) × (least : ℤ) × (left : List ℕ) × HostMeasures plan table was location r least left
+some-slack plan table was location = let c = slackCall plan table was location in (c .number, c .slack, c .location, refl)
+
+-- `gateway_start`.
+pub one-start : (plan table run location : List ℕ) (r s : ℕ) (words others left other : List ℕ) → HostStarts plan table run location r words left
+    → HostStarts plan table run location s others other → (r ≡ s) × (words ≡ others) × (left ≡ other)
+one-start plan table run location r s words others left other d e =
+    let same = d ∙ sym e in
+    (ap (λ (x : HostStartEffect). x .number) same, ap (λ (x : HostStartEffect). x .run) same, ap (λ (x : HostStartEffect). x .location) same)
+
+pub some-start : (plan table run location : List ℕ)
+    → (r : ℕ) × (words : List ℕ) × (left : List ℕ) × HostStarts plan table run location r words left
+some-start plan table run location = let c = startCall plan table run location in (c .number, c .run, c .location, refl)
+
+-- `gateway_step`.
+pub one-step : (plan table run : List ℕ) (v : ℕ) (grants : List ℕ) (r s : ℕ) (words others left other : List ℕ)
+    → HostSteps plan table run v grants r words left → HostSteps plan table run v grants s others other
+    → (r ≡ s) × (words ≡ others) × (left ≡ other)
+one-step plan table run v grants r s words others left other d e =
+    let same = d ∙ sym e in
+    (ap (λ (x : HostStepEffect). x .number) same, ap (λ (x : HostStepEffect). x .run) same, ap (λ (x : HostStepEffect). x .grants) same)
+
+pub some-step : (plan table run : List ℕ) (v : ℕ) (grants : List ℕ)
+    → (r : ℕ) × (words : List ℕ) × (left : List ℕ) × HostSteps plan table run v grants r words left
+some-step plan table run v grants = let c = stepCall plan table run v grants in (c .number, c .run, c .grants, refl)
+
+-- `gateway_outcome`.
+pub one-outcome : (plan run : List ℕ) (position r s : ℕ) → HostEnds plan run position r → HostEnds plan run position s → r ≡ s
+one-outcome plan run position r s d e = d ∙ sym e
+
+pub some-outcome : (plan run : List ℕ) (position : ℕ) → (r : ℕ) × HostEnds plan run position r
+some-outcome plan run position = (outcomeCall plan run position, refl)

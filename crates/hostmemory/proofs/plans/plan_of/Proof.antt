@@ -1,0 +1,109 @@
+-- `hostmemory::plans::plan_of` meets its contract: too few words encode zeros. Loop
+-- invariant: the first i jobs are decoded.
+use mathlib.Core.Path.{_≡_, refl, sym, _∙_, ap}
+use Prim.Native.Nat.{_-_, _≤_}
+use native.Mathlib.Numerals.{add-one}
+use native.Mathlib.Omega.{arith}
+use lib.ListN.{length, take, length-set}
+use lib.Seq.{take-suc-set, take-all}
+use Rattle.plan.specs.Edition.{mostJobs}
+use Rattle.hostmemory.specs.Memory.{jobsTo, planIn, planOf}
+use borrow.Author.Needs.{needs}
+use borrow.Author.Tests.{lt-ltb, le-ltb}
+use Rattle.hostmemory.proofs.plans.plan_of.Statement.{statement}
+use Rattle.hostmemory.proofs.plans.plan_of.Tie as tie
+
+abbrev Inv-loop : tie.InvT-loop
+Inv-loop words jobs₀ i₀ jobs i = (i ≤ mostJobs) × (length jobs ≡ mostJobs) × (take i jobs ≡ jobsTo words i)
+
+abbrev μ-loop : tie.MeasureT-loop
+μ-loop words jobs₀ i₀ jobs i = mostJobs - i
+
+no-job-requires : tie.Need-no-job-requires Inv-loop μ-loop
+no-job-requires c κs = search needs
+
+returns : tie.Need-returns Inv-loop μ-loop
+unfolding planOf
+returns c = rw (lt-ltb _ _ (c .if1 .taken), c .before .no-job .ensures) refl
+
+loop-holds : tie.Need-loop-holds Inv-loop μ-loop
+unfolding jobsTo
+loop-holds c = (omega arith, refl, refl)
+
+mul-job-at : tie.Need-mul-job-at Inv-loop μ-loop
+mul-job-at c = search needs
+
+add-job-at : tie.Need-add-job-at Inv-loop μ-loop
+add-job-at c = search needs
+
+job-at-requires : tie.Need-job-at-requires Inv-loop μ-loop
+job-at-requires c κs = search needs
+
+mul-jobs : tie.Need-mul-jobs Inv-loop μ-loop
+mul-jobs c = search needs
+
+array-set-from-jobs : tie.Need-array-set-from-jobs Inv-loop μ-loop
+array-set-from-jobs c = search needs
+
+add-i : tie.Need-add-i Inv-loop μ-loop
+add-i c = search needs
+
+loop-less : tie.Need-loop-less Inv-loop μ-loop
+loop-less c = omega arith
+
+loop-again : tie.Need-loop-again Inv-loop μ-loop
+unfolding jobsTo
+loop-again c =
+    let l = c .before .before .loop in
+    let inv = l .inv in (
+      omega arith,
+      simp length-set (inv .1),
+      rw (add-one, take-suc-set (l .jobs) (l .i) _ (omega arith), inv .2, c .job-at .ensures) refl,
+    )
+
+shared-slice-read-as16 : tie.Need-shared-slice-read-as16 Inv-loop μ-loop
+shared-slice-read-as16 c = search needs
+
+as16-requires : tie.Need-as16-requires Inv-loop μ-loop
+as16-requires c κs = search needs
+
+shared-slice-read-as16-2 : tie.Need-shared-slice-read-as16-2 Inv-loop μ-loop
+shared-slice-read-as16-2 c = search needs
+
+as16-requires-2 : tie.Need-as16-requires-2 Inv-loop μ-loop
+as16-requires-2 c κs = search needs
+
+shared-slice-read-t20 : tie.Need-shared-slice-read-t20 Inv-loop μ-loop
+shared-slice-read-t20 c = search needs
+
+returns-2 : tie.Need-returns-2 Inv-loop μ-loop
+unfolding planIn planOf
+returns-2 c =
+    let l = c .before .before .before .before .before .before .loop in
+    let whole : l .i ≡ mostJobs = omega arith in
+    let jobs = sym (take-all mostJobs (l .jobs) (omega (arith, l .inv .1))) ∙ ap (λ i. take i (l .jobs)) (sym whole) ∙ l .inv .2 ∙ ap (jobsTo _) whole in
+    rw (c .before .as162 .ensures, c .before .before .before .as16 .ensures, jobs, le-ltb _ _ (c .before .before .before .before .before .before .before .if1 .left)) refl
+
+pub plan-of-spec : {M : Type 1} → statement M
+plan-of-spec =
+    tie.close
+    (tie.spec
+    Inv-loop
+    μ-loop
+    no-job-requires
+    returns
+    loop-holds
+    mul-job-at
+    add-job-at
+    job-at-requires
+    mul-jobs
+    array-set-from-jobs
+    add-i
+    loop-less
+    loop-again
+    shared-slice-read-as16
+    as16-requires
+    shared-slice-read-as16-2
+    as16-requires-2
+    shared-slice-read-t20
+    returns-2)

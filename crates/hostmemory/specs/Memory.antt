@@ -1,0 +1,156 @@
+-- The memory that a host lends: the plan and the run that its words encode, and the words of each.
+use mathlib.Core.Bool.{Bool, false, cond, _&&_}
+use mathlib.Core.List.{List, [], _∷_, _++_}
+use Prim.Native.Nat.{ℕ, zero, suc, _+_, _*_, min}
+use lib.Dec.{leb, ltb, eqb}
+use lib.ListN.{length, getD, take, drop}
+use lib.Seq.{sets}
+use Rattle.plan.specs.Kinds.{Offset, Position, Words}
+use Rattle.plan.specs.Edition.{mostJobs}
+use Rattle.plan.specs.Rules.{jobOf}
+use Rattle.plan.specs.declared.kinds.Job.{Job}
+use Rattle.plan.specs.declared.kinds.Plan.{Plan}
+use Rattle.plan.specs.Rules.{noPlan}
+use Rattle.dispatch.specs.declared.Run.{Run}
+use Rattle.dispatch.specs.Step.{noRun}
+use mathlib.Core.Path.{_≡_}
+use Prim.Native.Nat.{_≤_}
+
+-- The number of words before a plan's jobs: both rates and the job count.
+abbrev pub headWords : ℕ
+headWords = 3
+
+-- The number of words of a job: name, grade, release, size and deadline.
+abbrev pub jobWords : ℕ
+jobWords = 5
+
+-- The number of words of a plan.
+abbrev pub planWords : ℕ
+planWords = headWords + mostJobs * jobWords
+
+-- The number of words before a run's carried units: the clock and both marks.
+abbrev pub markWords : ℕ
+markWords = 3
+
+-- The number of words of a run.
+abbrev pub runWords : ℕ
+runWords = markWords + mostJobs
+
+-- Whether there are too few words for a plan.
+abbrev pub shortPlan : Words → Bool
+shortPlan w = ltb (length w) planWords
+
+-- Whether there are too few words for a run.
+abbrev pub shortRun : Words → Bool
+shortRun w = ltb (length w) runWords
+
+-- The number of words of a location, which a refusal of the judge names.
+abbrev pub locationWords : ℕ
+locationWords = 2
+
+-- The greatest 8-bit number: a greater word of a grade is read as this number, which no rule allows.
+abbrev pub most8 : ℕ
+most8 = 255
+
+-- The greatest 16-bit number: the same for a rate.
+abbrev pub most16 : ℕ
+most16 = 65_535
+
+-- The greatest 32-bit number: the same for a release or a deadline.
+abbrev pub most32 : ℕ
+most32 = 4_294_967_295
+
+-- The index at which the words of job i begin.
+abbrev pub jobStart : Position → ℕ
+jobStart i = headWords + jobWords * i
+
+-- The job that the words from index `at` on encode.
+abbrev pub jobAt : (w : Words) (at : Offset) → Job
+jobAt w at =
+    record {
+      name = record { 0 = getD w at 0 };
+      grade = min (getD w (at + 1) 0) most8;
+      release = record { 0 = min (getD w (at + 2) 0) most32 };
+      size = record { 0 = getD w (at + 3) 0 };
+      deadline = record { 0 = min (getD w (at + 4) 0) most32 };
+    }
+
+-- The first n jobs that the words of a plan encode.
+unfoldable pub jobsTo : (w : Words) (n : ℕ) → List Job
+jobsTo w zero = []
+jobsTo w (suc n) = jobsTo w n ++ (jobAt w (jobStart n) ∷ [])
+
+-- The plan that words encode, if there are enough of them.
+unfoldable pub planIn : Words → Plan
+planIn w =
+    record {
+      n = record { 0 = min (getD w 0 0) most16 };
+      d = record { 0 = min (getD w 1 0) most16 };
+      count = getD w 2 0;
+      jobs = jobsTo w mostJobs;
+    }
+
+-- The plan that words encode; too few words encode a plan of zeros.
+unfoldable pub planOf : Words → Plan
+planOf w = cond (shortPlan w) noPlan (planIn w)
+
+-- The words of a job.
+abbrev pub jobOut : Job → List ℕ
+jobOut j = j .name .0 ∷ j .grade ∷ j .release .0 ∷ j .size .0 ∷ j .deadline .0 ∷ []
+
+-- The words of a plan's first n jobs.
+unfoldable pub jobsOut : (p : Plan) (n : ℕ) → List ℕ
+jobsOut p zero = []
+jobsOut p (suc n) = jobsOut p n ++ jobOut (jobOf p n)
+
+-- The words of a plan.
+unfoldable pub planOut : Plan → Words
+planOut p = p .n .0 ∷ p .d .0 ∷ p .count ∷ jobsOut p mostJobs
+
+-- The words after a plan is written to them; too few words are unchanged.
+unfoldable pub planPut : (w : Words) (p : Plan) → Words
+planPut w p = cond (shortPlan w) w (sets w 0 (planOut p))
+
+-- Whether both marks are 0 or 1, if there are enough words.
+abbrev pub marksIn : Words → Bool
+marksIn w = leb (getD w 1 0) 1 && leb (getD w 2 0) 1
+
+-- Whether there are enough words for a run, and both marks are 0 or 1.
+unfoldable pub marksHold : Words → Bool
+marksHold w = cond (shortRun w) false (marksIn w)
+
+-- The run that words encode, if there are enough of them.
+unfoldable pub runIn : Words → Run
+runIn w =
+    record {
+      clock = record { 0 = getD w 0 0 };
+      slow = eqb (getD w 1 0) 1;
+      below = eqb (getD w 2 0) 1;
+      carried = take mostJobs (drop markWords w);
+    }
+
+-- The run that words encode; too few words encode a run of zeros.
+unfoldable pub runOf : Words → Run
+runOf w = cond (shortRun w) noRun (runIn w)
+
+-- The word of a mark.
+abbrev pub markOut : Bool → ℕ
+markOut mark = cond mark 1 0
+
+-- The words of a run.
+unfoldable pub runOut : Run → Words
+runOut r = r .clock .0 ∷ markOut (r .slow) ∷ markOut (r .below) ∷ r .carried
+
+-- The words after a run is written to them; too few words are unchanged.
+unfoldable pub runPut : (w : Words) (r : Run) → Words
+runPut w r = cond (shortRun w) w (sets w 0 (runOut r))
+
+-- The numbers of a plan have the widths of their types, and it has
+-- `mostJobs` records; every plan in hand does.
+pub record Fits (p : Plan) : Type 0 where
+  pub n : p .n .0 ≤ most16
+  pub d : p .d .0 ≤ most16
+  pub all : length (p .jobs) ≡ mostJobs
+  pub grade : (i : ℕ) → jobOf p i .grade ≤ most8
+  pub release : (i : ℕ) → jobOf p i .release .0 ≤ most32
+  pub deadline : (i : ℕ) → jobOf p i .deadline .0 ≤ most32

@@ -1,4 +1,0 @@
-pub mod Endings
-pub mod Slots
-pub mod Extent
-pub mod Whole

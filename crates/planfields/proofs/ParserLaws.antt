@@ -1,0 +1,92 @@
+-- Laws of parser steps: fields, tests, and refusals that are passed on.
+use mathlib.Core.Path.{_≡_, refl, sym, _∙_, ap}
+use mathlib.Core.Bool.{Bool, true, false, not}
+use mathlib.Core.List.{List}
+use Prim.Native.Nat.{ℕ, _+_, _≤_, _<_}
+use native.Mathlib.Omega.{arith}
+use borrow.Author.Tests.{le-leb, lt-leb, not-true, not-false}
+use lib.ListN.{length, take, drop}
+use Rattle.plan.specs.Refusal.{wrongExtent}
+use Rattle.planfields.specs.Bytes.{value}
+use Rattle.planfields.specs.Fields.{Parsed, got, no, Parser, onward, test, field, checked}
+use Rattle.planfields.specs.Answers.{fieldValue, fieldRefusal, passedRefusal}
+use Rattle.planfields.specs.declared.field.Field.{Field}
+use Rattle.planfields.specs.declared.field.Field.the-variants as field
+use Rattle.planfields.specs.declared.field.Passed.{Passed}
+use Rattle.planfields.specs.declared.field.Passed.the-variants as passed
+
+-- A field inside the file is read, and one that the file cuts short is refused.
+pub field-whole : (w : ℕ) (file : List ℕ) (at : ℕ) {v : ℕ} → at + w ≤ length file → v ≡ value 0 (take w (drop at file))
+    → _≡_ {A = Parsed ℕ} (got v (at + w)) (field w file at)
+unfolding field
+field-whole w file at h e = rw (le-leb (at + w) (length file) h, e)
+
+pub field-cut : (w : ℕ) (file : List ℕ) (at : ℕ) → length file < at + w → _≡_ {A = Parsed ℕ} (no wrongExtent) (field w file at)
+unfolding field
+field-cut w file at h = rw (lt-leb (at + w) (length file) h)
+
+-- If s is the view of an answer f, and a match has shown f to be g, then s is the view of g.
+module _ {A F : Type 0} (told : F → Parsed A) where
+  pub so : {f g : F} {s : Parsed A} → told f ≡ s → f ≡ g → s ≡ told g
+  so e h = sym e ∙ ap told h
+
+  -- A refusal is passed on with its number.
+  pub refused : (number : F → ℕ) {f g : F} {s : Parsed A} {x k : ℕ} → told f ≡ s → f ≡ g → told g ≡ no k → number g ≡ k → x ≡ number f
+      → s ≡ no x
+  refused number e h t u v = so e h ∙ t ∙ ap no (sym (v ∙ ap number h ∙ u))
+
+-- The value in a matched answer obeys the bound on the answer's value.
+pub small : {f : Field} {v next m : ℕ} → fieldValue f < m → f ≡ field.Value v next → v < m
+small h e = rw e at h
+
+-- The value of a test t, after a branch on its negation.
+pub failed : {r t : Bool} → r ≡ t → not r ≡ true → t ≡ false
+failed {r} e h = sym e ∙ not-true r h
+
+pub held : {r t : Bool} → r ≡ t → not r ≡ false → t ≡ true
+held {r} e h = sym e ∙ not-false r h
+
+-- If a sequence of parsers succeeds, so does its first step, and the rest from the next offset on.
+pub record Through {A B : Type 0} (s : Parsed A) (rest : A → Parser B) (file : List ℕ) (b : B) (end : ℕ) : Type 0 where
+  pub value : A
+  pub next : ℕ
+  pub is : s ≡ got value next
+  pub on : rest value file next ≡ got b end
+
+pub through : {A B : Type 0} (s : Parsed A) {rest : A → Parser B} {file : List ℕ} {b : B} {end : ℕ} → onward s rest file ≡ got b end
+    → Through s rest file b end
+through (got a next) e = record { value = a; next = next; is = refl; on = e }
+through (no k) e = absurd (let z : _≡_ {A = ℕ} 0 1 = cc in omega arith)
+
+-- If a test followed by a parser succeeds, the test is true and has consumed no bytes.
+pub record Past {B : Type 0} (b : Bool) (rest : Unit {0} → Parser B) (file : List ℕ) (at : ℕ) (x : B) (end : ℕ) : Type 0 where
+  pub is : b ≡ true
+  pub on : rest tt file at ≡ got x end
+
+pub past : {B : Type 0} (b : Bool) (number : ℕ) (file : List ℕ) (at : ℕ) {rest : Unit {0} → Parser B} {x : B} {end : ℕ}
+    → onward (test b number file at) rest file ≡ got x end → Past b rest file at x end
+past true number file at e = record { is = refl; on = e }
+past false number file at e = absurd (let z : _≡_ {A = ℕ} 0 1 = cc in omega arith)
+
+-- `got` is injective in its value and in its next offset.
+pub same-value : {A : Type 0} {a b : A} {m n : ℕ} → _≡_ {A = Parsed A} (got a m) (got b n) → a ≡ b
+same-value e = cc
+
+pub same-next : {A : Type 0} {a b : A} {m n : ℕ} → _≡_ {A = Parsed A} (got a m) (got b n) → m ≡ n
+same-next e = cc
+
+-- If a `checked` field is read, the field is read and its value passes the test.
+pub checked-is : (w : ℕ) (ok : ℕ → Bool) (number : ℕ) (file : List ℕ) (at : ℕ) {x end : ℕ} → checked w ok number file at ≡ got x end
+    → (field w file at ≡ got x end) × (ok x ≡ true)
+checked-is w ok number file at e =
+    let t = through (field w file at) e in
+    let u = past (ok (t .value)) number file (t .next) (t .on) in
+    let v = same-value (u .on) in
+    (t .is ∙ u .on, rw v at (u .is))
+
+-- The number that the code takes from a refusal is the number of that refusal.
+pub passed-number : {p : Passed} {x k : ℕ} → p ≡ passed.Refused k → x ≡ passedRefusal p → p ≡ passed.Refused x
+passed-number e h = e ∙ ap passed.Refused (sym (h ∙ ap passedRefusal e))
+
+pub field-number : {f : Field} {x k : ℕ} → f ≡ field.Refused k → x ≡ fieldRefusal f → f ≡ field.Refused x
+field-number e h = e ∙ ap field.Refused (sym (h ∙ ap fieldRefusal e))

@@ -1,0 +1,115 @@
+-- Laws of the loop that reads the jobs.
+use mathlib.Core.Path.{_≡_, refl, sym, _∙_, ap}
+use mathlib.Core.List.{List, [], _∷_, _++_, append-assoc}
+use Prim.Native.Nat.{ℕ, zero, suc, _-_, _≤_, _<_}
+use native.Mathlib.Nat.{sub-zero}
+use native.Mathlib.Omega.{arith}
+use lib.ListN.{length, getD, take, drop, set, replicate, length-append, length-map, length-replicate, length-drop}
+use lib.Seq.{take-at, drop-cons, set-at}
+use Rattle.plan.specs.Edition.{mostJobs}
+use Rattle.plan.specs.Rules.{noJob}
+use Rattle.plan.specs.declared.kinds.Job.{Job}
+use Rattle.plan.specs.declared.kinds.Plan.{Plan}
+use Rattle.planfields.specs.Fields.{got, no, oneJob, Head}
+use Rattle.planfile.specs.Reader.{namesOf, allJobs, planFrom}
+
+-- Jobs, padded with zero records to length `mostJobs`.
+abbrev pub inRoom : List Job → List Job
+inRoom jobs = jobs ++ replicate (mostJobs - length jobs) noJob
+
+pub room-length : (jobs : List Job) → length jobs ≤ mostJobs → length (inRoom jobs) ≡ mostJobs
+room-length jobs h = simp (length-append, length-replicate) (omega arith)
+
+pub length-snoc : (jobs : List Job) (j : Job) → length (jobs ++ (j ∷ [])) ≡ suc (length jobs)
+length-snoc jobs j = simp length-append (omega arith)
+
+-- Storing a record at index i, after i jobs, appends the job.
+pub room-next : (jobs : List Job) (j : Job) (i : ℕ) → length jobs ≡ i → i < mostJobs → set (inRoom jobs) i j ≡ inRoom (jobs ++ (j ∷ []))
+room-next jobs j i n h =
+    let m : mostJobs - length jobs ≡ suc (mostJobs - length (jobs ++ (j ∷ []))) = rw length-snoc (omega arith) in
+    ap (λ k. set (jobs ++ replicate k noJob) i j) m
+    ∙ set-at jobs noJob (replicate (mostJobs - length (jobs ++ (j ∷ []))) noJob) j i n
+    ∙ sym (append-assoc jobs (j ∷ []) (replicate (mostJobs - length (jobs ++ (j ∷ []))) noJob))
+
+pub names-snoc : (jobs : List Job) (j : Job) → namesOf (jobs ++ (j ∷ [])) ≡ namesOf jobs ++ (j .name .0 ∷ [])
+names-snoc [] j = refl
+names-snoc (x ∷ jobs) j = ap (λ l. x .name .0 ∷ l) (names-snoc jobs j)
+
+pub names-length : (jobs : List Job) → length (namesOf jobs) ≡ length jobs
+names-length jobs = length-map jobs (λ (j : Job). j .name .0)
+
+-- Storing a name at index i, after i names, appends the name.
+pub names-next : (jobs : List Job) (j : Job) (i : ℕ) (first : List ℕ) → length jobs ≡ i → i < length first
+    → set (namesOf jobs ++ drop i first) i (j .name .0) ≡ namesOf (jobs ++ (j ∷ [])) ++ drop (suc i) first
+names-next jobs j i first n h =
+    rw (drop-cons first i 0 h)
+    (set-at (namesOf jobs) (getD first i 0) (drop (suc i) first) (j .name .0) i (names-length jobs ∙ n)
+    ∙ sym (append-assoc (namesOf jobs) (j .name .0 ∷ []) (drop (suc i) first))
+    ∙ ap (λ l. l ++ drop (suc i) first) (sym (names-snoc jobs j)))
+
+-- The loop invariant after i jobs: the names and the plan hold the i jobs read,
+-- and reading the remaining ones from `next` gives the result of the whole.
+pub record Roll (file : List ℕ) (at : ℕ) (first : List ℕ) (count : ℕ) (blank : Plan) (names : List ℕ) (plan : Plan) (next i : ℕ) : Type 0 where
+  pub jobs : List Job
+  pub many : length jobs ≡ i
+  pub kept : names ≡ namesOf jobs ++ drop i first
+  pub made : plan ≡ record { n = blank .n; d = blank .d; count = blank .count; jobs = inRoom jobs }
+  pub left : allJobs (count - i) jobs file next ≡ allJobs count [] file at
+
+-- `allJobs` with a next job that is read, with one that is refused, and with none left.
+pub jobs-step : (n : ℕ) (jobs : List Job) (file : List ℕ) (at : ℕ) {j : Job} {next : ℕ} → oneJob (namesOf jobs) file at ≡ got j next
+    → allJobs (suc n) jobs file at ≡ allJobs n (jobs ++ (j ∷ [])) file next
+unfolding allJobs
+jobs-step n jobs file at e = rw e
+
+pub jobs-stop : (n : ℕ) (jobs : List Job) (file : List ℕ) (at : ℕ) {k : ℕ} → oneJob (namesOf jobs) file at ≡ no k
+    → allJobs (suc n) jobs file at ≡ no k
+unfolding allJobs
+jobs-stop n jobs file at e = rw e
+
+pub jobs-done : (jobs : List Job) (file : List ℕ) (at : ℕ) → allJobs zero jobs file at ≡ got jobs at
+unfolding allJobs
+jobs-done jobs file at = refl
+
+pub roll-start : (file : List ℕ) (at : ℕ) (first : List ℕ) (count : ℕ) (h : Head) → Roll file at first count (planFrom h []) first (planFrom h []) at 0
+roll-start file at first count h =
+    record { jobs = []; many = refl; kept = refl; made = refl; left = ap (λ n. allJobs n [] file at) (sub-zero count) }
+
+module _ {file : List ℕ} {at : ℕ} {first : List ℕ} {count : ℕ} {blank : Plan} {names : List ℕ} {plan : Plan} {next i : ℕ}
+    (so : Roll file at first count blank names plan next i) where
+  pub roll-names : length first ≡ mostJobs → i ≤ mostJobs → length names ≡ mostJobs
+  roll-names n h =
+      rw (so .kept, length-append (namesOf (so .jobs)) (drop i first), names-length (so .jobs), length-drop i first)
+      (omega (arith, so .many))
+
+  -- The first i names are those of the jobs read so far.
+  earlier : take i names ≡ namesOf (so .jobs)
+  earlier = rw (so .kept) (take-at (namesOf (so .jobs)) (drop i first) i (names-length (so .jobs) ∙ so .many))
+
+  count-on : i < count → count - i ≡ suc (count - suc i)
+  count-on h = omega arith
+
+  pub roll-next : i < count → i < mostJobs → length first ≡ mostJobs → {j : Job} {after : ℕ} → oneJob (take i names) file next ≡ got j after
+      → Roll file at first count blank (set names i (j .name .0))
+      (record { n = plan .n; d = plan .d; count = plan .count; jobs = set (plan .jobs) i j }) after (suc i)
+  roll-next more fits n {j} {after} e =
+      record {
+        jobs = so .jobs ++ (j ∷ []);
+        many = length-snoc (so .jobs) j ∙ ap suc (so .many);
+        kept = rw (so .kept) (names-next (so .jobs) j i first (so .many) (omega arith));
+        made = rw (so .made) (ap
+            (λ l. record { n = blank .n; d = blank .d; count = blank .count; jobs = l })
+            (room-next (so .jobs) j i (so .many) fits));
+        left =
+            sym (jobs-step (count - suc i) (so .jobs) file next (rw earlier at e))
+            ∙ ap (λ n. allJobs n (so .jobs) file next) (sym (count-on more)) ∙ so .left;
+      }
+
+  pub roll-refused : i < count → {x : ℕ} → oneJob (take i names) file next ≡ no x → allJobs count [] file at ≡ no x
+  roll-refused more e =
+      sym (so .left) ∙ ap (λ n. allJobs n (so .jobs) file next) (count-on more)
+      ∙ jobs-stop (count - suc i) (so .jobs) file next (rw earlier at e)
+
+  pub roll-end : i ≡ count → allJobs count [] file at ≡ got (so .jobs) next
+  roll-end e =
+      sym (so .left) ∙ ap (λ n. allJobs n (so .jobs) file next) (omega (arith, e)) ∙ jobs-done (so .jobs) file next

@@ -1,0 +1,168 @@
+-- How many bytes each parser consumes, and that the file has them.
+use mathlib.Core.Path.{_≡_, refl, sym, _∙_, ap}
+use mathlib.Core.Bool.{Bool, true, false, cond, _&&_}
+use mathlib.Core.List.{List, [], _∷_, _++_}
+use Prim.Native.Nat.{ℕ, zero, suc, _+_, _*_, _≤_, _<_}
+use native.Mathlib.Omega.{arith}
+use borrow.Author.Tests.{leb-true, ltb-true, eqb-true}
+use lib.Dec.{leb, ltb, eqb}
+use lib.ListN.{length, getD, take, drop, replicate}
+use Rattle.plan.specs.Edition.{mostJobs, mostRows, mostIntervals, places, jobLength}
+use Rattle.plan.specs.Refusal.{wrongExtent, wrongVersion, wrongRecordLength, wrongRates, wrongJobCount, tooManyRows}
+use Rattle.plan.specs.Rules.{ratesAllowed}
+use Rattle.plan.specs.Boundaries.{intervals}
+use Rattle.plan.specs.declared.kinds.Job.{Job}
+use Rattle.planfields.specs.Bytes.{value}
+use Rattle.planfields.specs.Fields.{Parsed, got, no, onward, field, checked, version, extent, opening, Head, head, named, oneJob, ended}
+use Rattle.planfile.specs.Reader.{namesOf, allJobs, Preamble, preamble, allRows, Contents, planFile, readFile, nameAt}
+use Rattle.planfile.specs.inner.Parts.{countOf}
+use Rattle.planfields.proofs.ParserLaws.{through, past, checked-is, same-value, same-next}
+use Rattle.planfile.proofs.DistinctNames.{job-read}
+
+-- A field of w bytes that is read ends at offset at + w, inside the file,
+-- and has the value of its bytes.
+pub field-extent : (w : ℕ) (file : List ℕ) (at : ℕ) {v next : ℕ} → field w file at ≡ got v next
+    → (next ≡ at + w) × (at + w ≤ length file) × (v ≡ value 0 (take w (drop at file)))
+unfolding field
+field-extent w file at e = by (leb (at + w) (length file)) refl e
+  where
+    by : (t : Bool) → leb (at + w) (length file) ≡ t → {v next : ℕ}
+        → cond t (got (value 0 (take w (drop at file))) (at + w)) (no wrongExtent) ≡ got v next
+        → (next ≡ at + w) × (at + w ≤ length file) × (v ≡ value 0 (take w (drop at file)))
+    by true h e = (sym (same-next e), leb-true (at + w) (length file) h, sym (same-value e))
+    by false h e = absurd (let z : _≡_ {A = ℕ} 0 1 = cc in omega arith)
+
+pub named-extent : (long : ℕ) (file : List ℕ) (at : ℕ) {v next : ℕ} → named long file at ≡ got v next
+    → (field 1 file at ≡ got long (at + 1)) × (field 8 file (at + 1) ≡ got v next)
+unfolding named
+named-extent long file at e =
+    let t = through (checked 1 (λ x. eqb x long) wrongRecordLength file at) e in
+    let c = checked-is 1 (λ x. eqb x long) wrongRecordLength file at (t .is) in
+    let x = field-extent 1 file at (c .0) in
+    let is = eqb-true (t .value) long (c .1) in
+    (rw (is, x .0) at (c .0), rw (x .0) at (t .on))
+
+-- A job takes 1 + jobLength bytes inside the file, and n jobs take n times as many.
+pub job-extent : (earlier file : List ℕ) (at : ℕ) {j : Job} {next : ℕ} → oneJob earlier file at ≡ got j next
+    → (next ≡ at + (1 + jobLength)) × (at + (1 + jobLength) ≤ length file)
+job-extent earlier file at {j} {next} e =
+    let r = job-read earlier file at j next e in
+    let n = named-extent jobLength file at (r .name) in
+    let x₁ = field-extent 8 file (at + 1) (n .1) in
+    let x₂ = field-extent 1 file (r .a₁) (r .grade) in
+    let x₃ = field-extent 4 file (r .a₂) (r .release) in
+    let x₄ = field-extent 4 file (r .a₃) (r .size) in
+    let x₅ = field-extent 4 file (r .a₄) (r .deadline) in
+    (omega (arith, x₁ .0, x₂ .0, x₃ .0, x₄ .0, x₅ .0), omega (arith, x₁ .0, x₂ .0, x₃ .0, x₄ .0, x₅ .1))
+
+pub jobs-extent : (n : ℕ) (jobs : List Job) (file : List ℕ) (at : ℕ) (all : List Job) (next : ℕ) → allJobs n jobs file at ≡ got all next
+    → (next ≡ at + n * (1 + jobLength)) × (1 ≤ n → at + n * (1 + jobLength) ≤ length file)
+unfolding allJobs
+jobs-extent zero jobs file at all next e = (omega (arith, same-next e), λ h. absurd (omega arith))
+jobs-extent (suc n) jobs file at all next e =
+    let t = through (oneJob (namesOf jobs) file at) e in
+    let x = job-extent (namesOf jobs) file at (t .is) in
+    let rest = jobs-extent n (jobs ++ (t .value ∷ [])) file (t .next) all next (t .on) in
+    (omega (arith, x .0, rest .0), λ h. by n (x .0) (x .1) (rest .1))
+  where
+    by : (n : ℕ) {next : ℕ} → next ≡ at + (1 + jobLength) → at + (1 + jobLength) ≤ length file → (1 ≤ n → next + n * (1 + jobLength) ≤ length file) → at + suc n * (1 + jobLength) ≤ length file
+    by zero e h rest = omega arith
+    by (suc n) e h rest = omega (arith, rest (omega arith))
+
+-- If the opening is read, the first byte is 1 and the length field counts
+-- the bytes from offset 5 on.
+pub opening-extent : (file : List ℕ) {v next : ℕ} → opening file 0 ≡ got v next
+    → (0 < length file) × (getD file 0 0 ≡ 1) × (field 4 file 1 ≡ got v 5) × (next ≡ 5) × (5 + v ≡ length file)
+unfolding opening version extent
+opening-extent file e = by (ltb 0 (length file)) refl (eqb (getD file 0 0) 1) refl e
+  where
+    lengths : (s : Parsed ℕ) → field 4 file 1 ≡ s → {v next : ℕ}
+        → onward s (λ n rest at. cond (eqb (at + n) (length rest)) (got n at) (no wrongExtent)) file ≡ got v next
+        → (field 4 file 1 ≡ got v 5) × (next ≡ 5) × (5 + v ≡ length file)
+    lengths (no k) f e = absurd (let z : _≡_ {A = ℕ} 0 1 = cc in omega arith)
+    lengths (got n at) f e = so (eqb (at + n) (length file)) refl e
+      where
+        so : (t : Bool) → eqb (at + n) (length file) ≡ t → {v next : ℕ} → cond t (got n at) (no wrongExtent) ≡ got v next
+            → (field 4 file 1 ≡ got v 5) × (next ≡ 5) × (5 + v ≡ length file)
+        so false h e = absurd (let z : _≡_ {A = ℕ} 0 1 = cc in omega arith)
+        so true h {v} e =
+            let x = field-extent 4 file 1 f .0 in
+            let sum = eqb-true (at + n) (length file) h in
+            (f ∙ e ∙ ap (got v) (sym (same-next e) ∙ x), sym (same-next e) ∙ x, omega (arith, x, sum, same-value e))
+
+    by : (a : Bool) → ltb 0 (length file) ≡ a → (b : Bool) → eqb (getD file 0 0) 1 ≡ b → {v next : ℕ}
+        → onward {A = ℕ} (cond (a && b) (got 1 (0 + 1)) (no wrongVersion)) (λ _. extent) file ≡ got v next
+        → (0 < length file) × (getD file 0 0 ≡ 1) × (field 4 file 1 ≡ got v 5) × (next ≡ 5) × (5 + v ≡ length file)
+    by false ha b hb e = absurd (let z : _≡_ {A = ℕ} 0 1 = cc in omega arith)
+    by true ha false hb e = absurd (let z : _≡_ {A = ℕ} 0 1 = cc in omega arith)
+    by true ha true hb e =
+        let r = lengths (field 4 file 1) refl e in
+        (ltb-true 0 (length file) ha, eqb-true (getD file 0 0) 1 hb, r .0, r .1, r .2)
+
+-- The fields of a head that is read, at their offsets, and the tests that they pass.
+pub record HeadRead (most : ℕ) (file : List ℕ) (h : Head) (next : ℕ) : Type 0 where
+  pub follows : ℕ
+  pub opened : opening file 0 ≡ got follows 5
+  pub normal : field 2 file 5 ≡ got (h .n) 7
+  pub floor : field 2 file 7 ≡ got (h .d) 9
+  pub rates : ratesAllowed (h .n) (h .d) ≡ true
+  pub jobs : field 1 file 9 ≡ got (h .count) 10
+  pub some : (leb 1 (h .count) && leb (h .count) most) ≡ true
+  pub end : next ≡ 10
+
+moved : {most : ℕ} {file : List ℕ} {h k : Head} {m n : ℕ} → HeadRead most file h m → h ≡ k → m ≡ n → HeadRead most file k n
+moved r p q = rw q at (rw p at r)
+
+at-places : (most : ℕ) (file : List ℕ) {v n d c n₁ n₂ n₃ n₄ : ℕ} → opening file 0 ≡ got v n₁ → n₁ ≡ 5 → field 2 file n₁ ≡ got n n₂ → n₂ ≡ 7
+    → field 2 file n₂ ≡ got d n₃ → n₃ ≡ 9 → ratesAllowed n d ≡ true → field 1 file n₃ ≡ got c n₄ → n₄ ≡ 10
+    → (leb 1 c && leb c most) ≡ true → HeadRead most file (record { n = n; d = d; count = c }) n₄
+at-places most file {v} e₁ p₁ e₂ p₂ e₃ p₃ r e₄ p₄ t =
+    record {
+      follows = v;
+      opened = rw p₁ at e₁;
+      normal = rw (p₁, p₂) at e₂;
+      floor = rw (p₂, p₃) at e₃;
+      rates = r;
+      jobs = rw (p₃, p₄) at e₄;
+      some = t;
+      end = p₄;
+    }
+
+pub head-read : (most : ℕ) (file : List ℕ) {h : Head} {next : ℕ} → head most file 0 ≡ got h next → HeadRead most file h next
+unfolding head
+head-read most file e =
+    let t₁ = through (opening file 0) e in
+    let x₁ = opening-extent file (t₁ .is) .3 in
+    let t₂ = through (field 2 file (t₁ .next)) (t₁ .on) in
+    let x₂ : t₂ .next ≡ 7 = field-extent 2 file (t₁ .next) (t₂ .is) .0 ∙ ap (λ k. k + 2) x₁ in
+    let t₃ = through (field 2 file (t₂ .next)) (t₂ .on) in
+    let x₃ : t₃ .next ≡ 9 = field-extent 2 file (t₂ .next) (t₃ .is) .0 ∙ ap (λ k. k + 2) x₂ in
+    let t₄ = past (ratesAllowed (t₂ .value) (t₃ .value)) wrongRates file (t₃ .next) (t₃ .on) in
+    let t₅ = through (checked 1 (λ c. leb 1 c && leb c most) wrongJobCount file (t₃ .next)) (t₄ .on) in
+    let c = checked-is 1 (λ c. leb 1 c && leb c most) wrongJobCount file (t₃ .next) (t₅ .is) in
+    let x₅ : t₅ .next ≡ 10 = field-extent 1 file (t₃ .next) (c .0) .0 ∙ ap (λ k. k + 1) x₃ in
+    moved (at-places most file (t₁ .is) x₁ (t₂ .is) x₂ (t₃ .is) x₃ (t₄ .is) (c .0) x₅ (c .1)) (same-value (t₅ .on)) (same-next (t₅ .on))
+
+-- If a file is read, the name of each of its jobs lies inside the file.
+pub shown-within : (file : List ℕ) {held : Contents} {end : ℕ} → readFile file ≡ got held end → (k : ℕ) → k < held .plan .count
+    → nameAt k + 8 ≤ length file
+unfolding planFile preamble
+shown-within file {held} e k h =
+    let t = through (preamble file 0) e in
+    let t₁ = through (head mostJobs file 0) (t .is) in
+    let x₁ = head-read mostJobs file (t₁ .is) .end in
+    let t₂ = through (allJobs (t₁ .value .count) [] file (t₁ .next)) (t₁ .on) in
+    let t₃ = through (checked 2 (λ n. leb n mostRows) tooManyRows file (t₂ .next)) (t₂ .on) in
+    let x₂ = jobs-extent (t₁ .value .count) [] file (t₁ .next) (t₂ .value) (t₂ .next) (t₂ .is) .1 in
+    let u₁ = through (allRows (t .value .rows) mostIntervals (t .value .names) (intervals (t .value .plan)) 0 (replicate places 0) file (t .next)) (t .on) in
+    let u₂ = through (ended file (u₁ .next)) (u₁ .on) in
+    let q : t₁ .value .count ≡ held .plan .count
+    = ap (λ (f : Preamble). f .plan .count) (same-value (t₃ .on)) ∙ ap (λ (h : Contents). h .plan .count) (same-value (u₂ .on)) in
+    omega (arith, q, x₁, x₂ (omega (arith, q)))
+
+pub shown-inside : (file : List ℕ) (k : ℕ) → k < countOf (readFile file) → nameAt k + 8 ≤ length file
+shown-inside file k h = by (readFile file) refl h
+  where
+    by : (s : Parsed Contents) → readFile file ≡ s → k < countOf s → nameAt k + 8 ≤ length file
+    by (got held end) e h = shown-within file e k h
+    by (no number) e h = absurd (omega arith)

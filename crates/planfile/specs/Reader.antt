@@ -1,0 +1,129 @@
+-- Reading a plan file (the head, the jobs, the rows, the end),
+-- and what the reader and the name lookup leave.
+use mathlib.Core.Bool.{not, cond}
+use mathlib.Core.List.{List, [], _∷_, _++_, map}
+use Prim.Native.Nat.{ℕ, zero, suc, _+_, _*_, _-_}
+use lib.Dec.{leb, ltb, eqb}
+use lib.ListN.{length, take, drop, set, replicate}
+use Rattle.plan.specs.Kinds.{Bytes, Table}
+use Rattle.plan.specs.Edition.{headerBytes, mostJobs, mostRows, mostIntervals, places, jobLength, rowLength}
+use Rattle.plan.specs.Refusal.{tooManyRows, rowWithoutJob, rowWithoutInterval, rowWithoutUnits, rowOutOfOrder, bufferTooShort}
+use Rattle.plan.specs.Rules.{sameName, noJob, noPlan}
+use Rattle.plan.specs.Boundaries.{intervals}
+use Rattle.plan.specs.Table.{place}
+use Rattle.plan.specs.declared.kinds.Job.{Job}
+use Rattle.plan.specs.declared.kinds.Plan.{Plan}
+use Rattle.planfields.specs.Fields.{Parsed, got, no, Parser, _>>=_, _>>_, done, test, checked, Head, head, named, oneJob, ended}
+
+-- The names of a list of jobs.
+abbrev pub namesOf : List Job → List ℕ
+namesOf jobs = map (λ (j : Job). j .name .0) jobs
+
+-- n jobs in sequence, appended to those already read; no job may have the name of one before it.
+unfoldable pub allJobs : (n : ℕ) (jobs : List Job) → Parser (List Job)
+allJobs zero jobs = done jobs
+allJobs (suc n) jobs = do
+  job ← oneJob (namesOf jobs)
+  allJobs n (jobs ++ (job ∷ []))
+
+-- The index of the first name that is x, or the length of the list if there is none.
+unfoldable pub position : List ℕ → ℕ → ℕ
+position [] x = 0
+position (y ∷ l) x = cond (sameName y x) 0 (suc (position l x))
+
+-- A row: its place in the table and its units.
+pub record Row : Type 0 where
+  pub at : ℕ
+  pub units : ℕ
+
+-- One row: one of the names, an interval below `spans`, units other than 0,
+-- and a place that is at least `low`.
+unfoldable pub oneRow : (width : ℕ) (names : List ℕ) (spans low : ℕ) → Parser Row
+oneRow width names spans low = do
+  name ← named rowLength
+  test (ltb (position names name) (length names)) rowWithoutJob
+  interval ← checked 2 (λ j. ltb j spans) rowWithoutInterval
+  units ← checked 4 (λ u. not (eqb u 0)) rowWithoutUnits
+  test (leb low (place width (position names name) interval)) rowOutOfOrder
+  done (record { at = place width (position names name) interval; units = units })
+
+-- n rows in sequence, with strictly increasing places from `low` on, each stored in the table.
+unfoldable pub allRows : (n width : ℕ) (names : List ℕ) (spans low : ℕ) (table : Table) → Parser (List ℕ)
+allRows zero width names spans low table = done table
+allRows (suc n) width names spans low table = do
+  row ← oneRow width names spans low
+  allRows n width names spans (suc (row .at)) (set table (row .at) (row .units))
+
+-- What a file holds: the plan, and the table's own places.
+pub record Contents : Type 0 where
+  pub plan : Plan
+  pub table : List ℕ
+
+-- The plan with the rates and the count of a head and with these jobs; the other records are zero.
+abbrev pub planFrom : Head → List Job → Plan
+planFrom h jobs =
+    record {
+      n = record { 0 = h .n };
+      d = record { 0 = h .d };
+      count = h .count;
+      jobs = jobs ++ replicate (mostJobs - length jobs) noJob;
+    }
+
+-- What the preamble holds: the plan, the names of its jobs, and the row count.
+pub record Preamble : Type 0 where
+  pub plan : Plan
+  pub names : List ℕ
+  pub rows : ℕ
+
+-- The preamble: the head, the jobs and the row count.
+unfoldable pub preamble : Parser Preamble
+preamble = do
+  h ← head mostJobs
+  jobs ← allJobs (h .count) []
+  rows ← checked 2 (λ r. leb r mostRows) tooManyRows
+  done (record { plan = planFrom h jobs; names = namesOf jobs; rows = rows })
+
+-- A plan file: the preamble, the rows and the end.
+unfoldable pub planFile : Parser Contents
+planFile = do
+  f ← preamble
+  table ← allRows (f .rows) mostIntervals (f .names) (intervals (f .plan)) 0 (replicate places 0)
+  ended
+  done (record { plan = f .plan; table = table })
+
+-- What a file holds, read from offset 0 on, or its refusal.
+abbrev pub readFile : Bytes → Parsed Contents
+readFile file = planFile file 0
+
+-- What a call of the reader leaves: its answer (empty for a plan that was read,
+-- otherwise the refusal number), the plan, and the lent table.
+pub record ReadEffect : Type 0 where
+  pub answer : List ℕ
+  pub plan : Plan
+  pub table : List ℕ
+
+-- What the reader leaves with a table that is long enough: the plan's allotments,
+-- or zeros after a refusal; places from 2,016 on are unchanged.
+abbrev pub leaves : Parsed Contents → Table → ReadEffect
+leaves (got contents at) table = record { answer = []; plan = contents .plan; table = contents .table ++ drop places table }
+leaves (no number) table = record { answer = number ∷ []; plan = noPlan; table = replicate places 0 ++ drop places table }
+
+-- The reader: 22 for a table that is too short, which stays unchanged;
+-- otherwise what reading the file leaves.
+unfoldable pub reader : (file : Bytes) (table : Table) → ReadEffect
+reader file table =
+    cond (ltb (length table) places) (record { answer = bufferTooShort ∷ []; plan = noPlan; table = table }) (leaves (readFile file) table)
+
+-- The offset of the name of job k in a file.
+abbrev pub nameAt : ℕ → ℕ
+nameAt k = headerBytes + k * (1 + jobLength) + 1
+
+-- The part that the name lookup shows: the eight bytes of job k's name,
+-- or nothing if the file is refused or has no job k.
+abbrev pub shownBy : Parsed Contents → Bytes → ℕ → List ℕ
+shownBy (got contents at) file k = cond (ltb k (contents .plan .count)) (take 8 (drop (nameAt k) file)) []
+shownBy (no number) file k = []
+
+-- The name lookup: what it shows for job k of a file.
+unfoldable pub nameShown : (file : Bytes) (k : ℕ) → Bytes
+nameShown file k = shownBy (readFile file) file k

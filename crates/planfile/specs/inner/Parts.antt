@@ -1,0 +1,62 @@
+-- No promise rests on this file: it is here for the contracts of inner functions.
+-- The views and contracts of the parts of the reader.
+use mathlib.Core.Path.{_≡_}
+use mathlib.Core.List.{List, _++_}
+use Prim.Native.Nat.{ℕ, _<_}
+use lib.ListN.{length, getD, drop}
+use Rattle.plan.specs.declared.kinds.Job.{Job}
+use Rattle.planfields.specs.declared.field.Field.the-variants as field
+use Rattle.planfields.specs.declared.field.Passed.{Passed}
+use Rattle.planfields.specs.declared.field.Passed.the-variants as passed
+use Rattle.planfile.specs.declared.row.RowRead.{RowRead}
+use Rattle.planfile.specs.declared.row.RowRead.the-variants as row
+use Rattle.planfile.specs.declared.preamble.Jobs.{Jobs}
+use Rattle.planfile.specs.declared.preamble.Preamble.{Preamble}
+use Rattle.planfile.specs.declared.reader.Answer.{Answer}
+use Rattle.planfile.specs.declared.reader.Answer.the-variants as answer
+use Rattle.planfile.specs.declared.reader.PlanRead.{PlanRead}
+use Rattle.planfile.specs.Reader as rule
+use Rattle.planfields.specs.Fields.{Parsed, Head, got, no}
+
+-- The elements of the list are pairwise distinct.
+abbrev pub Distinct : List ℕ → Type 0
+Distinct l = (i j : ℕ) → i < length l → j < length l → getD l i 0 ≡ getD l j 0 → i ≡ j
+
+-- The view of a `RowRead`: the row and the offset of the next field, or the refusal number.
+abbrev pub rowView : RowRead → Parsed rule.Row
+rowView (row.Row r next) = got (record { at = r .at; units = r .units }) next
+rowView (row.Refused number) = no number
+
+-- The refusal number of a `RowRead`, or 0.
+abbrev pub rowRefusal : RowRead → ℕ
+rowRefusal (row.Row r next) = 0
+rowRefusal (row.Refused number) = number
+
+-- The contract of `read_jobs`: the next offset, the plan,
+-- and the names stored over the prefix of `first`; after a refusal, only its number.
+abbrev pub JobsAnswer : Head → List ℕ → Parsed (List Job) → Jobs → List ℕ → Type 0
+JobsAnswer h first (got jobs next) r names =
+    (r .answer ≡ passed.Next next) × (r .plan ≡ rule.planFrom h jobs) × (names ≡ rule.namesOf jobs ++ drop (h .count) first)
+JobsAnswer h first (no number) r names = r .answer ≡ passed.Refused number
+
+-- The contract of `read_preamble`: the row count, the plan and the names;
+-- after a refusal, only its number.
+abbrev pub PreambleAnswer : List ℕ → Parsed rule.Preamble → Preamble → List ℕ → Type 0
+PreambleAnswer first (got f next) r names =
+    (r .answer ≡ field.Value (f .rows) next) × (r .plan ≡ f .plan) × (names ≡ f .names ++ drop (f .plan .count) first)
+PreambleAnswer first (no number) r names = r .answer ≡ field.Refused number
+
+-- The contract of `store_rows`: the next offset and the table; after a refusal, only its number.
+abbrev pub RowsAnswer : Parsed (List ℕ) → Passed → List ℕ → Type 0
+RowsAnswer (got table next) r left = (r ≡ passed.Next next) × (left ≡ table)
+RowsAnswer (no number) r left = r ≡ passed.Refused number
+
+-- The contract of `fill`: the plan and the table; after a refusal, only its number.
+abbrev pub FillAnswer : Parsed rule.Contents → PlanRead → List ℕ → Type 0
+FillAnswer (got contents next) r left = (r .answer ≡ answer.Read) × (r .plan ≡ contents .plan) × (left ≡ contents .table)
+FillAnswer (no number) r left = r .answer ≡ answer.Refused number
+
+-- The job count of a file's contents, or 0 for a refused file.
+abbrev pub countOf : Parsed rule.Contents → ℕ
+countOf (got contents next) = contents .plan .count
+countOf (no number) = 0

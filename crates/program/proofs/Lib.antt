@@ -1,0 +1,4 @@
+pub mod OutcomeLines
+pub mod SlotTurn
+pub mod FileSize
+pub mod TurnsOutput

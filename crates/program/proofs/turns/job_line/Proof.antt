@@ -1,0 +1,54 @@
+-- `program::turns::job_line` meets its contract, by the job's outcome.
+use mathlib.Core.Path.{sym, _∙_, ap}
+use borrow.Author.Needs.{needs}
+use Rattle.plan.specs.Rules.{name}
+use Rattle.dispatch.specs.Dues.{carriedOf}
+use Rattle.dispatch.specs.Step.{outcome}
+use Rattle.program.specs.Output.{isRefused}
+use Rattle.program.proofs.OutcomeLines.{told-none, told-some}
+use Rattle.program.proofs.turns.job_line.Statement.{statement}
+use Rattle.program.proofs.turns.job_line.Tie as tie
+
+outcome-requires : tie.Need-outcome-requires
+outcome-requires c κs = search needs
+
+is-refused-requires : tie.Need-is-refused-requires
+is-refused-requires c κs = search needs
+
+returns : tie.Need-returns
+returns c =
+    let a = c .before .before .before .before .args in
+    told-none (outcome (a .p) (a .run) (a .i)) (name (a .p) (a .i)) (carriedOf (a .run) (a .i)) (a .out .now)
+    (ap isRefused (sym (c .before .before .outcome .ensures)) ∙ sym (c .before .is-refused .ensures) ∙ c .if1 .taken)
+
+name-of-requires : tie.Need-name-of-requires
+name-of-requires c κs = search needs
+
+carried-of-requires : tie.Need-carried-of-requires
+carried-of-requires c κs = search needs
+
+outcome-line-requires : tie.Need-outcome-line-requires
+outcome-line-requires c κs = search needs
+
+same-length : tie.Need-same-length
+same-length c = search needs
+
+returns-2 : tie.Need-returns-2
+returns-2 c =
+    let a = c .before .before .before .before .before .before .before .before .before .before .args in
+    (rw (c .before .before .before .before .before .name-of .ensures, c .before .before .before .before .before .before .before .before .outcome .ensures, c .before .before .before .before .carried-of .ensures) at (c .before .before .outcome-line .ensures))
+    ∙ told-some (outcome (a .p) (a .run) (a .i)) (name (a .p) (a .i)) (carriedOf (a .run) (a .i)) (a .out .now)
+    (ap isRefused (sym (c .before .before .before .before .before .before .before .before .outcome .ensures)) ∙ sym (c .before .before .before .before .before .before .before .is-refused .ensures) ∙ c .before .before .before .before .before .before .if1 .left)
+
+pub job-line-spec : {M : Type 1} → statement M
+job-line-spec =
+    tie.close
+    (tie.spec
+    outcome-requires
+    is-refused-requires
+    returns
+    name-of-requires
+    carried-of-requires
+    outcome-line-requires
+    same-length
+    returns-2)

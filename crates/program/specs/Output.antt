@@ -1,0 +1,102 @@
+-- All that the program prints, as a function of all that it reads.
+use mathlib.Core.Bool.{Bool, true, false, cond}
+use mathlib.Core.List.{List, [], _∷_, _++_}
+use Prim.Native.Nat.{ℕ, zero, suc, _+_, _*_, min}
+use lib.Dec.{ltb}
+use lib.ListN.{length, getD, take, drop, replicate}
+use Rattle.plan.specs.Kinds.{Amount, Bytes, Position, Speed, Table}
+use Rattle.plan.specs.Edition.{mostJobs, mostRows, places, headerBytes, jobLength, rowLength}
+use Rattle.plan.specs.Rules.{counted, name}
+use Rattle.plan.specs.declared.kinds.Plan.{Plan}
+use Rattle.planfile.specs.Reader.{ReadEffect, reader}
+use Rattle.judge.specs.Verdict.{Report, orElse, judged}
+use Rattle.dispatch.specs.Dues.{carriedOf}
+use Rattle.dispatch.specs.Step.{SlotEffect, Ending, met, discarded, missed, stillOpen, refused, started, stepped, outcome}
+use Rattle.dispatch.specs.declared.Run.{Run}
+use Rattle.lines.specs.Text.{text}
+use Rattle.lines.specs.Lines.{slotHeader, outcomeHeader, strayLine, refusedLine, slotLine, refusedSlotLine, outcomeLine}
+
+-- The length of version and length field, which decide a file's size.
+abbrev pub headBytes : ℕ
+headBytes = 1 + 4
+
+-- The size of the largest plan file.
+abbrev pub largestFile : ℕ
+largestFile = headerBytes + mostJobs * (1 + jobLength) + 2 + mostRows * (1 + rowLength)
+
+-- The value of the length field, highest byte first.
+abbrev pub lengthSaid : List ℕ → ℕ
+lengthSaid l = ((getD l 1 0 * 256 + getD l 2 0) * 256 + getD l 3 0) * 256 + getD l 4 0
+
+-- The number of input bytes that are the plan file: version and length field, and as many more as the
+-- length field says, but at most the largest file; all bytes if there are too few for these fields.
+unfoldable pub fileBytes : List ℕ → ℕ
+fileBytes l = cond (ltb (length l) headBytes) (length l) (min (headBytes + lengthSaid l) largestFile)
+
+-- The refusal of a plan: the reader's, otherwise the judge's.
+abbrev pub planFault : ReadEffect → Report
+planFault left = orElse (left .answer) (judged (left .plan) (left .table))
+
+-- The speed that two bytes encode, highest first.
+abbrev pub speed : (high low : ℕ) → ℕ
+speed high low = high * 256 + low
+
+-- The effect of a slot's call with a grant row of zeros.
+abbrev pub slotOf : (p : Plan) (table : Table) (run : Run) (v : Speed) → SlotEffect
+slotOf p table run v = stepped p table run v (replicate mostJobs 0)
+
+-- The line of a slot's call: the clock before it, with the slow mark after it
+-- and the grants, or with the refusal number.
+abbrev pub slotText : Plan → Run → Speed → Report → SlotEffect → List ℕ
+slotText p run v [] slot = slotLine (run .clock .0) v (slot .run .slow) p (slot .grants)
+slotText p run v (number ∷ place) slot = refusedSlotLine (run .clock .0) v number
+
+-- The line of a job with this outcome; a refused outcome has none.
+abbrev pub endingText : (x : ℕ) (met : Ending) (carried : Amount) → List ℕ
+endingText x met carried = outcomeLine x (text "met") carried
+endingText x discarded carried = outcomeLine x (text "discarded") carried
+endingText x missed carried = outcomeLine x (text "missed") carried
+endingText x stillOpen carried = outcomeLine x (text "open") carried
+endingText x (refused number) carried = []
+
+-- Whether an outcome is refused.
+abbrev pub isRefused : Ending → Bool
+isRefused met = false
+isRefused discarded = false
+isRefused missed = false
+isRefused stillOpen = false
+isRefused (refused number) = true
+
+-- The line of job i.
+abbrev pub jobText : (p : Plan) (run : Run) (i : Position) → List ℕ
+jobText p run i = endingText (name p i) (outcome p run i) (carriedOf run i)
+
+-- The lines of the first n jobs.
+unfoldable pub jobsText : (p : Plan) (run : Run) (n : ℕ) → List ℕ
+jobsText p run zero = []
+jobsText p run (suc n) = jobsText p run n ++ jobText p run n
+
+-- The text after the slots: the header, and a line for each job.
+unfoldable pub closing : Plan → Run → List ℕ
+closing p run = outcomeHeader ++ jobsText p run (counted p)
+
+-- The lines of the slots, one for each speed, and the text after them.
+unfoldable pub slotsText : Plan → Table → Run → List ℕ → List ℕ
+slotsText p table run [] = closing p run
+slotsText p table run (b ∷ []) = strayLine ++ closing p run
+slotsText p table run (high ∷ low ∷ rest) =
+    let slot = slotOf p table run (speed high low) in
+    slotText p run (speed high low) (slot .answer) slot ++ slotsText p table (slot .run) rest
+
+-- The text of a plan, by its refusal.
+abbrev pub planText : Report → Plan → Table → List ℕ → List ℕ
+planText [] p table speeds = slotHeader ++ slotsText p table (started p) speeds
+planText (number ∷ place) p table speeds = refusedLine number
+
+-- The text of a plan that was read, and of the speeds.
+unfoldable pub printedBy : (left : ReadEffect) (speeds : List ℕ) → List ℕ
+printedBy left speeds = planText (planFault left) (left .plan) (left .table) speeds
+
+-- All that is printed, for all that is read.
+unfoldable pub output : Bytes → Bytes
+output input = printedBy (reader (take (fileBytes input) input) (replicate places 0)) (drop (fileBytes input) input)

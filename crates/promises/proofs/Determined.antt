@@ -1,0 +1,425 @@
+-- Demand 1, for every public call: its contract, the predicate in its `ensures`, determines the
+-- result and the content of each lent buffer, and can be met for every input.
+use mathlib.Core.Path.{_≡_, refl, sym, _∙_, ap}
+use mathlib.Core.Bool.{Bool, true, false, not, cond, _||_}
+use mathlib.Core.List.{List, [], _∷_, _++_}
+use Prim.Native.Nat.{ℕ, _<_, _^_}
+use native.Mathlib.Nat.{one-le-pow}
+use lib.Dec.{leb, ltb, eqb, lit<}
+use lib.IntN.{ℤ}
+use lib.ListN.{length, drop, replicate}
+use Rattle.plan.specs.Edition.{mostJobs, mostRows, places}
+use Rattle.plan.specs.Refusal.{tooManyRows, rowWithoutInterval, rowWithoutUnits, clockAtEnd, speedAboveNormal, unsound, bufferTooShort}
+use Rattle.plan.specs.Rules.{counted}
+use Rattle.plan.specs.Boundaries.{lastDeadline}
+use Rattle.plan.specs.declared.kinds.Job.{Job}
+use Rattle.plan.specs.declared.kinds.Name.{Name}
+use Rattle.plan.specs.declared.kinds.Plan.{Plan}
+use Rattle.plan.specs.declared.kinds.Slots.{Slots}
+use Rattle.planfields.specs.Fields as rule
+use Rattle.planfields.specs.Fields.{Parsed, got, no, Head, checked, named, oneJob, ended}
+use Rattle.planfields.specs.Answers.{fieldView, fieldValue, passedView, headView, jobView, ReadsNamed, ReadsEnd, ReadsHead, ReadsJob, ReadsRowCount, ReadsInterval, ReadsUnits}
+use Rattle.planfields.specs.declared.field.Field.{Field}
+use Rattle.planfields.specs.declared.field.Field.the-variants as field
+use Rattle.planfields.specs.declared.field.Passed.{Passed}
+use Rattle.planfields.specs.declared.field.Passed.the-variants as passed
+use Rattle.planfields.specs.declared.head.HeadRead.{HeadRead}
+use Rattle.planfields.specs.declared.head.HeadRead.the-variants as head
+use Rattle.planfields.specs.declared.job.JobRead.{JobRead}
+use Rattle.planfields.specs.declared.job.JobRead.the-variants as job
+use Rattle.planfields.proofs.ByteLaws.{Octets}
+use Rattle.planfields.proofs.ParserLaws.{checked-is}
+use Rattle.plan.specs.Rules.{noPlan}
+use Rattle.planfile.specs.Reader.{Contents, leaves, readFile, reader, nameShown}
+use Rattle.planfile.specs.Answers.{readView, Reads, Shows}
+use Rattle.planfile.specs.declared.reader.Answer.the-variants as read-answer
+use Rattle.planfile.specs.declared.reader.PlanRead.{PlanRead}
+use Rattle.planfile.proofs.Injective.{readView-injective}
+use Rattle.planwriter.specs.Writing as writing
+use Rattle.planwriter.specs.Writing.{writer}
+use Rattle.planwriter.specs.Answers.{Writes}
+use Rattle.planwriter.specs.declared.writer.Written.{Written}
+use Rattle.planwriter.specs.declared.writer.Written.the-variants as write-answer
+use Rattle.planwriter.proofs.Injective.{writeView-injective}
+use Rattle.roundtrip.proofs.BytesAt.{field-again}
+use Rattle.judge.specs.Verdict.{Report, orElse, fault, handFault, constraintFault, floorFault, judged}
+use Rattle.judge.specs.Slack.{Figure, noneEssential, least, refused, slackOf, leastSlack, unless, slackFigure}
+use Rattle.judge.specs.Answers.{verdictView, slackView, Judges, Measures, MeasuresPair}
+use Rattle.judge.specs.Decided.{Decided, short, bad, outside, wrong, over, below, accepted}
+use Rattle.judge.specs.declared.answers.Slack.{Slack}
+use Rattle.judge.specs.declared.answers.Slack.the-variants.{NoneEssential, Least, Refused}
+use Rattle.judge.specs.declared.answers.Verdict.{Verdict}
+use Rattle.judge.specs.declared.answers.Verdict.the-variants.{Accepted, BufferTooShort, Unsound, OutsideWindow, WrongTotal, OverCapacity, BelowFloor}
+use Rattle.judge.proofs.Injective.{verdictView-injective, slackView-injective}
+use Rattle.judge.proofs.LeastSlack.{first-of-all}
+use Rattle.judge.proofs.FirstLocation.{every-place-is-the-first}
+use Rattle.dispatch.specs.Step as step
+use Rattle.dispatch.specs.Step.{SlotEffect, Ending, started, noRun, startFrom, startIn, slotSound, slotFault, slotBy, stepped, outcome}
+use Rattle.dispatch.specs.Answers as slot
+use Rattle.dispatch.specs.Answers.{outcomeView, Starts, Steps, Ends}
+use Rattle.dispatch.specs.declared.Run.{Run}
+use Rattle.dispatch.specs.declared.answers.Answer.{Answer}
+use Rattle.dispatch.specs.declared.answers.Answer.the-variants as slot-answer
+use Rattle.dispatch.specs.declared.answers.Outcome.{Outcome}
+use Rattle.dispatch.specs.declared.answers.Outcome.the-variants as ends
+use Rattle.dispatch.specs.declared.start.Started.{Started}
+use Rattle.dispatch.specs.declared.step.Stepped.{Stepped}
+use Rattle.dispatch.proofs.Injective.{answerView-injective, outcomeView-injective}
+use Rattle.lentrun.specs.Answers.{StepsIn, StartsIn}
+use Rattle.lines.specs.Answers as line
+use Rattle.lines.specs.Answers.{Prints, PrintsOutcome, printed, outcomePrinted}
+use Rattle.lines.specs.declared.Printed.{Printed}
+use Rattle.lines.proofs.Injective.{printedOf, answer-is, printedView-injective}
+use Rattle.program.specs.Turns.{Turned, opened, Takes, Opens}
+use Rattle.program.specs.declared.Turn.{Turn}
+use Rattle.promises.proofs.Cases.{fileE}
+use Rattle.promises.proofs.Demand2.{octets-E}
+
+-- The effect of a line's call determines its result and buffer, and every effect has a result.
+outputs-one : (r s : Printed) (left other : List ℕ)
+    → _≡_ {A = line.PrintEffect} (record { answer = line.printedView r; out = left }) (record { answer = line.printedView s; out = other }) → (r ≡ s) × (left ≡ other)
+outputs-one r s left other e = (printedView-injective r s (ap (λ (o : line.PrintEffect). o .answer) e), ap (λ (o : line.PrintEffect). o .out) e)
+
+output-some : (o : line.PrintEffect) → (r : Printed) × (left : List ℕ) × (record { answer = line.printedView r; out = left } ≡ o)
+output-some o = (printedOf (o .answer), o .out, λ i. record { answer = answer-is (o .answer) i; out = o .out })
+
+-- `planfile::reader::read`.
+pub one-reading : (file table : List ℕ) (r s : PlanRead) (left other : List ℕ) → Reads file table r left → Reads file table s other
+    → (r ≡ s) × (left ≡ other)
+one-reading file table r s left other d e = readView-injective r s left other (d ∙ sym e)
+
+pub some-reading : (file table : List ℕ) → (r : PlanRead) × (left : List ℕ) × Reads file table r left
+unfolding reader
+some-reading file table = by (ltb (length table) places) (readFile file)
+  where
+    by : (b : Bool) (s : Parsed Contents)
+        → (r : PlanRead) × (left : List ℕ)
+        × (readView r left ≡ cond b (record { answer = bufferTooShort ∷ []; plan = noPlan; table = table }) (leaves s table))
+    by true s = (record { answer = read-answer.Refused bufferTooShort; plan = noPlan }, table, refl)
+    by false (got held end) = (record { answer = read-answer.Read; plan = held .plan }, held .table ++ drop places table, refl)
+    by false (no number) = (record { answer = read-answer.Refused number; plan = noPlan }, replicate places 0 ++ drop places table, refl)
+
+-- `planfile::lookup::name_of`.
+pub one-name : (file : List ℕ) (position : ℕ) (part other : List ℕ) → Shows file position part → Shows file position other → part ≡ other
+one-name file position part other d e = d ∙ sym e
+
+pub some-name : (file : List ℕ) (position : ℕ) → (part : List ℕ) × Shows file position part
+some-name file position = (nameShown file position, refl)
+
+-- `planwriter::writer::write`.
+pub one-writing : (p : Plan) (table out : List ℕ) (r s : Written) (left other : List ℕ) → Writes p table out r left
+    → Writes p table out s other → (r ≡ s) × (left ≡ other)
+one-writing p table out r s left other d e = writeView-injective r s left other (d ∙ sym e)
+
+pub some-writing : (p : Plan) (table out : List ℕ) → (r : Written) × (left : List ℕ) × Writes p table out r left
+some-writing p table out = by (writer p table out .answer) refl
+  where
+    by : (a : writing.Answer) → writer p table out .answer ≡ a → (r : Written) × (left : List ℕ) × Writes p table out r left
+    by (writing.wrote n) e = (write-answer.Length n, writer p table out .out, λ i. record { answer = sym e i; out = writer p table out .out })
+    by (writing.refused n) e = (write-answer.Refused n, writer p table out .out, λ i. record { answer = sym e i; out = writer p table out .out })
+
+-- `judge::judge`.
+pub one-verdict : (p : Plan) (table : List ℕ) (r s : Verdict) → Judges p table r → Judges p table s → r ≡ s
+one-verdict p table r s d e = verdictView-injective r s (d ∙ sym e)
+
+pub some-verdict : (p : Plan) (table : List ℕ) → (r : Verdict) × Judges p table r
+some-verdict p table = by (judged p table) (every-place-is-the-first p table)
+  where
+    by : (l : Report) → Decided p table l → (r : Verdict) × (verdictView r ≡ l)
+    by _ (short _) = (BufferTooShort, refl)
+    by _ (bad _ _) = (Unsound, refl)
+    by _ (outside _ i j _ _ _ _ _) = (OutsideWindow i j, refl)
+    by _ (wrong _ _ i _ _ _) = (WrongTotal i, refl)
+    by _ (over _ _ _ j _ _ _) = (OverCapacity j, refl)
+    by _ (below _ _ _ _ l m _ _ _ _ _ _) = (BelowFloor l (record { 0 = _ }), refl)
+    by _ (accepted _ _ _ _ _) = (Accepted, refl)
+
+-- `judge::figure::slack`.
+pub one-figure : (p : Plan) (table : List ℕ) (r s : Slack) → Measures p table r → Measures p table s → r ≡ s
+one-figure p table r s d e = slackView-injective r s (d ∙ sym e)
+
+pub some-figure : (p : Plan) (table : List ℕ) → (r : Slack) × Measures p table r
+unfolding judged slackFigure
+some-figure p table = by (orElse (handFault p table) (constraintFault p table)) refl
+  where
+    whole : (a b c : Report) → orElse a (orElse b c) ≡ orElse (orElse a b) c
+    whole [] b c = refl
+    whole (number ∷ rest) b c = refl
+
+    never : {A : Type 0} (l : Report) → leastSlack p table ≡ refused l → A
+    never l e = absurd (rw e at (first-of-all p table .reached))
+
+    measured : (f : Figure) → leastSlack p table ≡ f → (r : Slack) × (slackView r ≡ f)
+    measured noneEssential e = (NoneEssential, refl)
+    measured (least s l D) e = (Least s l (record { 0 = D }), refl)
+    measured (refused l) e = never l e
+
+    by : (l : Report) → orElse (handFault p table) (constraintFault p table) ≡ l → (r : Slack) × (slackView r ≡ unless l (leastSlack p table))
+    by [] e = measured (leastSlack p table) refl
+    by (number ∷ rest) e =
+        let v = some-verdict p table in
+        (Refused (v .0), ap refused (v .1 ∙ whole (handFault p table) (constraintFault p table) (floorFault p table) ∙ ap (λ l. orElse l (floorFault p table)) e))
+
+-- `judge::figure::slack_of`.
+pub one-slack : (p : Plan) (table : List ℕ) (interval : ℕ) (deadline : Slots) (r s : ℤ) → MeasuresPair p table interval deadline r
+    → MeasuresPair p table interval deadline s → r ≡ s
+one-slack p table interval deadline r s d e = d ∙ sym e
+
+pub some-slack : (p : Plan) (table : List ℕ) (interval : ℕ) (deadline : Slots) → (r : ℤ) × MeasuresPair p table interval deadline r
+some-slack p table interval deadline = (slackOf p table interval (deadline .0), refl)
+
+-- `dispatch::start::start`.
+pub one-start : (p : Plan) (table : List ℕ) (r s : Started) → Starts p table r → Starts p table s → r ≡ s
+one-start p table r s d e =
+    let verdicts = verdictView-injective (r .verdict) (s .verdict) (d .0 ∙ sym (e .0)) in
+    let runs = d .1 ∙ sym (e .1) in
+    λ i. record { verdict = verdicts i; run = runs i }
+
+pub some-start : (p : Plan) (table : List ℕ) → (r : Started) × Starts p table r
+some-start p table =
+    let v = some-verdict p table in
+    (record { verdict = v .0; run = startFrom (judged p table) (started p) noRun }, (v .1, refl))
+
+-- `dispatch::step::step`.
+pub one-step : (p : Plan) (table : List ℕ) (run : Run) (v : ℕ) (grants : List ℕ) (r s : Stepped) (left other : List ℕ)
+    → Steps p table run v grants r left → Steps p table run v grants s other → (r ≡ s) × (left ≡ other)
+one-step p table run v grants r s left other d e =
+    let same = d ∙ sym e in
+    let answers = answerView-injective (r .answer) (s .answer) (ap (λ (x : SlotEffect). x .answer) same) in
+    let runs = ap (λ (x : SlotEffect). x .run) same in
+    (λ i. record { answer = answers i; run = runs i }, ap (λ (x : SlotEffect). x .grants) same)
+
+-- The report of a slot's call is the view of an answer.
+one-number : (p : Plan) (table : List ℕ) (run : Run) (v : ℕ) (grants : List ℕ)
+    → (a : Answer) × (slot.answerView a ≡ stepped p table run v grants .answer)
+unfolding slotFault stepped
+one-number p table run v grants =
+    let a = by (not (slotSound p run)) (ltb (length table) places || ltb (length grants) (counted p)) (eqb (run .clock .0) (lastDeadline p)) (ltb (p .n .0) v) in
+    (a .0, a .1 ∙ told (slotFault p table run v grants))
+  where
+    by : (a b c d : Bool)
+        → (r : Answer)
+        × (slot.answerView r
+        ≡ orElse (fault a (unsound ∷ []))
+        (orElse (fault b (bufferTooShort ∷ [])) (orElse (fault c (clockAtEnd ∷ [])) (fault d (speedAboveNormal ∷ [])))))
+    by true b c d = (slot-answer.Refused unsound, refl)
+    by false true c d = (slot-answer.Refused bufferTooShort, refl)
+    by false false true d = (slot-answer.Refused clockAtEnd, refl)
+    by false false false true = (slot-answer.Refused speedAboveNormal, refl)
+    by false false false false = (slot-answer.Done, refl)
+
+    told : (l : Report) → l ≡ slotBy l p table run v grants .answer
+    told [] = refl
+    told (number ∷ rest) = refl
+
+pub some-step : (p : Plan) (table : List ℕ) (run : Run) (v : ℕ) (grants : List ℕ)
+    → (r : Stepped) × (left : List ℕ) × Steps p table run v grants r left
+some-step p table run v grants =
+    let s = stepped p table run v grants in
+    let a = one-number p table run v grants in
+    (record { answer = a .0; run = s .run }, s .grants, λ i. record { answer = a .1 i; run = s .run; grants = s .grants })
+
+-- `lentrun::step_in`.
+pub one-step-in : (run : Run) (p : Plan) (table : List ℕ) (v : ℕ) (grants : List ℕ) (r s : Answer) (after later : Run) (left other : List ℕ)
+    → StepsIn run p table v grants r after left → StepsIn run p table v grants s later other → (r ≡ s) × (after ≡ later) × (left ≡ other)
+one-step-in run p table v grants r s after later left other d e =
+    let same = d ∙ sym e in
+    (answerView-injective r s (ap (λ (x : SlotEffect). x .answer) same), ap (λ (x : SlotEffect). x .run) same, ap (λ (x : SlotEffect). x .grants) same)
+
+pub some-step-in : (run : Run) (p : Plan) (table : List ℕ) (v : ℕ) (grants : List ℕ)
+    → (r : Answer) × (after : Run) × (left : List ℕ) × StepsIn run p table v grants r after left
+some-step-in run p table v grants =
+    let s = stepped p table run v grants in
+    let a = one-number p table run v grants in
+    (a .0, s .run, s .grants, λ i. record { answer = a .1 i; run = s .run; grants = s .grants })
+
+-- `lentrun::start_in`.
+pub one-start-in : (was : Run) (p : Plan) (table : List ℕ) (r s : Verdict) (after later : Run) → StartsIn was p table r after
+    → StartsIn was p table s later → (r ≡ s) × (after ≡ later)
+one-start-in was p table r s after later d e = (verdictView-injective r s (d .0 ∙ sym (e .0)), d .1 ∙ sym (e .1))
+
+pub some-start-in : (was : Run) (p : Plan) (table : List ℕ) → (r : Verdict) × (after : Run) × StartsIn was p table r after
+some-start-in was p table = let v = some-verdict p table in (v .0, startIn p table was, (v .1, refl))
+
+-- `dispatch::outcome::outcome`.
+pub one-outcome : (p : Plan) (run : Run) (position : ℕ) (r s : Outcome) → Ends p run position r → Ends p run position s → r ≡ s
+one-outcome p run position r s d e = outcomeView-injective r s (d ∙ sym e)
+
+pub some-outcome : (p : Plan) (run : Run) (position : ℕ) → (r : Outcome) × Ends p run position r
+some-outcome p run position = by (outcome p run position)
+  where
+    by : (e : Ending) → (r : Outcome) × (outcomeView r ≡ e)
+    by step.met = (ends.Met, refl)
+    by step.discarded = (ends.Discarded, refl)
+    by step.missed = (ends.Missed, refl)
+    by step.stillOpen = (ends.Open, refl)
+    by (step.refused number) = (ends.Refused number, refl)
+
+-- The lines of `lines`, except the next.
+pub one-line : (line out : List ℕ) (r s : Printed) (left other : List ℕ) → Prints line out r left → Prints line out s other
+    → (r ≡ s) × (left ≡ other)
+one-line line out r s left other d e = outputs-one r s left other (d ∙ sym e)
+
+pub some-line : (line out : List ℕ) → (r : Printed) × (left : List ℕ) × Prints line out r left
+some-line line out = output-some (printed line out)
+
+-- `lines::outcome_line`.
+pub one-outcome-line : (name : Name) (ended : Outcome) (carried : ℕ) (out : List ℕ) (r s : Printed) (left other : List ℕ)
+    → PrintsOutcome name ended carried out r left → PrintsOutcome name ended carried out s other → (r ≡ s) × (left ≡ other)
+one-outcome-line name ended carried out r s left other d e = outputs-one r s left other (d ∙ sym e)
+
+pub some-outcome-line : (name : Name) (ended : Outcome) (carried : ℕ) (out : List ℕ)
+    → (r : Printed) × (left : List ℕ) × PrintsOutcome name ended carried out r left
+some-outcome-line name ended carried out = output-some (outcomePrinted (name .0) (outcomeView ended) carried out)
+
+-- `program::advance`: a turn.
+pub one-turn : (t : Turned) (out : List ℕ) (r s : Turn) (left other : List ℕ) → Takes t out r left → Takes t out s other
+    → (r ≡ s) × (left ≡ other)
+one-turn t out r s left other d e =
+    let nights = d .0 ∙ sym (e .0) in
+    let lines = one-line (t .line) out (r .printed) (s .printed) left other (d .1) (e .1) in
+    (λ i. record { progress = nights i; printed = lines .0 i }, lines .1)
+
+pub some-turn : (t : Turned) (out : List ℕ) → (r : Turn) × (left : List ℕ) × Takes t out r left
+some-turn t out =
+    let l = some-line (t .line) out in
+    (record { progress = t .progress; printed = l .0 }, l .1, (refl, l .2))
+
+-- `program::open`: the first turn.
+pub one-opening : (file table out : List ℕ) (r s : Turn) (filled other-filled left other : List ℕ) → Opens file table out r filled left
+    → Opens file table out s other-filled other → (r ≡ s) × (filled ≡ other-filled) × (left ≡ other)
+one-opening file table out r s filled other-filled left other d e =
+    let t = one-turn (opened (reader file table)) out r s left other (d .0, d .2) (e .0, e .2) in
+    (t .0, d .1 ∙ sym (e .1), t .1)
+
+pub some-opening : (file table out : List ℕ) → (r : Turn) × (filled : List ℕ) × (left : List ℕ) × Opens file table out r filled left
+some-opening file table out =
+    let t = some-turn (opened (reader file table)) out in
+    (t .0, reader file table .table, t .1, (t .2 .0, refl, t .2 .1))
+
+-- The field readers of `planfields`, which reader and lookup share. Their view is injective, and
+-- every parser's result is the view of some answer.
+fields-one : (r s : Field) → fieldView r ≡ fieldView s → r ≡ s
+fields-one r s e = sym (back r) ∙ ap of e ∙ back s
+  where
+    of : Parsed ℕ → Field
+    of (got v next) = field.Value v next
+    of (no number) = field.Refused number
+
+    back : (r : Field) → of (fieldView r) ≡ r
+    back (field.Value v next) = refl
+    back (field.Refused number) = refl
+
+field-some : (s : Parsed ℕ) → (r : Field) × (fieldView r ≡ s)
+field-some (got v next) = (field.Value v next, refl)
+field-some (no number) = (field.Refused number, refl)
+
+-- `planfields::field::read_named`.
+pub one-named : (file : List ℕ) (at length : ℕ) (r s : Field) → ReadsNamed file at length r → ReadsNamed file at length s → r ≡ s
+one-named file at length r s d e = fields-one r s (d ∙ sym e)
+
+pub some-named : (file : List ℕ) (at length : ℕ) → (r : Field) × ReadsNamed file at length r
+some-named file at length = field-some (named length file at)
+
+-- `planfields::field::read_end`.
+pub one-end : (file : List ℕ) (at : ℕ) (r s : Passed) → ReadsEnd file at r → ReadsEnd file at s → r ≡ s
+one-end file at r s d e = sym (back r) ∙ ap of (d ∙ sym e) ∙ back s
+  where
+    of : Parsed (Unit {0}) → Passed
+    of (got u next) = passed.Next next
+    of (no number) = passed.Refused number
+
+    back : (r : Passed) → of (passedView r) ≡ r
+    back (passed.Next next) = refl
+    back (passed.Refused number) = refl
+
+pub some-end : (file : List ℕ) (at : ℕ) → (r : Passed) × ReadsEnd file at r
+some-end file at = by (ended file at)
+  where
+    by : (s : Parsed (Unit {0})) → (r : Passed) × (passedView r ≡ s)
+    by (got u next) = (passed.Next next, refl)
+    by (no number) = (passed.Refused number, refl)
+
+-- `planfields::head::read_head`.
+pub one-head : (file : List ℕ) (r s : HeadRead) → ReadsHead file r → ReadsHead file s → r ≡ s
+one-head file r s d e = sym (back r) ∙ ap of (d ∙ sym e) ∙ back s
+  where
+    of : Parsed Head → HeadRead
+    of (got h next) = head.Head (record { n = record { 0 = h .n }; d = record { 0 = h .d }; count = h .count }) next
+    of (no number) = head.Refused number
+
+    back : (r : HeadRead) → of (headView r) ≡ r
+    back (head.Head h next) = refl
+    back (head.Refused number) = refl
+
+pub some-head : (file : List ℕ) → (r : HeadRead) × ReadsHead file r
+some-head file = by (rule.head mostJobs file 0)
+  where
+    by : (s : Parsed Head) → (r : HeadRead) × (headView r ≡ s)
+    by (got h next) = (head.Head (record { n = record { 0 = h .n }; d = record { 0 = h .d }; count = h .count }) next, refl)
+    by (no number) = (head.Refused number, refl)
+
+-- `planfields::job::read_job`.
+pub one-job : (file : List ℕ) (at : ℕ) (earlier : List ℕ) (r s : JobRead) → ReadsJob file at earlier r → ReadsJob file at earlier s → r ≡ s
+one-job file at earlier r s d e = sym (back r) ∙ ap of (d ∙ sym e) ∙ back s
+  where
+    of : Parsed Job → JobRead
+    of (got j next) = job.Job j next
+    of (no number) = job.Refused number
+
+    back : (r : JobRead) → of (jobView r) ≡ r
+    back (job.Job j next) = refl
+    back (job.Refused number) = refl
+
+pub some-job : (file : List ℕ) (at : ℕ) (earlier : List ℕ) → (r : JobRead) × ReadsJob file at earlier r
+some-job file at earlier = by (oneJob earlier file at)
+  where
+    by : (s : Parsed Job) → (r : JobRead) × (jobView r ≡ s)
+    by (got j next) = (job.Job j next, refl)
+    by (no number) = (job.Refused number, refl)
+
+-- `planfields::numbers::read_row_count`.
+pub one-row-count : (file : List ℕ) (at : ℕ) (r s : Field) → ReadsRowCount file at r → ReadsRowCount file at s → r ≡ s
+one-row-count file at r s d e = fields-one r s (d ∙ sym e)
+
+pub some-row-count : (file : List ℕ) (at : ℕ) → (r : Field) × ReadsRowCount file at r
+some-row-count file at = field-some (checked 2 (λ n. leb n mostRows) tooManyRows file at)
+
+-- A checked field as an answer whose value has the field's width. (The
+-- code's types give that a byte is below 256.)
+checked-some : (file : List ℕ) → Octets file → (w : ℕ) (ok : ℕ → Bool) (number at : ℕ)
+    → (r : Field) × ((fieldView r ≡ checked w ok number file at) × (fieldValue r < 256 ^ w))
+checked-some file octets w ok number at = by (checked w ok number file at) refl
+  where
+    by : (s : Parsed ℕ) → checked w ok number file at ≡ s → (r : Field) × ((fieldView r ≡ s) × (fieldValue r < 256 ^ w))
+    by (got x end) e = (field.Value x end, (refl, field-again w file at octets (checked-is w ok number file at e .0) .1))
+    by (no k) e = (field.Refused k, (refl, one-le-pow w 256 (lit< tt)))
+
+-- `planfields::numbers::read_interval`.
+pub one-interval : (file : List ℕ) (at spans : ℕ) (r s : Field) → ReadsInterval file at spans r → ReadsInterval file at spans s → r ≡ s
+one-interval file at spans r s d e = fields-one r s (d .0 ∙ sym (e .0))
+
+pub some-interval : (file : List ℕ) → Octets file → (at spans : ℕ) → (r : Field) × ReadsInterval file at spans r
+some-interval file octets at spans = checked-some file octets 2 (λ j. ltb j spans) rowWithoutInterval at
+
+-- `planfields::numbers::read_units`.
+pub one-units : (file : List ℕ) (at : ℕ) (r s : Field) → ReadsUnits file at r → ReadsUnits file at s → r ≡ s
+one-units file at r s d e = fields-one r s (d .0 ∙ sym (e .0))
+
+pub some-units : (file : List ℕ) → Octets file → (at : ℕ) → (r : Field) × ReadsUnits file at r
+some-units file octets at = checked-some file octets 4 (λ u. not (eqb u 0)) rowWithoutUnits at
+
+-- Instances: the interval and the units of the first row in plan E's file.
+some-interval-E : (r : Field) × ReadsInterval fileE 65 3 r
+some-interval-E = some-interval fileE octets-E 65 3
+
+some-units-E : (r : Field) × ReadsUnits fileE 67 r
+some-units-E = some-units fileE octets-E 67
+
+-- Every other public call returns a plain value and changes no lent buffer: its contract
+-- is that the value is that of a definition.
+pub one-value : {A : Type 0} (value r s : A) → r ≡ value → s ≡ value → r ≡ s
+one-value value r s d e = d ∙ sym e
+
+pub some-value : {A : Type 0} (value : A) → (r : A) × (r ≡ value)
+some-value value = (value, refl)

@@ -1,0 +1,386 @@
+-- Demand 1, the numbers: each call is refused only by the numbers that the rules give it.
+use mathlib.Core.Path.{_≡_, refl, sym, _∙_, ap}
+use mathlib.Core.Bool.{Bool, true, false, not, cond, _&&_, _||_, false≢true}
+use mathlib.Core.List.{List, [], _∷_, _++_}
+use Prim.Native.Nat.{ℕ, zero, suc, _+_, _*_}
+use native.Mathlib.Omega.{arith}
+use lib.Dec.{leb, ltb, eqb}
+use lib.ListN.{length, getD, take, drop, set, replicate}
+use Rattle.base.specs.Sum.{sum}
+use Rattle.plan.specs.Edition.{mostJobs, mostRows, mostIntervals, places, jobLength, rowLength}
+use Rattle.plan.specs.Refusal.{wrongVersion, wrongExtent, wrongRecordLength, wrongRates, wrongJobCount, wrongNameByte, nameTaken, wrongGrade, wrongJobBounds, tooManyRows, rowWithoutJob, rowWithoutInterval, rowWithoutUnits, rowOutOfOrder, outsideWindow, wrongTotal, overCapacity, belowFloorRule, clockAtEnd, speedAboveNormal, unsound, bufferTooShort}
+use Rattle.plan.specs.Below
+use Rattle.plan.specs.Rules.{counted, size, deadline, isHi, ratesAllowed, nameAllowed, isAbsent, gradeAllowed, windowAllowed, sizeAllowed, namesHold, namesDiffer, gradesHold, boundsHold, rulesHold}
+use Rattle.plan.specs.Boundaries.{insert, boundariesTo, boundary, intervals, lastDeadline}
+use Rattle.plan.specs.Table.{place, noStray, sound}
+use Rattle.plan.specs.declared.kinds.Job.{Job}
+use Rattle.plan.specs.declared.kinds.Plan.{Plan}
+use Rattle.planfields.specs.Bytes.{bytes, value}
+use Rattle.planfields.specs.Fields.{Parsed, got, no, Parser, onward, test, field, checked, version, extent, opening, head, named, jobName, oneJob, ended}
+use Rattle.plan.specs.Rules.{noPlan}
+use Rattle.planfile.specs.Reader.{namesOf, allJobs, position, oneRow, allRows, Contents, preamble, planFile, readFile, leaves, reader}
+use Rattle.planwriter.specs.Writing as writing
+use Rattle.planwriter.specs.Writing.{wrote, withheld, written, writer}
+use Rattle.judge.specs.Constraints.{intervalLength, total, load}
+use Rattle.judge.specs.Verdict.{Report, orElse, fault, first, isOutside, isPair, isHiDeadline, fallsShort, outsideFault, totalFault, capacityFault, floorFault, handFault, constraintFault, judged}
+use Rattle.judge.specs.Slack.{refused, leastSlack, unless, slackFigure}
+use Rattle.judge.proofs.LeastSlack.{first-of-all}
+use Rattle.dispatch.specs.Dues.{carriedOf}
+use Rattle.dispatch.specs.Step as step
+use Rattle.dispatch.specs.Step.{started, slotSound, slotFault, slotBy, stepped, outcome}
+use Rattle.dispatch.specs.declared.Run.{Run}
+use Rattle.lines.specs.Answers as line
+use Rattle.lines.specs.Answers.{refusal, printed}
+use Rattle.lines.specs.Lines.{strayLine}
+use Rattle.promises.proofs.Cases.{planWith, tableOf, planE, tableE, P3, P4}
+use Rattle.promises.specs.Numbers.{isOneOf}
+
+-- Equal reports have equal numbers.
+same-number : {m n : ℕ} {a b : Report} → m ∷ a ≡ n ∷ b → m ≡ n
+same-number e = cc
+
+-- A parser's result is refused only by the listed numbers. Composition and tests preserve this.
+abbrev pub Only : {A : Type 0} → List ℕ → Parsed A → Type 0
+Only numbers (got a next) = Unit {0}
+Only numbers (no number) = isOneOf numbers number ≡ true
+
+only-onward : {A B : Type 0} (numbers : List ℕ) (s : Parsed A) (rest : A → Parser B) (file : List ℕ) → Only numbers s
+    → ((a : A) (next : ℕ) → Only numbers (rest a file next)) → Only numbers (onward s rest file)
+only-onward numbers (got a next) rest file h r = r a next
+only-onward numbers (no number) rest file h r = h
+
+only-cond : {A : Type 0} (numbers : List ℕ) (b : Bool) (number : ℕ) (a : A) (next : ℕ) → isOneOf numbers number ≡ true
+    → Only numbers (cond b (got a next) (no number))
+only-cond numbers true number a next h = tt
+only-cond numbers false number a next h = h
+
+only-test : (numbers : List ℕ) (b : Bool) (number : ℕ) (file : List ℕ) (at : ℕ) → isOneOf numbers number ≡ true → Only numbers (test b number file at)
+only-test numbers true number file at h = tt
+only-test numbers false number file at h = h
+
+-- The refusals of reading a plan file: 1 to 14.
+abbrev pub fileNumbers : List ℕ
+fileNumbers =
+    wrongVersion ∷ wrongExtent ∷ wrongRecordLength ∷ wrongRates ∷ wrongJobCount ∷ wrongNameByte ∷ nameTaken ∷ wrongGrade ∷ wrongJobBounds
+    ∷ tooManyRows ∷ rowWithoutJob ∷ rowWithoutInterval ∷ rowWithoutUnits ∷ rowOutOfOrder ∷ []
+
+module _ (file : List ℕ) where
+  field-only : (w at : ℕ) → Only fileNumbers (field w file at)
+  unfolding field
+  field-only w at = only-cond fileNumbers (leb (at + w) (length file)) wrongExtent (value 0 (take w (drop at file))) (at + w) refl
+
+  pub checked-only : (w : ℕ) (ok : ℕ → Bool) (number at : ℕ) → isOneOf fileNumbers number ≡ true → Only fileNumbers (checked w ok number file at)
+  checked-only w ok number at h =
+      only-onward fileNumbers (field w file at) _ file (field-only w at)
+      (λ x next. only-onward fileNumbers (test (ok x) number file next) _ file (only-test fileNumbers (ok x) number file next h) (λ _ _. tt))
+
+  opening-only : (at : ℕ) → Only fileNumbers (opening file at)
+  unfolding opening version extent
+  opening-only at =
+      only-onward fileNumbers (version file at) _ file (only-cond fileNumbers (ltb at (length file) && eqb (getD file at 0) 1) wrongVersion 1 (at + 1) refl)
+      (λ _ next.
+      only-onward fileNumbers (field 4 file next) _ file (field-only 4 next)
+      (λ n from. only-cond fileNumbers (eqb (from + n) (length file)) wrongExtent n from refl))
+
+  pub head-only : (most at : ℕ) → Only fileNumbers (head most file at)
+  unfolding head
+  head-only most at =
+      only-onward fileNumbers (opening file at) _ file (opening-only at)
+      (λ _ a₁. only-onward fileNumbers (field 2 file a₁) _ file (field-only 2 a₁)
+      (λ n a₂. only-onward fileNumbers (field 2 file a₂) _ file (field-only 2 a₂)
+      (λ d a₃. only-onward fileNumbers (test (ratesAllowed n d) wrongRates file a₃) _ file (only-test fileNumbers (ratesAllowed n d) wrongRates file a₃ refl)
+      (λ _ a₄. only-onward fileNumbers (checked 1 (λ c. leb 1 c && leb c most) wrongJobCount file a₄) _ file (checked-only 1 (λ c. leb 1 c && leb c most) wrongJobCount a₄ refl)
+      (λ _ _. tt)))))
+
+  pub named-only : (long at : ℕ) → Only fileNumbers (named long file at)
+  unfolding named
+  named-only long at =
+      only-onward fileNumbers (checked 1 (λ x. eqb x long) wrongRecordLength file at) _ file (checked-only 1 (λ x. eqb x long) wrongRecordLength at refl)
+      (λ _ next. field-only 8 next)
+
+  name-only : (earlier : List ℕ) (at : ℕ) → Only fileNumbers (jobName earlier file at)
+  unfolding jobName
+  name-only earlier at =
+      only-onward fileNumbers (named jobLength file at) _ file (named-only jobLength at)
+      (λ name a₁. only-onward fileNumbers (test (nameAllowed name) wrongNameByte file a₁) _ file (only-test fileNumbers (nameAllowed name) wrongNameByte file a₁ refl)
+      (λ _ a₂. only-onward fileNumbers (test (isAbsent earlier name) nameTaken file a₂) _ file (only-test fileNumbers (isAbsent earlier name) nameTaken file a₂ refl)
+      (λ _ _. tt)))
+
+  pub job-only : (earlier : List ℕ) (at : ℕ) → Only fileNumbers (oneJob earlier file at)
+  unfolding oneJob
+  job-only earlier at =
+      only-onward fileNumbers (jobName earlier file at) _ file (name-only earlier at)
+      (λ _ a₁. only-onward fileNumbers (checked 1 gradeAllowed wrongGrade file a₁) _ file (checked-only 1 gradeAllowed wrongGrade a₁ refl)
+      (λ _ a₂. only-onward fileNumbers (field 4 file a₂) _ file (field-only 4 a₂)
+      (λ release a₃. only-onward fileNumbers (field 4 file a₃) _ file (field-only 4 a₃)
+      (λ size a₄. only-onward fileNumbers (field 4 file a₄) _ file (field-only 4 a₄)
+      (λ deadline a₅.
+      let ok : Bool = windowAllowed release deadline && sizeAllowed size in
+      only-onward fileNumbers (test ok wrongJobBounds file a₅) _ file (only-test fileNumbers ok wrongJobBounds file a₅ refl) (λ _ _. tt))))))
+
+  jobs-only : (n : ℕ) (jobs : List Job) (at : ℕ) → Only fileNumbers (allJobs n jobs file at)
+  unfolding allJobs
+  jobs-only zero jobs at = tt
+  jobs-only (suc n) jobs at =
+      only-onward fileNumbers (oneJob (namesOf jobs) file at) _ file (job-only (namesOf jobs) at) (λ job next. jobs-only n (jobs ++ (job ∷ [])) next)
+
+  row-only : (width : ℕ) (names : List ℕ) (spans low at : ℕ) → Only fileNumbers (oneRow width names spans low file at)
+  unfolding oneRow
+  row-only width names spans low at =
+      only-onward fileNumbers (named rowLength file at) _ file (named-only rowLength at)
+      (λ name a₁.
+      let found : Bool = ltb (position names name) (length names) in
+      only-onward fileNumbers (test found rowWithoutJob file a₁) _ file (only-test fileNumbers found rowWithoutJob file a₁ refl)
+      (λ _ a₂. only-onward fileNumbers (checked 2 (λ j. ltb j spans) rowWithoutInterval file a₂) _ file (checked-only 2 (λ j. ltb j spans) rowWithoutInterval a₂ refl)
+      (λ interval a₃. only-onward fileNumbers (checked 4 (λ u. not (eqb u 0)) rowWithoutUnits file a₃) _ file (checked-only 4 (λ u. not (eqb u 0)) rowWithoutUnits a₃ refl)
+      (λ _ a₄.
+      let after : Bool = leb low (place width (position names name) interval) in
+      only-onward fileNumbers (test after rowOutOfOrder file a₄) _ file (only-test fileNumbers after rowOutOfOrder file a₄ refl) (λ _ _. tt)))))
+
+  rows-only : (n width : ℕ) (names : List ℕ) (spans low : ℕ) (table : List ℕ) (at : ℕ) → Only fileNumbers (allRows n width names spans low table file at)
+  unfolding allRows
+  rows-only zero width names spans low table at = tt
+  rows-only (suc n) width names spans low table at =
+      only-onward fileNumbers (oneRow width names spans low file at) _ file (row-only width names spans low at)
+      (λ row next. rows-only n width names spans (suc (row .at)) (set table (row .at) (row .units)) next)
+
+  pub end-only : (at : ℕ) → Only fileNumbers (ended file at)
+  unfolding ended
+  end-only at = only-cond fileNumbers (eqb at (length file)) wrongExtent tt at refl
+
+  pub file-only : Only fileNumbers (readFile file)
+  unfolding planFile preamble
+  file-only =
+      only-onward fileNumbers (preamble file 0) _ file
+      (only-onward fileNumbers (head mostJobs file 0) _ file (head-only mostJobs 0)
+      (λ h a₁. only-onward fileNumbers (allJobs (h .count) [] file a₁) _ file (jobs-only (h .count) [] a₁)
+      (λ _ a₂. only-onward fileNumbers (checked 2 (λ r. leb r mostRows) tooManyRows file a₂) _ file (checked-only 2 (λ r. leb r mostRows) tooManyRows a₂ refl)
+      (λ _ _. tt))))
+      (λ f b₁. only-onward fileNumbers (allRows (f .rows) mostIntervals (f .names) (intervals (f .plan)) 0 (replicate places 0) file b₁) _ file
+      (rows-only (f .rows) mostIntervals (f .names) (intervals (f .plan)) 0 (replicate places 0) b₁)
+      (λ _ b₂. only-onward fileNumbers (ended file b₂) _ file (end-only b₂) (λ _ _. tt)))
+
+-- The reader is refused only by 1 to 14 and 22.
+pub reader-numbers : (file table : List ℕ) (number : ℕ) (rest : List ℕ) → reader file table .answer ≡ number ∷ rest
+    → isOneOf
+    (wrongVersion ∷ wrongExtent ∷ wrongRecordLength ∷ wrongRates ∷ wrongJobCount ∷ wrongNameByte ∷ nameTaken ∷ wrongGrade ∷ wrongJobBounds
+    ∷ tooManyRows ∷ rowWithoutJob ∷ rowWithoutInterval ∷ rowWithoutUnits ∷ rowOutOfOrder ∷ bufferTooShort ∷ [])
+    number
+    ≡ true
+unfolding reader
+reader-numbers file table number rest e = by (ltb (length table) places) (readFile file) (file-only file) e
+  where
+    numbers : List ℕ
+    numbers = fileNumbers ++ (bufferTooShort ∷ [])
+
+    more : (l : List ℕ) (x y : ℕ) → isOneOf l x ≡ true → isOneOf (l ++ (y ∷ [])) x ≡ true
+    more (z ∷ l) x y h = over (eqb x z) h (more l x y)
+      where
+        over : (b : Bool) → (b || isOneOf l x) ≡ true → (isOneOf l x ≡ true → isOneOf (l ++ (y ∷ [])) x ≡ true) → (b || isOneOf (l ++ (y ∷ [])) x) ≡ true
+        over true h r = refl
+        over false h r = r h
+    more [] x y h = absurd (false≢true h)
+
+    by : (b : Bool) (s : Parsed Contents) → Only fileNumbers s
+        → cond b (record { answer = bufferTooShort ∷ []; plan = noPlan; table = table }) (leaves s table) .answer ≡ number ∷ rest
+        → isOneOf numbers number ≡ true
+    by true s h e = ap (isOneOf numbers) (sym (same-number e))
+    by false (got contents end) h e = absurd (let z : _≡_ {A = ℕ} 0 1 = cc in omega arith)
+    by false (no k) h e = ap (isOneOf numbers) (sym (same-number e)) ∙ more fileNumbers k bufferTooShort h
+
+-- The writer is refused only by 21 and 22.
+pub writer-numbers : (p : Plan) (table out : List ℕ) (number : ℕ) → writer p table out .answer ≡ writing.refused number
+    → isOneOf (unsound ∷ bufferTooShort ∷ []) number ≡ true
+unfolding writer
+writer-numbers p table out number e =
+    by (ltb (length table) places) (not (sound p table)) (ltb (length out) (length (written p (take places table)))) e
+  where
+    file : List ℕ
+    file = written p (take places table)
+
+    same : {m n : ℕ} → writing.refused m ≡ writing.refused n → m ≡ n
+    same e = cc
+
+    by : (a b c : Bool)
+        → cond a (withheld bufferTooShort out)
+        (cond b (withheld unsound out)
+        (cond c (withheld bufferTooShort out) (record { answer = wrote (length file); out = file ++ drop (length file) out })))
+        .answer ≡ writing.refused number
+        → isOneOf (unsound ∷ bufferTooShort ∷ []) number ≡ true
+    by true b c e = ap (isOneOf (unsound ∷ bufferTooShort ∷ [])) (sym (same e))
+    by false true c e = ap (isOneOf (unsound ∷ bufferTooShort ∷ [])) (sym (same e))
+    by false false true e = ap (isOneOf (unsound ∷ bufferTooShort ∷ [])) (sym (same e))
+    by false false false e = absurd (let z : _≡_ {A = ℕ} 0 1 = cc in omega arith)
+
+-- A report has no number but the listed ones. `fault`, `orElse` and `first` preserve this.
+abbrev Within : List ℕ → Report → Type 0
+Within numbers [] = Unit {0}
+Within numbers (number ∷ rest) = isOneOf numbers number ≡ true
+
+within-fault : (numbers : List ℕ) (b : Bool) (number : ℕ) (rest : Report) → isOneOf numbers number ≡ true → Within numbers (fault b (number ∷ rest))
+within-fault numbers true number rest h = h
+within-fault numbers false number rest h = tt
+
+within-or : (numbers : List ℕ) (a b : Report) → Within numbers a → Within numbers b → Within numbers (orElse a b)
+within-or numbers [] b h k = k
+within-or numbers (number ∷ rest) b h k = h
+
+within-first : (numbers : List ℕ) (f : ℕ → Report) (n : ℕ) → ((k : ℕ) → Within numbers (f k)) → Within numbers (first f n)
+unfolding first
+within-first numbers f zero h = tt
+within-first numbers f (suc n) h = within-or numbers (first f n) (f n) (within-first numbers f n h) (h n)
+
+is-within : (numbers : List ℕ) {report : Report} {number : ℕ} {rest : Report} → Within numbers report → report ≡ number ∷ rest → isOneOf numbers number ≡ true
+is-within numbers h e = rw e at h
+
+-- The refusals that judge and slack share: 22, 21, 15, 16 and 17.
+module _ (p : Plan) (table : List ℕ) (numbers : List ℕ) (h22 : isOneOf numbers bufferTooShort ≡ true) (h21 : isOneOf numbers unsound ≡ true)
+    (h15 : isOneOf numbers outsideWindow ≡ true) (h16 : isOneOf numbers wrongTotal ≡ true) (h17 : isOneOf numbers overCapacity ≡ true) where
+  hand-within : Within numbers (handFault p table)
+  hand-within =
+      within-or numbers (fault (ltb (length table) places) (bufferTooShort ∷ [])) (fault (not (sound p table)) (unsound ∷ []))
+      (within-fault numbers (ltb (length table) places) bufferTooShort [] h22) (within-fault numbers (not (sound p table)) unsound [] h21)
+
+  constraint-within : Within numbers (constraintFault p table)
+  unfolding outsideFault totalFault capacityFault
+  constraint-within =
+      within-or numbers (outsideFault p table) (orElse (totalFault p table) (capacityFault p table))
+      (within-first numbers (λ i. first (λ j. fault (isOutside p table i j) (outsideWindow ∷ i ∷ j ∷ [])) (intervals p)) (counted p)
+      (λ i. within-first numbers (λ j. fault (isOutside p table i j) (outsideWindow ∷ i ∷ j ∷ [])) (intervals p)
+      (λ j. within-fault numbers (isOutside p table i j) outsideWindow (i ∷ j ∷ []) h15)))
+      (within-or numbers (totalFault p table) (capacityFault p table)
+      (within-first numbers (λ i. fault (not (eqb (total p table i) (size p i))) (wrongTotal ∷ i ∷ [])) (counted p)
+      (λ i. within-fault numbers (not (eqb (total p table i) (size p i))) wrongTotal (i ∷ []) h16))
+      (within-first numbers (λ j. fault (ltb (p .n .0 * intervalLength p j) (load p table j)) (overCapacity ∷ j ∷ [])) (intervals p)
+      (λ j. within-fault numbers (ltb (p .n .0 * intervalLength p j) (load p table j)) overCapacity (j ∷ []) h17)))
+
+-- The judge, and so a start, is refused only by 15 to 18, 21 and 22.
+pub judge-numbers : (p : Plan) (table : List ℕ) (number : ℕ) (place : Report) → judged p table ≡ number ∷ place
+    → isOneOf (outsideWindow ∷ wrongTotal ∷ overCapacity ∷ belowFloorRule ∷ unsound ∷ bufferTooShort ∷ []) number ≡ true
+unfolding judged floorFault
+judge-numbers p table number place e =
+    is-within numbers
+    (within-or numbers (handFault p table) (orElse (constraintFault p table) (floorFault p table)) (hand-within p table numbers refl refl refl refl refl)
+    (within-or numbers (constraintFault p table) (floorFault p table) (constraint-within p table numbers refl refl refl refl refl)
+    (within-first numbers (λ l. first (λ m. fault (isPair p l m && fallsShort p table l m) (belowFloorRule ∷ l ∷ boundary p m ∷ [])) (suc (intervals p))) (intervals p)
+    (λ l. within-first numbers (λ m. fault (isPair p l m && fallsShort p table l m) (belowFloorRule ∷ l ∷ boundary p m ∷ [])) (suc (intervals p))
+    (λ m. within-fault numbers (isPair p l m && fallsShort p table l m) belowFloorRule (l ∷ boundary p m ∷ []) refl)))))
+    e
+  where
+    numbers : List ℕ
+    numbers = outsideWindow ∷ wrongTotal ∷ overCapacity ∷ belowFloorRule ∷ unsound ∷ bufferTooShort ∷ []
+
+-- The slack figure is refused only by 15 to 17, 21 and 22, and never without a number.
+pub slack-numbers : (p : Plan) (table : List ℕ) (report : Report) → slackFigure p table ≡ refused report
+    → (number : ℕ) × (place : Report) × (report ≡ number ∷ place)
+    × (isOneOf (outsideWindow ∷ wrongTotal ∷ overCapacity ∷ unsound ∷ bufferTooShort ∷ []) number ≡ true)
+unfolding slackFigure
+slack-numbers p table report e =
+    by (orElse (handFault p table) (constraintFault p table))
+    (within-or numbers (handFault p table) (constraintFault p table) (hand-within p table numbers refl refl refl refl refl)
+    (constraint-within p table numbers refl refl refl refl refl))
+    e
+  where
+    numbers : List ℕ
+    numbers = outsideWindow ∷ wrongTotal ∷ overCapacity ∷ unsound ∷ bufferTooShort ∷ []
+
+    same : {a b : Report} → refused a ≡ refused b → a ≡ b
+    same e = cc
+
+    by : (l : Report) → Within numbers l → unless l (leastSlack p table) ≡ refused report
+        → (number : ℕ) × (place : Report) × (report ≡ number ∷ place) × (isOneOf numbers number ≡ true)
+    by [] h e = absurd (rw e at (first-of-all p table .reached))
+    by (number ∷ place) h e = (number, place, sym (same e), h)
+
+-- A slot's call is refused only by 19 to 22.
+pub step-numbers : (p : Plan) (table : List ℕ) (run : Run) (v : ℕ) (grants : List ℕ) (number : ℕ) (rest : Report)
+    → stepped p table run v grants .answer ≡ number ∷ rest
+    → isOneOf (clockAtEnd ∷ speedAboveNormal ∷ unsound ∷ bufferTooShort ∷ []) number ≡ true
+unfolding slotFault stepped
+step-numbers p table run v grants number rest e =
+    is-within numbers
+    (within-or numbers (fault (not (slotSound p run)) (unsound ∷ []))
+    (orElse (fault short (bufferTooShort ∷ [])) (orElse (fault ends (clockAtEnd ∷ [])) (fault fast (speedAboveNormal ∷ []))))
+    (within-fault numbers (not (slotSound p run)) unsound [] refl)
+    (within-or numbers (fault short (bufferTooShort ∷ [])) (orElse (fault ends (clockAtEnd ∷ [])) (fault fast (speedAboveNormal ∷ [])))
+    (within-fault numbers short bufferTooShort [] refl)
+    (within-or numbers (fault ends (clockAtEnd ∷ [])) (fault fast (speedAboveNormal ∷ [])) (within-fault numbers ends clockAtEnd [] refl)
+    (within-fault numbers fast speedAboveNormal [] refl))))
+    (told (slotFault p table run v grants) ∙ e)
+  where
+    numbers : List ℕ
+    numbers = clockAtEnd ∷ speedAboveNormal ∷ unsound ∷ bufferTooShort ∷ []
+
+    short : Bool
+    short = ltb (length table) places || ltb (length grants) (counted p)
+
+    ends : Bool
+    ends = eqb (run .clock .0) (lastDeadline p)
+
+    fast : Bool
+    fast = ltb (p .n .0) v
+
+    told : (l : Report) → l ≡ slotBy l p table run v grants .answer
+    told [] = refl
+    told (number ∷ rest) = refl
+
+-- An outcome is refused only by 21.
+pub outcome-numbers : (p : Plan) (run : Run) (position number : ℕ) → outcome p run position ≡ step.refused number → number ≡ unsound
+unfolding outcome
+outcome-numbers p run i number e =
+    by (not (slotSound p run && ltb i (p .count))) (eqb (carriedOf run i) (size p i)) (not (isHi p i) && run .slow) (leb (deadline p i) (run .clock .0)) e
+  where
+    by : (a b c d : Bool) → cond a (step.refused unsound) (cond b step.met (cond c step.discarded (cond d step.missed step.stillOpen))) ≡ step.refused number
+        → number ≡ unsound
+    by true b c d e = cc
+    by false true c d e = absurd (let z : _≡_ {A = ℕ} 0 1 = cc in omega arith)
+    by false false true d e = absurd (let z : _≡_ {A = ℕ} 0 1 = cc in omega arith)
+    by false false false true e = absurd (let z : _≡_ {A = ℕ} 0 1 = cc in omega arith)
+    by false false false false e = absurd (let z : _≡_ {A = ℕ} 0 1 = cc in omega arith)
+
+-- A line is refused only by 22.
+pub line-numbers : (text out : List ℕ) (number : ℕ) → printed text out .answer ≡ line.withheld number → number ≡ bufferTooShort
+unfolding printed
+line-numbers text out number e = by (ltb (length out) (length text)) e
+  where
+    by : (b : Bool)
+        → cond b (refusal bufferTooShort out) (record { answer = line.wrote (length text); out = text ++ drop (length text) out }) .answer
+        ≡ line.withheld number
+        → number ≡ bufferTooShort
+    by true e = cc
+    by false e = absurd (let z : _≡_ {A = ℕ} 0 1 = cc in omega arith)
+
+-- For each theorem above, an instance that meets its premise. An empty file is refused by 1.
+pub empty-file : reader [] (replicate places 7) .answer ≡ wrongVersion ∷ []
+unfolding version opening head preamble planFile reader
+empty-file = refl
+
+-- Writing plan E is refused by 22 if the output has no room.
+pub E-without-room : writer planE tableE [] .answer ≡ writing.refused bufferTooShort
+unfolding tableOf Below.every nameAllowed namesHold namesDiffer gradesHold boundsHold rulesHold insert boundariesTo noStray sound bytes writing.jobsBytes writing.rowsBytes writing.rowCount writing.body written writer
+E-without-room = refl
+
+-- P3 is refused by 18, at interval 2 and deadline 10.
+pub P3-refused : judged (planWith (P3 .jobs)) (tableOf (P3 .rows)) ≡ belowFloorRule ∷ 2 ∷ 10 ∷ []
+unfolding tableOf sum Below.every nameAllowed namesHold namesDiffer gradesHold boundsHold rulesHold insert boundariesTo noStray sound first outsideFault totalFault capacityFault isHiDeadline floorFault judged
+P3-refused = refl
+
+-- The slack of P4 is refused by 16, at job 1.
+P4-unmeasured : slackFigure (planWith (P4 .jobs)) (tableOf (P4 .rows)) ≡ refused (wrongTotal ∷ 1 ∷ [])
+unfolding tableOf sum Below.every nameAllowed namesHold namesDiffer gradesHold boundsHold rulesHold insert boundariesTo noStray sound first outsideFault totalFault capacityFault isHiDeadline slackFigure
+P4-unmeasured = refl
+
+-- Plan E's first slot at speed 3 is refused by 20.
+pub E-too-fast : stepped planE tableE (started planE) 3 (7 ∷ 7 ∷ []) .answer ≡ speedAboveNormal ∷ []
+unfolding tableOf Below.every Below.least Below.greatest gradesHold boundsHold started slotSound slotFault stepped
+E-too-fast = refl
+
+-- Plan E has no third job: its outcome is refused by 21.
+E-no-third : outcome planE (started planE) 2 ≡ step.refused unsound
+unfolding Below.every Below.least Below.greatest gradesHold boundsHold started slotSound outcome
+E-no-third = refl
+
+-- A line into an empty buffer is refused by 22.
+pub line-without-room : printed strayLine [] .answer ≡ line.withheld bufferTooShort
+unfolding printed
+line-without-room = refl

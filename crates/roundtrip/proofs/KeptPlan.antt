@@ -1,0 +1,66 @@
+-- A plan with only its counted records, the others zero: what is read back of a plan.
+use mathlib.Core.Path.{_≡_, refl, sym, _∙_, ap, ap₂}
+use mathlib.Core.List.{List, [], _∷_, _++_}
+use Prim.Native.Nat.{ℕ, zero, suc, _-_, _/_, _<_}
+use native.Mathlib.Omega.{arith}
+use lib.ListN.{length, getD, take, replicate, List·getD-map}
+use lib.Seq.{getD-take}
+use Rattle.plan.specs.Edition.{mostJobs}
+use Rattle.plan.specs.Rules.{noJob, jobOf, counted, names, name}
+use Rattle.plan.specs.Boundaries.{insert, boundariesTo, intervals}
+use Rattle.plan.specs.declared.kinds.Job.{Job}
+use Rattle.plan.specs.declared.kinds.Plan.{Plan}
+use Rattle.plan.proofs.Names.{name-at}
+use Rattle.planfields.specs.Fields.{Head}
+use Rattle.planfile.specs.Reader.{namesOf, planFrom}
+use Rattle.planwriter.specs.Writing.{rowAt, rowsBytes}
+
+-- Padding a list with the default value does not change what `getD` returns.
+pub getD-pad : {A : Type 0} (l : List A) (m k : ℕ) (d : A) → getD (l ++ replicate m d) k d ≡ getD l k d
+getD-pad [] m k d = zeros m k
+  where
+    zeros : (m k : ℕ) → getD (replicate m d) k d ≡ d
+    zeros zero k = refl
+    zeros (suc m) zero = refl
+    zeros (suc m) (suc k) = zeros m k
+getD-pad (x ∷ l) m zero d = refl
+getD-pad (x ∷ l) m (suc k) d = getD-pad l m k d
+
+-- The names of a plan that was read are those of its jobs, then zeros.
+pub names-read : (h : Head) (jobs : List Job) (k : ℕ) → getD (names (planFrom h jobs)) k 0 ≡ getD (namesOf jobs) k 0
+names-read h jobs k =
+    name-at (planFrom h jobs) k ∙ ap (λ (j : Job). j .name .0) (getD-pad jobs (mostJobs - length jobs) k noJob)
+    ∙ sym (List·getD-map (λ (j : Job). j .name .0) jobs k noJob)
+
+-- Lists of names with equal entries give the same bytes of rows.
+pub rows-names : (width : ℕ) (a b : List ℕ) → ((k : ℕ) → getD a k 0 ≡ getD b k 0) → (q : ℕ) (l : List ℕ) → rowsBytes width a q l ≡ rowsBytes width b q l
+unfolding rowsBytes
+rows-names width a b same q [] = refl
+rows-names width a b same q (u ∷ l) = rw (same (q / width)) (ap (λ r. rowAt width b q u ++ r) (rows-names width a b same (suc q) l))
+
+-- The plan as it is read back.
+abbrev pub kept : Plan → Plan
+kept p = planFrom (record { n = p .n .0; d = p .d .0; count = p .count }) (take (p .count) (p .jobs))
+
+-- The counted jobs are read back unchanged.
+pub kept-job : (p : Plan) (i : ℕ) → i < p .count → jobOf (kept p) i ≡ jobOf p i
+kept-job p i h =
+    getD-pad (take (p .count) (p .jobs)) (mostJobs - length (take (p .count) (p .jobs))) i noJob ∙ getD-take (p .count) (p .jobs) i noJob h
+
+-- Plans with the same first n jobs have the same boundaries of them.
+boundaries-same : (p q : Plan) (n : ℕ) → ((i : ℕ) → i < n → jobOf p i ≡ jobOf q i) → boundariesTo p n ≡ boundariesTo q n
+unfolding boundariesTo
+boundaries-same p q zero h = refl
+boundaries-same p q (suc n) h =
+    let e = h n (omega arith) in
+    ap₂ insert (ap (λ (j : Job). j .deadline .0) e)
+    (ap₂ insert (ap (λ (j : Job). j .release .0) e) (boundaries-same p q n (λ i l. h i (omega arith))))
+
+-- The plan as it is read back has as many intervals.
+pub kept-intervals : (p : Plan) → intervals (kept p) ≡ intervals p
+kept-intervals p = ap (λ l. length l - 1) (boundaries-same (kept p) p (counted p) (λ i h. kept-job p i (omega arith)))
+
+-- Name k of the first n jobs is the name of job k.
+pub names-prefix : (jobs : List Job) (n k : ℕ) → k < n → getD (namesOf (take n jobs)) k 0 ≡ getD jobs k noJob .name .0
+names-prefix jobs n k h =
+    List·getD-map (λ (j : Job). j .name .0) (take n jobs) k noJob ∙ ap (λ (j : Job). j .name .0) (getD-take n jobs k noJob h)

@@ -1,0 +1,261 @@
+-- Round trips of rows: the written rows of a table, read into zeros, give the table back,
+-- and where rows are read the file has the written rows of the resulting table.
+use mathlib.Core.Path.{_≡_, refl, sym, _∙_, ap, ap₂}
+use mathlib.Core.Bool.{Bool, true, false, not, cond, _&&_, _||_}
+use mathlib.Core.List.{List, [], _∷_, _++_, append-assoc}
+use Prim.Native.Nat.{ℕ, zero, suc, _+_, _*_, _-_, _/_, _%_, _≤_, _<_, _^_}
+use native.Mathlib.Nat.{add-zero, add-suc, suc-add, zero-add, div-add-mod, mul-comm}
+use native.Mathlib.Omega.{arith}
+use borrow.Author.Tests.{ne-eqb, eqb-true, eqb-false, ltb-true, lt-ltb, leb-true, not-true}
+use lib.Arith.{digits-div, digits-mod}
+use lib.Dec.{leb, ltb, eqb, lit<}
+use lib.ListN.{length, getD, set, replicate, length-append, length-replicate, replicate-append-replicate}
+use lib.Seq.{set-at}
+use Rattle.plan.specs.Edition.{mostIntervals, rowLength}
+use Rattle.plan.specs.Refusal.{rowWithoutJob, rowWithoutInterval, rowWithoutUnits, rowOutOfOrder}
+use Rattle.plan.specs.Table.{place, noStray}
+use Rattle.plan.proofs.Below.{both}
+use Rattle.planfields.specs.Bytes.{bytes}
+use Rattle.planfields.specs.Fields.{got, field, checked, named}
+use Rattle.planfile.specs.Reader.{position, Row, oneRow, allRows}
+use Rattle.planwriter.specs.Writing.{rowBytes, rowsBytes, rowCount}
+use Rattle.planfile.specs.inner.Parts.{Distinct}
+use Rattle.planfields.proofs.ByteLaws.{Octets}
+use Rattle.planfields.proofs.ParserLaws.{through, past, checked-is, same-value, same-next}
+use Rattle.planfile.proofs.PositionLaws.{position-only, position-found}
+use Rattle.planfile.proofs.Rows.{row-whole, row-inside, rows-step, rows-done}
+use Rattle.planwriter.proofs.JobAndRowBytes.{rows-split, count-split}
+use Rattle.roundtrip.proofs.BytesAt.{Stands, stands-none, stands-then, stands-first, stands-rest, stands-at, field-back, field-again}
+use Rattle.roundtrip.proofs.JobRoundTrip.{named-back, named-again}
+
+-- Zeros have no rows.
+zeros-rows : (names : List ℕ) (q m : ℕ) → rowsBytes mostIntervals names q (replicate m 0) ≡ []
+unfolding rowsBytes
+zeros-rows names q zero = refl
+zeros-rows names q (suc m) = zeros-rows names (suc q) m
+
+-- The row count of zeros is 0.
+zeros-count : (m : ℕ) → rowCount (replicate m 0) ≡ 0
+unfolding rowCount
+zeros-count zero = refl
+zeros-count (suc m) = zeros-count m
+
+-- Zeros contain no stray place.
+zeros-clear : (jobs spans q m : ℕ) → noStray mostIntervals jobs spans q (replicate m 0) ≡ true
+unfolding noStray
+zeros-clear jobs spans q zero = refl
+zeros-clear jobs spans q (suc m) = zeros-clear jobs spans (suc q) m
+
+-- Zeros fit in 32 bits.
+zeros-small : (m k : ℕ) → getD (replicate m 0) k 0 < 256 ^ 4
+zeros-small zero k = lit< tt
+zeros-small (suc m) zero = lit< tt
+zeros-small (suc m) (suc k) = zeros-small m k
+
+-- A concatenation of lists without stray places has none.
+clear-split : (jobs spans q : ℕ) (a b : List ℕ) → noStray mostIntervals jobs spans q a ≡ true → noStray mostIntervals jobs spans (q + length a) b ≡ true
+    → noStray mostIntervals jobs spans q (a ++ b) ≡ true
+unfolding noStray
+clear-split jobs spans q [] b ha hb = rw (add-zero q) at hb
+clear-split jobs spans q (u ∷ a) b ha hb =
+    let h = both (eqb u 0 || ltb (q / mostIntervals) jobs && ltb (q % mostIntervals) spans) (noStray mostIntervals jobs spans (suc q) a) ha in
+    rw (h .0) (clear-split jobs spans (suc q) a b (h .1) (rw (add-suc q (length a) ∙ sym (suc-add q (length a))) at hb))
+
+-- A concatenation of lists whose numbers fit in 32 bits has only such numbers.
+small-split : (a b : List ℕ) → ((k : ℕ) → getD a k 0 < 256 ^ 4) → ((k : ℕ) → getD b k 0 < 256 ^ 4) → (k : ℕ) → getD (a ++ b) k 0 < 256 ^ 4
+small-split [] b ha hb k = hb k
+small-split (x ∷ a) b ha hb zero = ha 0
+small-split (x ∷ a) b ha hb (suc k) = small-split a b (λ j. ha (suc j)) hb k
+
+-- A row is read with its place and units where the file has its written bytes.
+module _ (names : List ℕ) (spans : ℕ) (differ : Distinct names) (narrow : spans ≤ mostIntervals) where
+  interval-back : (file : List ℕ) (at : ℕ) {j next : ℕ} → field 2 file at ≡ got j next → j < spans
+      → checked 2 (λ j. ltb j spans) rowWithoutInterval file at ≡ got j next
+  interval-back file at {j} e h = rw (e, lt-ltb j spans h)
+
+  units-back : (file : List ℕ) (at : ℕ) {u next : ℕ} → field 4 file at ≡ got u next → (u ≡ 0 → ⊥)
+      → checked 4 (λ u. not (eqb u 0)) rowWithoutUnits file at ≡ got u next
+  units-back file at {u} e h = rw (e, ne-eqb u 0 h)
+
+  pub row-back : ((k : ℕ) → getD names k 0 < 256 ^ 8) → (file : List ℕ) (at low q u : ℕ) {next : ℕ} → q / mostIntervals < length names → q % mostIntervals < spans → (u ≡ 0 → ⊥)
+      → u < 256 ^ 4 → low ≤ q → Stands file at (rowBytes (getD names (q / mostIntervals) 0) (q % mostIntervals) u) next
+      → oneRow mostIntervals names spans low file at ≡ got (record { at = q; units = u }) next
+  row-back fit file at low q u {next} job interval some small h s =
+      let name = getD names (q / mostIntervals) 0 in
+      let a = bytes 1 rowLength in
+      let b = bytes 8 name in
+      let c = bytes 2 (q % mostIntervals) in
+      let d = bytes 4 u in
+      let s₃ = stands-first (a ++ b ++ c) d s in
+      let s₂ = stands-first (a ++ b) c s₃ in
+      let s₁ = stands-first a b s₂ in
+      let p : q / mostIntervals ≡ position names name = position-only names name (q / mostIntervals) differ job refl in
+      let is : place mostIntervals (position names name) (q % mostIntervals) ≡ q = rw (← p) (div-add-mod q mostIntervals) in
+      let read = row-whole mostIntervals names spans low file at
+      (named-back rowLength name file at (field-back 1 rowLength file at (omega arith) (lit< tt) s₁) (field-back 8 name file (at + length a) (omega arith) (fit (q / mostIntervals)) (stands-rest a b s₂)))
+      (lt-ltb (position names name) (length names) (rw (← p) job))
+      (interval-back file (at + length (a ++ b)) (field-back 2 (q % mostIntervals) file (at + length (a ++ b)) (omega arith) (omega (arith, interval, narrow)) (stands-rest (a ++ b) c s₃)) interval)
+      (units-back file (at + length (a ++ b ++ c)) (field-back 4 u file (at + length (a ++ b ++ c)) (omega arith) small (stands-rest (a ++ b ++ c) d s)) some)
+      (rw is h) in
+      read ∙ ap (λ k. got (record { at = k; units = u }) next) is
+
+  -- The written rows of the numbers l from place q on, read into zeros after `pre`, give pre ++ l.
+  pub rows-back : ((k : ℕ) → getD names k 0 < 256 ^ 8) → (file l pre : List ℕ) (q low at : ℕ) {next : ℕ} → q ≡ length pre → low ≤ q → noStray mostIntervals (length names) spans q l ≡ true
+      → ((k : ℕ) → getD l k 0 < 256 ^ 4) → Stands file at (rowsBytes mostIntervals names q l) next
+      → allRows (rowCount l) mostIntervals names spans low (pre ++ replicate (length l) 0) file at ≡ got (pre ++ l) next
+  unfolding rowsBytes rowCount noStray
+  rows-back fit file [] pre q low at long h clear small s =
+      rows-done mostIntervals names spans low (pre ++ []) file at ∙ ap (got (pre ++ [])) (sym (s .ends ∙ add-zero at))
+  rows-back fit file (u ∷ l) pre q low at {next} long h clear small s =
+      by (eqb u 0) refl clear s
+      (λ x low′ at′ h′ c s′. rows-back fit file l (pre ++ (x ∷ [])) (suc q) low′ at′ (ap suc long ∙ sym (length-append pre (x ∷ []) ∙ omega arith)) h′ c (λ k. small (suc k)) s′)
+    where
+      by : (t : Bool) → eqb u 0 ≡ t
+          → ((t || ltb (q / mostIntervals) (length names) && ltb (q % mostIntervals) spans) && noStray mostIntervals (length names) spans (suc q) l) ≡ true
+          → Stands file at (cond t [] (rowBytes (getD names (q / mostIntervals) 0) (q % mostIntervals) u) ++ rowsBytes mostIntervals names (suc q) l) next
+          → ((x low′ at′ : ℕ) → low′ ≤ suc q → noStray mostIntervals (length names) spans (suc q) l ≡ true → Stands file at′ (rowsBytes mostIntervals names (suc q) l) next
+          → allRows (rowCount l) mostIntervals names spans low′ (pre ++ (x ∷ []) ++ replicate (length l) 0) file at′ ≡ got (pre ++ (x ∷ []) ++ l) next)
+          → allRows (cond t (rowCount l) (suc (rowCount l))) mostIntervals names spans low (pre ++ (0 ∷ replicate (length l) 0)) file at ≡ got (pre ++ (u ∷ l)) next
+      by true z clear s rest =
+          ap (λ t. allRows (rowCount l) mostIntervals names spans low t file at) (sym (append-assoc pre (0 ∷ []) (replicate (length l) 0)))
+          ∙ rest 0 low at (omega arith) clear s
+          ∙ ap (λ t. got t next) (append-assoc pre (0 ∷ []) l ∙ ap (λ x. pre ++ (x ∷ l)) (sym (eqb-true u 0 z)))
+      by false z clear s rest =
+          let b = rowBytes (getD names (q / mostIntervals) 0) (q % mostIntervals) u in
+          let c = both (ltb (q / mostIntervals) (length names) && ltb (q % mostIntervals) spans) (noStray mostIntervals (length names) spans (suc q) l) clear in
+          let d = both (ltb (q / mostIntervals) (length names)) (ltb (q % mostIntervals) spans) (c .0) in
+          let here = row-back fit file at low q u (ltb-true (q / mostIntervals) (length names) (d .0)) (ltb-true (q % mostIntervals) spans (d .1)) (eqb-false u 0 z) (small 0) h
+          (stands-first b (rowsBytes mostIntervals names (suc q) l) s) in
+          rows-step (rowCount l) mostIntervals names spans low (pre ++ (0 ∷ replicate (length l) 0)) file at here
+          ∙ ap (λ t. allRows (rowCount l) mostIntervals names spans (suc q) t file (at + length b))
+          (set-at pre 0 (replicate (length l) 0) u q (sym long) ∙ sym (append-assoc pre (u ∷ []) (replicate (length l) 0)))
+          ∙ rest u (suc q) (at + length b) (omega arith) (c .1) (stands-rest b (rowsBytes mostIntervals names (suc q) l) s)
+          ∙ ap (λ t. got t next) (append-assoc pre (u ∷ []) l)
+
+  -- What holds where a row is read: the file has its written bytes, and its job, interval,
+  -- units and place are in bounds.
+  pub record RowRead (file : List ℕ) (at low : ℕ) (row : Row) (next : ℕ) : Type 0 where
+    pub stands : Stands file at (rowBytes (getD names (row .at / mostIntervals) 0) (row .at % mostIntervals) (row .units)) next
+    pub job : row .at / mostIntervals < length names
+    pub interval : row .at % mostIntervals < spans
+    pub some : row .units ≡ 0 → ⊥
+    pub small : row .units < 256 ^ 4
+    pub after : low ≤ row .at
+
+  moved : {file : List ℕ} {at low : ℕ} {r t : Row} {m n : ℕ} → RowRead file at low r m → r ≡ t → m ≡ n → RowRead file at low t n
+  moved x p q = rw q at (rw p at x)
+
+  pub row-again : (file : List ℕ) (at low : ℕ) {row : Row} {next : ℕ} → Octets file → oneRow mostIntervals names spans low file at ≡ got row next
+      → RowRead file at low row next
+  unfolding oneRow
+  row-again file at low octets e =
+      let t₁ = through (named rowLength file at) e in
+      let t₂ = past (ltb (position names (t₁ .value)) (length names)) rowWithoutJob file (t₁ .next) (t₁ .on) in
+      let t₃ = through (checked 2 (λ j. ltb j spans) rowWithoutInterval file (t₁ .next)) (t₂ .on) in
+      let t₄ = through (checked 4 (λ u. not (eqb u 0)) rowWithoutUnits file (t₃ .next)) (t₃ .on) in
+      let t₅ = past (leb low (place mostIntervals (position names (t₁ .value)) (t₃ .value))) rowOutOfOrder file (t₄ .next) (t₄ .on) in
+      let i = position names (t₁ .value) in
+      let j = t₃ .value in
+      let job = ltb-true i (length names) (t₂ .is) in
+      let c₃ = checked-is 2 (λ j. ltb j spans) rowWithoutInterval file (t₁ .next) (t₃ .is) in
+      let c₄ = checked-is 4 (λ u. not (eqb u 0)) rowWithoutUnits file (t₃ .next) (t₄ .is) in
+      let in-span = ltb-true j spans (c₃ .1) in
+      let n = named-again rowLength file at octets (t₁ .is) in
+      let f₃ = field-again 2 file (t₁ .next) octets (c₃ .0) in
+      let f₄ = field-again 4 file (t₃ .next) octets (c₄ .0) in
+      let wide : j < mostIntervals = omega (arith, in-span, narrow) in
+      let place-is : place mostIntervals i j ≡ i * mostIntervals + j = ap (λ k. k + j) (mul-comm mostIntervals i) in
+      let quot : place mostIntervals i j / mostIntervals ≡ i = ap (λ k. k / mostIntervals) place-is ∙ digits-div i wide in
+      let rem : place mostIntervals i j % mostIntervals ≡ j = ap (λ k. k % mostIntervals) place-is ∙ digits-mod i wide in
+      moved
+      (record {
+        stands = rw (quot, rem, position-found names (t₁ .value) job) (stands-then (stands-then (n .0) (f₃ .0)) (f₄ .0));
+        job = rw quot job;
+        interval = rw rem in-span;
+        some = eqb-false (t₄ .value) 0 (not-true (eqb (t₄ .value) 0) (c₄ .1));
+        small = f₄ .1;
+        after = leb-true low (place mostIntervals i j) (t₅ .is);
+      })
+      (same-value (t₅ .on)) (same-next (t₅ .on))
+
+  -- What reading n rows into m zeros after `pre` gives:
+  -- m numbers, whose n written rows the file has.
+  pub record Filled (file : List ℕ) (n m q : ℕ) (pre : List ℕ) (at : ℕ) (table : List ℕ) (next : ℕ) : Type 0 where
+    pub numbers : List ℕ
+    pub is : table ≡ pre ++ numbers
+    pub long : length numbers ≡ m
+    pub rows : rowCount numbers ≡ n
+    pub stands : Stands file at (rowsBytes mostIntervals names q numbers) next
+    pub clear : noStray mostIntervals (length names) spans q numbers ≡ true
+    pub small : (k : ℕ) → getD numbers k 0 < 256 ^ 4
+
+  -- One more row adds k zeros and its units in front of the numbers of the remaining rows.
+  filled-on : {file : List ℕ} {n m q : ℕ} {pre : List ℕ} {at : ℕ} {table : List ℕ} {next n₁ : ℕ} (row : Row) (k m′ : ℕ) → q + k ≡ row .at → m ≡ k + suc m′
+      → RowRead file at q row n₁ → Filled file n m′ (suc (row .at)) (pre ++ replicate k 0 ++ (row .units ∷ [])) n₁ table next
+      → Filled file (suc n) m q pre at table next
+  unfolding rowsBytes rowCount noStray
+  filled-on {file} {n} {m} {q} {pre} {at} {table} {next} row k m′ here long r f =
+      let u = row .units in
+      let l = f .numbers in
+      let zeros = length-replicate {A = ℕ} k 0 in
+      let test = eqb-of (r .some) in
+      let at-k : q + length (replicate {A = ℕ} k 0) ≡ row .at = ap (λ i. q + i) zeros ∙ here in
+      record {
+        numbers = replicate k 0 ++ (u ∷ l);
+        is = f .is ∙ append-assoc (pre ++ replicate k 0) (u ∷ []) l ∙ append-assoc pre (replicate k 0) (u ∷ l);
+        long = length-append (replicate k 0) (u ∷ l) ∙ omega (arith, zeros, f .long, long);
+        rows = count-split (replicate k 0) (u ∷ l) ∙ rw (zeros-count k, test, f .rows) (zero-add (suc n));
+        stands =
+            rw (rows-split mostIntervals names q (replicate k 0) (u ∷ l), zeros-rows names q k, at-k, test)
+            (stands-then (r .stands) (f .stands));
+        clear =
+            clear-split (length names) spans q (replicate k 0) (u ∷ l) (zeros-clear (length names) spans q k)
+            (rw (at-k, test, lt-ltb (row .at / mostIntervals) (length names) (r .job), lt-ltb (row .at % mostIntervals) spans (r .interval)) (f .clear));
+        small = small-split (replicate k 0) (u ∷ l) (zeros-small k) (front l (r .small) (f .small));
+      }
+    where
+      eqb-of : {u : ℕ} → (u ≡ 0 → ⊥) → eqb u 0 ≡ false
+      eqb-of {u} h = ne-eqb u 0 h
+
+      front : {u : ℕ} (l : List ℕ) → u < 256 ^ 4 → ((k : ℕ) → getD l k 0 < 256 ^ 4) → (k : ℕ) → getD (u ∷ l) k 0 < 256 ^ 4
+      front l h t zero = h
+      front l h t (suc k) = t k
+
+  -- Storing u at index k of zeros that follow `pre`.
+  stored : (pre : List ℕ) (q k m′ u : ℕ) → q ≡ length pre
+      → set (pre ++ replicate (k + suc m′) 0) (q + k) u ≡ pre ++ replicate k 0 ++ (u ∷ []) ++ replicate m′ 0
+  stored pre q k m′ u long =
+      ap (λ l. set (pre ++ l) (q + k) u) (sym (replicate-append-replicate k (suc m′) 0))
+      ∙ ap (λ l. set l (q + k) u) (sym (append-assoc pre (replicate k 0) (0 ∷ replicate m′ 0)))
+      ∙ set-at (pre ++ replicate k 0) 0 (replicate m′ 0) u (q + k) (length-append pre (replicate k 0) ∙ omega (arith, long, length-replicate {A = ℕ} k 0))
+      ∙ sym (append-assoc (pre ++ replicate k 0) (u ∷ []) (replicate m′ 0))
+
+  pub rows-again : (file : List ℕ) (n m q : ℕ) (pre : List ℕ) (at : ℕ) (table : List ℕ) (next : ℕ) → Octets file → q ≡ length pre
+      → mostIntervals * length names ≤ q + m → allRows n mostIntervals names spans q (pre ++ replicate m 0) file at ≡ got table next
+      → Filled file n m q pre at table next
+  unfolding allRows
+  rows-again file zero m q pre at table next octets long room e =
+      record {
+        numbers = replicate m 0;
+        is = sym (same-value e);
+        long = length-replicate m 0;
+        rows = zeros-count m;
+        stands = rw (zeros-rows names q m) (stands-at (stands-none file at) (same-next e));
+        clear = zeros-clear (length names) spans q m;
+        small = zeros-small m;
+      }
+  rows-again file (suc n) m q pre at table next octets long room e =
+      let t = through (oneRow mostIntervals names spans q file at) e in
+      let row = t .value in
+      let r = row-again file at q octets (t .is) in
+      let inside = row-inside names spans q file at (t .is) narrow in
+      let k = row .at - q in
+      let m′ = m - suc k in
+      let here : q + k ≡ row .at = omega (arith, r .after) in
+      let parts : m ≡ k + suc m′ = omega (arith, r .after, inside, room) in
+      let store = ap₂ (λ (i j : ℕ). set (pre ++ replicate i 0) j (row .units)) parts (sym here) ∙ stored pre q k m′ (row .units) long in
+      filled-on row k m′ here parts r
+      (rows-again file n m′ (suc (row .at)) (pre ++ replicate k 0 ++ (row .units ∷ [])) (t .next) table next octets
+      (omega (arith, here, long, length-replicate {A = ℕ} k 0, length-append (pre ++ replicate k 0) (row .units ∷ []), length-append pre (replicate k 0)))
+      (omega (arith, here, parts, room))
+      (rw store at (t .on)))
