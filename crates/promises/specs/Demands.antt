@@ -1,19 +1,20 @@
 -- The three demands, in full. `all-demands-are-met` (proofs/AllDemands) proves them.
 --
--- What they rest on: `reader` (planfile/specs/Reader), `writer` (planwriter/specs/Writing), `judged` and `Figure2`
--- (judge/specs), `stepped`, `order`, `serve` and `due` (dispatch/specs), `Allowed` and `Kept` (Night, beside this file).
+-- What they rest on: `reader` (planfile/specs/Reader), `writer` (planwriter/specs/Writing),
+-- `judged` and `Figure2` (judge/specs), `stepped`, `order`, `serve` and `due` (dispatch/specs),
+-- `Allowed` and `Kept` (Night, beside this file).
 use mathlib.Core.Path.{_≡_}
 use mathlib.Core.Bool.{true}
 use mathlib.Core.List.{List, [], _++_}
 use mathlib.Core.Logic.{_↔_}
 use Prim.Native.Nat.{ℕ, _≤_, _<_, _^_}
 use lib.ListN.{length, getD, take, drop, replicate}
+use Rattle.plan.specs.Kinds.{Bytes, Position, Row, Speed, Table}
 use Rattle.plan.specs.Edition.{mostJobs, places}
 use Rattle.plan.specs.Rules.{counted, name}
 use Rattle.plan.specs.Table.{sound}
 use Rattle.plan.specs.Same.{Same}
 use Rattle.plan.specs.declared.kinds.Plan.{Plan}
-use Rattle.plan.specs.declared.kinds.Slots.{Slots}
 use Rattle.planfile.specs.Reader.{reader}
 use Rattle.planfile.specs.Answers.{Reads, Shows}
 use Rattle.planfile.specs.declared.reader.PlanRead.{PlanRead}
@@ -39,21 +40,22 @@ use Rattle.promises.specs.Night.{Call, Allowed, Kept}
 abbrev pub ExactlyOne : {A : Type 0} → (A → Type 0) → Type 0
 ExactlyOne {A} Promised = (r : A) × Promised r × ((s : A) → Promised s → r ≡ s)
 
--- Demand 1. For every input, the promise of each call (the very predicate in its `ensures`) is met by exactly one
--- result and one content of each lent buffer.
+-- Demand 1. For every input, the promise of each call (the very predicate in its `ensures`) is
+-- met by exactly one result and one content of each lent buffer.
 pub record EveryCallIsDetermined : Type 0 where
-  pub read : (file table : List ℕ) → ExactlyOne {A = PlanRead × List ℕ} (λ r. Reads file table (r .0) (r .1))
-  pub lookup : (file : List ℕ) (position : ℕ) → ExactlyOne (Shows file position)
-  pub write : (p : Plan) (table out : List ℕ) → ExactlyOne {A = Written × List ℕ} (λ r. Writes p table out (r .0) (r .1))
-  pub judge : (p : Plan) (table : List ℕ) → ExactlyOne (Judges p table)
-  pub slack : (p : Plan) (table : List ℕ) → ExactlyOne (Measures p table)
-  pub start : (p : Plan) (table : List ℕ) → ExactlyOne (Starts p table)
-  pub step : (p : Plan) (table : List ℕ) (run : Run) (v : ℕ) (grants : List ℕ)
-      → ExactlyOne {A = Stepped × List ℕ} (λ r. Steps p table run v grants (r .0) (r .1))
-  pub outcome : (p : Plan) (run : Run) (position : ℕ) → ExactlyOne (Ends p run position)
+  pub read : (file : Bytes) (table : Table) → ExactlyOne {A = PlanRead × Table} (λ r. Reads file table (r .0) (r .1))
+  pub lookup : (file : Bytes) (position : Position) → ExactlyOne (Shows file position)
+  pub write : (p : Plan) (table : Table) (out : Bytes) → ExactlyOne {A = Written × Bytes} (λ r. Writes p table out (r .0) (r .1))
+  pub judge : (p : Plan) (table : Table) → ExactlyOne (Judges p table)
+  pub slack : (p : Plan) (table : Table) → ExactlyOne (Measures p table)
+  pub start : (p : Plan) (table : Table) → ExactlyOne (Starts p table)
+  pub step : (p : Plan) (table : Table) (run : Run) (v : Speed) (grants : Row)
+      → ExactlyOne {A = Stepped × Row} (λ r. Steps p table run v grants (r .0) (r .1))
+  pub outcome : (p : Plan) (run : Run) (position : Position) → ExactlyOne (Ends p run position)
 
--- What the types of the code say of a plan and its table: all records are there, a name has eight bytes and a place four.
-pub record InTypes (p : Plan) (table : List ℕ) : Type 0 where
+-- What the types of the code say of a plan and its table: all records are there, a name has eight
+-- bytes and a place four.
+pub record InTypes (p : Plan) (table : Table) : Type 0 where
   pub records : length (p .jobs) ≡ mostJobs
   pub names : (i : ℕ) → i < p .count → name p i < 256 ^ 8
   pub cells : (k : ℕ) → getD table k 0 < 256 ^ 4
@@ -61,29 +63,30 @@ pub record InTypes (p : Plan) (table : List ℕ) : Type 0 where
 -- Demand 2. One verdict, one file for each plan, and the dispatch rule in every slot.
 pub record VerdictFileAndSlotAreExact : Type 0 where
   -- A plan is accepted exactly when its table has all its places, it is sound, and figure 2 holds.
-  pub accepted-exactly : (p : Plan) (table : List ℕ)
+  pub accepted-exactly : (p : Plan) (table : Table)
       → (judged p table ≡ []) ↔ ((places ≤ length table) × (sound p table ≡ true) × Figure2 p table)
   -- A file that the reader takes, written again, gives the same bytes.
-  pub same-bytes : (file table out : List ℕ) → ((k : ℕ) → getD file k 0 < 256) → reader file table .answer ≡ []
+  pub same-bytes : (file : Bytes) (table : Table) (out : Bytes) → ((k : ℕ) → getD file k 0 < 256) → reader file table .answer ≡ []
       → length file ≤ length out
       → writer (reader file table .plan) (reader file table .table) out
       ≡ record { answer = wrote (length file); out = file ++ drop (length file) out }
   -- A sound plan, written and read again, gives the same plan.
-  pub same-plan : (p : Plan) (table out other : List ℕ) → InTypes p table → sound p table ≡ true → places ≤ length table
+  pub same-plan : (p : Plan) (table : Table) (out : Bytes) (other : Table) → InTypes p table → sound p table ≡ true → places ≤ length table
       → length (written p (take places table)) ≤ length out → places ≤ length other
       → (n : ℕ) × (writer p table out .answer ≡ wrote n) × (reader (take n (writer p table out .out)) other .answer ≡ [])
       × Same p table (reader (take n (writer p table out .out)) other .plan) (reader (take n (writer p table out .out)) other .table)
-  -- The grants of a slot are those of serving the live jobs one after the other, in the rule's order.
-  pub grants : (p : Plan) (table : List ℕ) (run : Run) (v : ℕ) (row : List ℕ) → stepped p table run v row .answer ≡ []
+  -- The grants of a slot are those of serving the live jobs one after the other, in the rule's
+  -- order.
+  pub grants : (p : Plan) (table : Table) (run : Run) (v : Speed) (row : Row) → stepped p table run v row .answer ≡ []
       → stepped p table run v row .grants
       ≡ serve (due p table run (slowAfter p run v)) v (order p (run .clock .0) (slowAfter p run v))
       (replicate (counted p) 0 ++ drop (counted p) row)
 
--- Demand 3. Whatever an accepted plan's night brings at speeds from floor to normal, refused calls included, what was promised
--- to depositors is kept.
+-- Demand 3. Whatever an accepted plan's night brings at speeds from floor to normal, refused
+-- calls included, what was promised to depositors is kept.
 abbrev pub WhatIsPromisedIsKept : Type 0
 WhatIsPromisedIsKept =
-    (p : Plan) (table : List ℕ) → judged p table ≡ [] → (night : List Call) → Allowed p table night → Kept p night
+    (p : Plan) (table : Table) → judged p table ≡ [] → (night : List Call) → Allowed p table night → Kept p night
 
 -- All three.
 pub record AllDemands : Type 0 where
