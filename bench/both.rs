@@ -79,14 +79,14 @@ impl Both {
         unsafe { gateway_write(self.plan.as_ptr(), PLAN_WORDS, table.as_ptr(), table.len(), out.as_mut_ptr(), out.len(), written) }
     }
 
-    fn judge(&self, place: &mut [u64; PLACE_WORDS]) -> u32 {
+    fn judge(&self, location: &mut [u64; LOCATION_WORDS]) -> u32 {
         let table = &self.plain.table;
-        unsafe { gateway_judge(self.plan.as_ptr(), PLAN_WORDS, table.as_ptr(), table.len(), place.as_mut_ptr(), PLACE_WORDS) }
+        unsafe { gateway_judge(self.plan.as_ptr(), PLAN_WORDS, table.as_ptr(), table.len(), location.as_mut_ptr(), LOCATION_WORDS) }
     }
 
-    fn slack(&self, least: &mut i64, place: &mut [u64; PLACE_WORDS]) -> u32 {
+    fn slack(&self, least: &mut i64, location: &mut [u64; LOCATION_WORDS]) -> u32 {
         let table = &self.plain.table;
-        unsafe { gateway_slack(self.plan.as_ptr(), PLAN_WORDS, table.as_ptr(), table.len(), least, place.as_mut_ptr(), PLACE_WORDS) }
+        unsafe { gateway_slack(self.plan.as_ptr(), PLAN_WORDS, table.as_ptr(), table.len(), least, location.as_mut_ptr(), LOCATION_WORDS) }
     }
 
     fn step(&self, run: &mut [u32; RUN_WORDS], grants: &mut [u32; MOST_JOBS]) -> u32 {
@@ -215,28 +215,28 @@ fn measure_write(how: How, both: &Both) {
 
 fn measure_judge(how: How, both: &Both) {
     let plain = &both.plain;
-    let mut place = [0; PLACE_WORDS];
-    assert_eq!(both.judge(&mut place), 0);
+    let mut location = [0; LOCATION_WORDS];
+    assert_eq!(both.judge(&mut location), 0);
     assert_eq!(judge(&plain.plan, &plain.table), Verdict::Accepted);
     section(how, "judge", "plain", || {
         black_box(&judge(black_box(&plain.plan), black_box(&plain.table)));
     });
     section(how, "judge", "ours", || {
-        black_box(black_box(both).judge(black_box(&mut place)));
+        black_box(black_box(both).judge(black_box(&mut location)));
     });
 }
 
 fn measure_slack(how: How, both: &Both) {
     let plain = &both.plain;
-    let (mut least, mut place) = (0, [0; PLACE_WORDS]);
-    assert_eq!(both.slack(&mut least, &mut place), 0);
-    let ours = Slack::Least { slack: least, interval: place[0] as usize, deadline: place[1] as u32 };
+    let (mut least, mut location) = (0, [0; LOCATION_WORDS]);
+    assert_eq!(both.slack(&mut least, &mut location), 0);
+    let ours = Slack::Least { slack: least, interval: location[0] as usize, deadline: location[1] as u32 };
     assert_eq!(slack(&plain.plan, &plain.table), ours);
     section(how, "slack", "plain", || {
         black_box(&slack(black_box(&plain.plan), black_box(&plain.table)));
     });
     section(how, "slack", "ours", || {
-        black_box(black_box(both).slack(black_box(&mut least), black_box(&mut place)));
+        black_box(black_box(both).slack(black_box(&mut least), black_box(&mut location)));
     });
 }
 
@@ -366,23 +366,23 @@ fn stacks_of(both: &mut Both, speed: u64) -> [(u64, usize); 8] {
     let mut table = both.plain.table.clone();
     let mut out = vec![0_u8; LARGEST_FILE];
     let (mut written, mut least) = (0_usize, 0_i64);
-    let mut place = [0_u64; PLACE_WORDS];
+    let mut location = [0_u64; LOCATION_WORDS];
     let mut grants = [0_u32; MOST_JOBS];
     let mut fresh = both.run;
     let [file, file_length] = [both.plain.file.as_ptr() as u64, both.plain.file.len() as u64];
     let [words, cells] = [plan.as_mut_ptr() as u64, table.as_mut_ptr() as u64];
     let [plan_length, places, run_length] = [PLAN_WORDS, PLACES, RUN_WORDS].map(|length| length as u64);
     let in_hand = [words, plan_length, cells, places];
-    let place = [place.as_mut_ptr() as u64, PLACE_WORDS as u64];
+    let location = [location.as_mut_ptr() as u64, LOCATION_WORDS as u64];
     let run = [both.run.as_mut_ptr() as u64, run_length];
     let fresh = [fresh.as_mut_ptr() as u64, run_length];
     let out = [out.as_mut_ptr() as u64, LARGEST_FILE as u64, &mut written as *mut usize as u64];
     let grants = [grants.as_mut_ptr() as u64, MOST_JOBS as u64];
     let least = [&mut least as *mut i64 as u64];
     let write = stack_of(gateway_write as *const (), &[&in_hand[..], &out].concat());
-    let judge = stack_of(gateway_judge as *const (), &[&in_hand[..], &place].concat());
-    let slack = stack_of(gateway_slack as *const (), &[&in_hand[..], &least, &place].concat());
-    let start = stack_of(gateway_start as *const (), &[&in_hand[..], &fresh, &place].concat());
+    let judge = stack_of(gateway_judge as *const (), &[&in_hand[..], &location].concat());
+    let slack = stack_of(gateway_slack as *const (), &[&in_hand[..], &least, &location].concat());
+    let start = stack_of(gateway_start as *const (), &[&in_hand[..], &fresh, &location].concat());
     let step = stack_of(gateway_step as *const (), &[&in_hand[..], &run, &[speed], &grants].concat());
     let outcome = stack_of(gateway_outcome as *const (), &[&in_hand[..2], &run, &[0]].concat());
     let name = stack_of(gateway_name as *const (), &[file, file_length, 0]);

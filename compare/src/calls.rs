@@ -66,9 +66,9 @@ impl Both {
     }
 
     pub fn judge(&mut self, memory: &mut Memory) -> Result<u32, Difference> {
-        memory.place.renew();
+        memory.location.renew();
         let Memory {
-            plan, table, place, ..
+            plan, table, location, ..
         } = memory;
         let got = unsafe {
             gateway_judge(
@@ -76,22 +76,22 @@ impl Both {
                 plan.lent(),
                 table.archive(),
                 table.lent(),
-                place.archive_mut(),
-                place.lent(),
+                location.archive_mut(),
+                location.lent(),
             )
         };
-        let expected = model::judge(plan.model(), table.model(), place.model_mut());
-        self.end(Call::Judge, got, expected, &mut [plan, table, place])
+        let expected = model::judge(plan.model(), table.model(), location.model_mut());
+        self.end(Call::Judge, got, expected, &mut [plan, table, location])
     }
 
     pub fn slack(&mut self, memory: &mut Memory) -> Result<u32, Difference> {
         memory.slack.renew();
-        memory.place.renew();
+        memory.location.renew();
         let Memory {
             plan,
             table,
             slack,
-            place,
+            location,
             ..
         } = memory;
         let got = unsafe {
@@ -101,22 +101,22 @@ impl Both {
                 table.archive(),
                 table.lent(),
                 slack.archive_mut(),
-                place.archive_mut(),
-                place.lent(),
+                location.archive_mut(),
+                location.lent(),
             )
         };
         let figure = &mut slack.model_mut()[0];
-        let expected = model::slack(plan.model(), table.model(), figure, place.model_mut());
-        self.end(Call::Slack, got, expected, &mut [plan, table, slack, place])
+        let expected = model::slack(plan.model(), table.model(), figure, location.model_mut());
+        self.end(Call::Slack, got, expected, &mut [plan, table, slack, location])
     }
 
     pub fn start(&mut self, memory: &mut Memory) -> Result<u32, Difference> {
-        memory.place.renew();
+        memory.location.renew();
         let Memory {
             plan,
             table,
             run,
-            place,
+            location,
             ..
         } = memory;
         let got = unsafe {
@@ -127,13 +127,13 @@ impl Both {
                 table.lent(),
                 run.archive_mut(),
                 run.lent(),
-                place.archive_mut(),
-                place.lent(),
+                location.archive_mut(),
+                location.lent(),
             )
         };
-        let (run_words, place_words) = (run.model_mut(), place.model_mut());
-        let expected = model::start(plan.model(), table.model(), run_words, place_words);
-        self.end(Call::Start, got, expected, &mut [plan, table, run, place])
+        let (run_words, location_words) = (run.model_mut(), location.model_mut());
+        let expected = model::start(plan.model(), table.model(), run_words, location_words);
+        self.end(Call::Start, got, expected, &mut [plan, table, run, location])
     }
 
     pub fn step(&mut self, memory: &mut Memory, speed: u16) -> Result<u32, Difference> {

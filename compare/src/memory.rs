@@ -4,14 +4,14 @@ use reference::edition::{MOST_JOBS, TABLE_PLACES};
 use reference::generate::{Lent, Prng};
 
 use crate::buffer::Buffer;
-use crate::words::{JOB_COUNT, PLACE_WORDS, PLAN_WORDS, RUN_WORDS};
+use crate::words::{JOB_COUNT, LOCATION_WORDS, PLAN_WORDS, RUN_WORDS};
 
 pub struct Memory {
     pub plan: Buffer<u64>,
     pub table: Buffer<u32>,
     pub run: Buffer<u32>,
     pub grants: Buffer<u32>,
-    pub place: Buffer<u64>,
+    pub location: Buffer<u64>,
     pub out: Buffer<u8>,
     pub written: Buffer<usize>,
     pub slack: Buffer<i64>,
@@ -20,7 +20,7 @@ pub struct Memory {
 }
 
 impl Memory {
-    /// Known words everywhere; plan, run and place are as long as they must be, or longer.
+    /// Known words everywhere; plan, run and location are as long as they must be, or longer.
     pub fn known(prng: &mut Prng, lent: &Lent) -> Memory {
         let mut spare = || prng.pick(&[0, 0, 1, 5]);
         Memory {
@@ -28,7 +28,7 @@ impl Memory {
             table: Buffer::known("table", lent.table),
             run: Buffer::known("run", RUN_WORDS + spare()),
             grants: Buffer::known("grants", lent.grants),
-            place: Buffer::known("place", PLACE_WORDS + spare()),
+            location: Buffer::known("location", LOCATION_WORDS + spare()),
             out: Buffer::known("out", lent.output),
             written: Buffer::known("written", 1),
             slack: Buffer::known("slack", 1),
@@ -52,7 +52,7 @@ impl Memory {
         self.table.lend_all();
         self.run.lend_all();
         self.grants.lend_all();
-        self.place.lend_all();
+        self.location.lend_all();
         self.out.lend_all();
     }
 
@@ -70,7 +70,7 @@ impl Memory {
             self.run.lend(RUN_WORDS);
         }
         if prng.once_in(2) {
-            self.place.lend(PLACE_WORDS);
+            self.location.lend(LOCATION_WORDS);
         }
         if prng.once_in(2) {
             self.grants.lend(jobs);

@@ -10,7 +10,7 @@ use reference::slack::{slack_figure, SlackFigure};
 use reference::writer::writer;
 
 use crate::words::{plan_of, run_of, words_of_plan, words_of_run};
-use crate::words::{PLACE_WORDS, PLAN_WORDS, RUN_WORDS};
+use crate::words::{LOCATION_WORDS, PLAN_WORDS, RUN_WORDS};
 
 /// Results that are no refusals.
 pub const NONE_ESSENTIAL: u32 = 256;
@@ -46,46 +46,46 @@ pub fn write(plan: &[u64], table: &[u32], out: &mut [u8], written: &mut usize) -
     }
 }
 
-pub fn judge(plan: &[u64], table: &[u32], place: &mut [u64]) -> u32 {
-    if plan.len() < PLAN_WORDS || place.len() < PLACE_WORDS {
+pub fn judge(plan: &[u64], table: &[u32], location: &mut [u64]) -> u32 {
+    if plan.len() < PLAN_WORDS || location.len() < LOCATION_WORDS {
         return TOO_SHORT.into();
     }
     match judge_plan(&plan_of(plan), table) {
-        Ok(()) => put_place(place, &[], DONE.into()),
-        Err(refusal) => put_refusal(place, &refusal),
+        Ok(()) => put_location(location, &[], DONE.into()),
+        Err(refusal) => put_refusal(location, &refusal),
     }
 }
 
-pub fn slack(plan: &[u64], table: &[u32], slack: &mut i64, place: &mut [u64]) -> u32 {
-    if plan.len() < PLAN_WORDS || place.len() < PLACE_WORDS {
+pub fn slack(plan: &[u64], table: &[u32], slack: &mut i64, location: &mut [u64]) -> u32 {
+    if plan.len() < PLAN_WORDS || location.len() < LOCATION_WORDS {
         return TOO_SHORT.into();
     }
     *slack = 0;
     match slack_figure(&plan_of(plan), table) {
-        Ok(SlackFigure::NoneEssential) => put_place(place, &[], NONE_ESSENTIAL),
+        Ok(SlackFigure::NoneEssential) => put_location(location, &[], NONE_ESSENTIAL),
         Ok(SlackFigure::Least {
             slack: least,
             interval,
             deadline,
         }) => {
             *slack = least;
-            put_place(place, &[interval, deadline.into()], DONE.into())
+            put_location(location, &[interval, deadline.into()], DONE.into())
         }
-        Err(refusal) => put_refusal(place, &refusal),
+        Err(refusal) => put_refusal(location, &refusal),
     }
 }
 
-pub fn start(plan: &[u64], table: &[u32], run: &mut [u32], place: &mut [u64]) -> u32 {
-    let too_short = plan.len() < PLAN_WORDS || run.len() < RUN_WORDS || place.len() < PLACE_WORDS;
+pub fn start(plan: &[u64], table: &[u32], run: &mut [u32], location: &mut [u64]) -> u32 {
+    let too_short = plan.len() < PLAN_WORDS || run.len() < RUN_WORDS || location.len() < LOCATION_WORDS;
     if too_short {
         return TOO_SHORT.into();
     }
     match start_run(&plan_of(plan), table) {
         Ok(started) => {
             run[..RUN_WORDS].copy_from_slice(&words_of_run(&started));
-            put_place(place, &[], DONE.into())
+            put_location(location, &[], DONE.into())
         }
-        Err(refusal) => put_refusal(place, &refusal),
+        Err(refusal) => put_refusal(location, &refusal),
     }
 }
 
@@ -119,13 +119,13 @@ pub fn outcome(plan: &[u64], run: &[u32], position: usize) -> u32 {
     }
 }
 
-/// Both words of a place: what is named, and 0 where nothing is.
-fn put_place(place: &mut [u64], named: &[u64], number: u32) -> u32 {
-    place[..PLACE_WORDS].fill(0);
-    place[..named.len()].copy_from_slice(named);
+/// Both words of a location: what is named, and 0 where nothing is.
+fn put_location(location: &mut [u64], named: &[u64], number: u32) -> u32 {
+    location[..LOCATION_WORDS].fill(0);
+    location[..named.len()].copy_from_slice(named);
     number
 }
 
-fn put_refusal(place: &mut [u64], refusal: &Refusal) -> u32 {
-    put_place(place, &refusal.places, refusal.number.into())
+fn put_refusal(location: &mut [u64], refusal: &Refusal) -> u32 {
+    put_location(location, &refusal.places, refusal.number.into())
 }

@@ -7,7 +7,7 @@ use crate::both::{Both, Difference};
 use crate::buffer::Buffer;
 use crate::memory::Memory;
 use crate::tally::Call;
-use crate::words::{PLACE_WORDS, PLAN_WORDS, RUN_WORDS};
+use crate::words::{LOCATION_WORDS, PLAN_WORDS, RUN_WORDS};
 
 /// The buffers that have a least length.
 #[derive(Clone, Copy, Debug, PartialEq, Eq)]
@@ -16,7 +16,7 @@ pub enum Which {
     Table,
     Run,
     Grants,
-    Place,
+    Location,
     Out,
 }
 
@@ -27,14 +27,14 @@ pub const SHORTS: [(Call, Which); 19] = [
     (Call::Write, Which::Out),
     (Call::Judge, Which::Plan),
     (Call::Judge, Which::Table),
-    (Call::Judge, Which::Place),
+    (Call::Judge, Which::Location),
     (Call::Slack, Which::Plan),
     (Call::Slack, Which::Table),
-    (Call::Slack, Which::Place),
+    (Call::Slack, Which::Location),
     (Call::Start, Which::Plan),
     (Call::Start, Which::Table),
     (Call::Start, Which::Run),
-    (Call::Start, Which::Place),
+    (Call::Start, Which::Location),
     (Call::Step, Which::Plan),
     (Call::Step, Which::Table),
     (Call::Step, Which::Run),
@@ -91,7 +91,7 @@ fn lend_short(prng: &mut Prng, memory: &mut Memory, which: Which) -> bool {
         Which::Table => TABLE_PLACES,
         Which::Run => RUN_WORDS,
         Which::Grants => memory.jobs(),
-        Which::Place => PLACE_WORDS,
+        Which::Location => LOCATION_WORDS,
         Which::Out => memory.exact,
     };
     if needed == 0 {
@@ -107,7 +107,7 @@ fn lend_short(prng: &mut Prng, memory: &mut Memory, which: Which) -> bool {
         Which::Table => memory.table.lend(length),
         Which::Run => memory.run.lend(length),
         Which::Grants => memory.grants.lend(length),
-        Which::Place => memory.place.lend(length),
+        Which::Location => memory.location.lend(length),
         Which::Out => memory.out.lend(length),
     }
     true

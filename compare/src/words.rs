@@ -29,7 +29,7 @@ pub const MARK_WORDS: usize = 3;
 pub const RUN_WORDS: usize = MARK_WORDS + MOST_JOBS;
 
 /// What a refusal names.
-pub const PLACE_WORDS: usize = 2;
+pub const LOCATION_WORDS: usize = 2;
 
 /// Where the words of a job begin.
 pub fn job_at(position: usize) -> usize {

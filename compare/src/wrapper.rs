@@ -3,7 +3,7 @@
 //! It lends buffers of its own that are long enough. A call that was refused for a short one has
 //! nothing to be compared with.
 
-use gateway::{Grade, Job, Outcome, Place, Plan, Refusal, Run};
+use gateway::{Grade, Job, Outcome, Location, Plan, Refusal, Run};
 use reference::edition::{HI, LO, MOST_INTERVALS, NAME_BYTES, TABLE_PLACES};
 use reference::refusal::{DONE, TOO_SHORT};
 
@@ -13,7 +13,7 @@ use crate::memory::Memory;
 use crate::model::{DISCARDED, MET, MISSED, NONE_ESSENTIAL, OPEN};
 use crate::tally::Call;
 use crate::words::{
-    job_at, DEADLINE, FLOOR, GRADE, JOB_COUNT, MARK_WORDS, NAME, NORMAL_RATE, PLACE_WORDS, RELEASE,
+    job_at, DEADLINE, FLOOR, GRADE, JOB_COUNT, MARK_WORDS, NAME, NORMAL_RATE, LOCATION_WORDS, RELEASE,
     RUN_WORDS, SIZE,
 };
 
@@ -32,21 +32,21 @@ fn number_of<T>(result: &Result<T, Refusal>) -> u64 {
     }
 }
 
-/// Number and place of a refusal; the place is two zeros where none is named.
+/// Number and location of a refusal; the location is two zeros where none is named.
 fn refusal_words(refusal: &Refusal) -> Vec<u64> {
-    let (first, second) = match refusal.place() {
-        Place::Nowhere => (0, 0),
-        Place::JobAndInterval(job, interval) => (job as u64, interval as u64),
-        Place::Job(job) => (job as u64, 0),
-        Place::Interval(interval) => (interval as u64, 0),
-        Place::IntervalAndDeadline(interval, deadline) => (interval as u64, deadline.into()),
+    let (first, second) = match refusal.location() {
+        Location::Nowhere => (0, 0),
+        Location::JobAndInterval(job, interval) => (job as u64, interval as u64),
+        Location::Job(job) => (job as u64, 0),
+        Location::Interval(interval) => (interval as u64, 0),
+        Location::IntervalAndDeadline(interval, deadline) => (interval as u64, deadline.into()),
     };
     vec![refusal.number().into(), first, second]
 }
 
 fn place_words(number: u32, memory: &Memory) -> Vec<u64> {
-    let place = &memory.place.contents()[..PLACE_WORDS];
-    [&[number.into()], place].concat()
+    let location = &memory.location.contents()[..LOCATION_WORDS];
+    [&[number.into()], location].concat()
 }
 
 /// The clock, both marks, and the units carried.

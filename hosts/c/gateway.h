@@ -54,9 +54,9 @@ extern "C" {
 #define GATEWAY_BELOW_FLOOR 2
 #define GATEWAY_CARRIED(i) (GATEWAY_MARK_WORDS + (size_t)(i))
 
-/* A place has two words of 64 bits: with 15 job and interval, with 16 job and 0, with 17 interval and 0, with 18 interval and deadline,
+/* A location has two words of 64 bits: with 15 job and interval, with 16 job and 0, with 17 interval and 0, with 18 interval and deadline,
  * with any other answer of judge and start 0 and 0. */
-#define GATEWAY_PLACE_WORDS 2
+#define GATEWAY_LOCATION_WORDS 2
 
 enum gateway_refusal {
     GATEWAY_DONE = 0,
@@ -109,20 +109,20 @@ uint32_t gateway_write(const uint64_t *plan, size_t plan_length, const uint32_t 
 size_t gateway_name(const uint8_t *file, size_t file_length, size_t position);
 
 /* Judges a plan.
- * In: plan and table. Out: the place of the fault. Answers 0 (accepted), 22, 21, 15, 16, 17 or 18.
- * 22 for plan or place: place stays. Any other answer: both words of place are written. */
-uint32_t gateway_judge(const uint64_t *plan, size_t plan_length, const uint32_t *table, size_t table_length, uint64_t *place, size_t place_length);
+ * In: plan and table. Out: the location of the fault. Answers 0 (accepted), 22, 21, 15, 16, 17 or 18.
+ * 22 for plan or location: location stays. Any other answer: both words of location are written. */
+uint32_t gateway_judge(const uint64_t *plan, size_t plan_length, const uint32_t *table, size_t table_length, uint64_t *location, size_t location_length);
 
 /* The slack figure of a plan.
- * In: plan and table. Out: with 0, the least slack in *slack (below zero when the plan falls short), and its interval and deadline in place.
+ * In: plan and table. Out: with 0, the least slack in *slack (below zero when the plan falls short), and its interval and deadline in location.
  * Answers 0, GATEWAY_NONE_ESSENTIAL, or what gateway_judge answers but for 18.
- * 22 for plan or place: *slack and place stay. Any other refusal: *slack is 0, place as with gateway_judge. None essential: all are 0. */
-uint32_t gateway_slack(const uint64_t *plan, size_t plan_length, const uint32_t *table, size_t table_length, int64_t *slack, uint64_t *place, size_t place_length);
+ * 22 for plan or location: *slack and location stay. Any other refusal: *slack is 0, location as with gateway_judge. None essential: all are 0. */
+uint32_t gateway_slack(const uint64_t *plan, size_t plan_length, const uint32_t *table, size_t table_length, int64_t *slack, uint64_t *location, size_t location_length);
 
 /* Judges a plan, and starts its run if it is accepted.
- * In: plan and table. Out: the run (its clock is the first release, all else in it is 0), and place as with gateway_judge.
- * 22 for plan, run or place: nothing is touched. Any other refusal: run stays. */
-uint32_t gateway_start(const uint64_t *plan, size_t plan_length, const uint32_t *table, size_t table_length, uint32_t *run, size_t run_length, uint64_t *place, size_t place_length);
+ * In: plan and table. Out: the run (its clock is the first release, all else in it is 0), and location as with gateway_judge.
+ * 22 for plan, run or location: nothing is touched. Any other refusal: run stays. */
+uint32_t gateway_start(const uint64_t *plan, size_t plan_length, const uint32_t *table, size_t table_length, uint32_t *run, size_t run_length, uint64_t *location, size_t location_length);
 
 /* Carries one slot at a speed in units.
  * In: plan, table, run and speed. Out: the run, advanced in place, and for each job its grant. Answers 0, 22, 21, 19 or 20.

@@ -14,7 +14,7 @@ static uint64_t plan[GATEWAY_PLAN_WORDS];
 static uint32_t table[GATEWAY_TABLE_PLACES];
 static uint32_t run[GATEWAY_RUN_WORDS];
 static uint32_t grants[GATEWAY_MOST_JOBS];
-static uint64_t place[GATEWAY_PLACE_WORDS];
+static uint64_t location[GATEWAY_LOCATION_WORDS];
 
 /* The file ends where its length field says, or at the largest file's length if that is earlier. */
 static size_t read_file(void)
@@ -90,7 +90,7 @@ static int night(void)
     size_t length = read_file();
     uint32_t refused = gateway_read(file, length, plan, GATEWAY_PLAN_WORDS, table, GATEWAY_TABLE_PLACES);
     if (refused == GATEWAY_DONE)
-        refused = gateway_start(plan, GATEWAY_PLAN_WORDS, table, GATEWAY_TABLE_PLACES, run, GATEWAY_RUN_WORDS, place, GATEWAY_PLACE_WORDS);
+        refused = gateway_start(plan, GATEWAY_PLAN_WORDS, table, GATEWAY_TABLE_PLACES, run, GATEWAY_RUN_WORDS, location, GATEWAY_LOCATION_WORDS);
     if (refused != GATEWAY_DONE) {
         printf("refused %u\n", (unsigned)refused);
         return 0;
@@ -106,8 +106,8 @@ static int night(void)
 
 static void print_verdict(uint32_t refused)
 {
-    unsigned first = (unsigned)place[0];
-    unsigned second = (unsigned)place[1];
+    unsigned first = (unsigned)location[0];
+    unsigned second = (unsigned)location[1];
     switch (refused) {
     case GATEWAY_DONE:
         puts("accepted");
@@ -132,9 +132,9 @@ static void print_verdict(uint32_t refused)
 static void print_slack(void)
 {
     int64_t slack;
-    uint32_t answer = gateway_slack(plan, GATEWAY_PLAN_WORDS, table, GATEWAY_TABLE_PLACES, &slack, place, GATEWAY_PLACE_WORDS);
+    uint32_t answer = gateway_slack(plan, GATEWAY_PLAN_WORDS, table, GATEWAY_TABLE_PLACES, &slack, location, GATEWAY_LOCATION_WORDS);
     if (answer == GATEWAY_DONE)
-        printf("slack %lld at interval %u, deadline %u\n", (long long)slack, (unsigned)place[0], (unsigned)place[1]);
+        printf("slack %lld at interval %u, deadline %u\n", (long long)slack, (unsigned)location[0], (unsigned)location[1]);
     else
         puts(answer == GATEWAY_NONE_ESSENTIAL ? "slack: no job is essential" : "slack: none, for the same reason");
 }
@@ -155,7 +155,7 @@ static int check(void)
         print_verdict(refused);
         return 1;
     }
-    refused = gateway_judge(plan, GATEWAY_PLAN_WORDS, table, GATEWAY_TABLE_PLACES, place, GATEWAY_PLACE_WORDS);
+    refused = gateway_judge(plan, GATEWAY_PLAN_WORDS, table, GATEWAY_TABLE_PLACES, location, GATEWAY_LOCATION_WORDS);
     print_verdict(refused);
     print_slack();
     print_written(length);

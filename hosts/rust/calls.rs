@@ -9,16 +9,16 @@ pub const MARK_WORDS: usize = 3;
 
 pub const PLAN_WORDS: usize = HEAD_WORDS + JOB_WORDS * MOST_JOBS;
 pub const RUN_WORDS: usize = MARK_WORDS + MOST_JOBS;
-pub const PLACE_WORDS: usize = 2;
+pub const LOCATION_WORDS: usize = 2;
 
 #[link(name = "gateway", kind = "static")]
 extern "C" {
     pub fn gateway_read(file: *const u8, file_length: usize, plan: *mut u64, plan_length: usize, table: *mut u32, table_length: usize) -> u32;
     pub fn gateway_write(plan: *const u64, plan_length: usize, table: *const u32, table_length: usize, out: *mut u8, out_length: usize, written: *mut usize) -> u32;
     pub fn gateway_name(file: *const u8, file_length: usize, position: usize) -> usize;
-    pub fn gateway_judge(plan: *const u64, plan_length: usize, table: *const u32, table_length: usize, place: *mut u64, place_length: usize) -> u32;
-    pub fn gateway_slack(plan: *const u64, plan_length: usize, table: *const u32, table_length: usize, slack: *mut i64, place: *mut u64, place_length: usize) -> u32;
-    pub fn gateway_start(plan: *const u64, plan_length: usize, table: *const u32, table_length: usize, run: *mut u32, run_length: usize, place: *mut u64, place_length: usize) -> u32;
+    pub fn gateway_judge(plan: *const u64, plan_length: usize, table: *const u32, table_length: usize, location: *mut u64, location_length: usize) -> u32;
+    pub fn gateway_slack(plan: *const u64, plan_length: usize, table: *const u32, table_length: usize, slack: *mut i64, location: *mut u64, location_length: usize) -> u32;
+    pub fn gateway_start(plan: *const u64, plan_length: usize, table: *const u32, table_length: usize, run: *mut u32, run_length: usize, location: *mut u64, location_length: usize) -> u32;
     pub fn gateway_step(plan: *const u64, plan_length: usize, table: *const u32, table_length: usize, run: *mut u32, run_length: usize, speed: u16, grants: *mut u32, grants_length: usize) -> u32;
     pub fn gateway_outcome(plan: *const u64, plan_length: usize, run: *const u32, run_length: usize, position: usize) -> u32;
 }

@@ -1,6 +1,6 @@
 //! A safe wrapper over `libgateway.a`, without dependencies: plan files, judging and slots.
 //!
-//! A [`Plan`] and a [`Run`] own the memory that the library works on. Every refusal is a [`Refusal`] with its number, its place and its words.
+//! A [`Plan`] and a [`Run`] own the memory that the library works on. Every refusal is a [`Refusal`] with its number, its location and its words.
 
 /// The bare calls, for a host that lends memory of its own.
 pub mod calls;
@@ -51,7 +51,7 @@ pub mod refusal {
 
 /// What a refusal names beside its number.
 #[derive(Clone, Copy, Debug, PartialEq, Eq)]
-pub enum Place {
+pub enum Location {
     Nowhere,
     JobAndInterval(usize, usize),
     Job(usize),
@@ -59,36 +59,36 @@ pub enum Place {
     IntervalAndDeadline(usize, u32),
 }
 
-/// A refusal: its number, and the place that it names.
+/// A refusal: its number, and the location that it names.
 #[derive(Clone, Copy, Debug, PartialEq, Eq)]
 pub struct Refusal {
     number: u8,
-    place: Place,
+    location: Location,
 }
 
 impl Refusal {
-    fn new(number: u32, place: [u64; PLACE_WORDS]) -> Refusal {
+    fn new(number: u32, location: [u64; LOCATION_WORDS]) -> Refusal {
         let number = number as u8;
-        let place = match number {
-            refusal::OUTSIDE_WINDOW => Place::JobAndInterval(place[0] as usize, place[1] as usize),
-            refusal::WRONG_TOTAL => Place::Job(place[0] as usize),
-            refusal::OVER_CAPACITY => Place::Interval(place[0] as usize),
-            refusal::BELOW_FLOOR_RULE => Place::IntervalAndDeadline(place[0] as usize, place[1] as u32),
-            _ => Place::Nowhere,
+        let location = match number {
+            refusal::OUTSIDE_WINDOW => Location::JobAndInterval(location[0] as usize, location[1] as usize),
+            refusal::WRONG_TOTAL => Location::Job(location[0] as usize),
+            refusal::OVER_CAPACITY => Location::Interval(location[0] as usize),
+            refusal::BELOW_FLOOR_RULE => Location::IntervalAndDeadline(location[0] as usize, location[1] as u32),
+            _ => Location::Nowhere,
         };
-        Refusal { number, place }
+        Refusal { number, location }
     }
 
     fn nowhere(number: u8) -> Refusal {
-        Refusal { number, place: Place::Nowhere }
+        Refusal { number, location: Location::Nowhere }
     }
 
     pub fn number(&self) -> u8 {
         self.number
     }
 
-    pub fn place(&self) -> Place {
-        self.place
+    pub fn location(&self) -> Location {
+        self.location
     }
 
     /// What the number says.
@@ -124,12 +124,12 @@ impl Refusal {
 impl fmt::Display for Refusal {
     fn fmt(&self, f: &mut fmt::Formatter<'_>) -> fmt::Result {
         write!(f, "refused {}: {}", self.number, self.words())?;
-        match self.place {
-            Place::Nowhere => Ok(()),
-            Place::JobAndInterval(job, interval) => write!(f, " (job {job}, interval {interval})"),
-            Place::Job(job) => write!(f, " (job {job})"),
-            Place::Interval(interval) => write!(f, " (interval {interval})"),
-            Place::IntervalAndDeadline(interval, deadline) => write!(f, " (interval {interval}, deadline {deadline})"),
+        match self.location {
+            Location::Nowhere => Ok(()),
+            Location::JobAndInterval(job, interval) => write!(f, " (job {job}, interval {interval})"),
+            Location::Job(job) => write!(f, " (job {job})"),
+            Location::Interval(interval) => write!(f, " (interval {interval})"),
+            Location::IntervalAndDeadline(interval, deadline) => write!(f, " (interval {interval}, deadline {deadline})"),
         }
     }
 }
@@ -212,32 +212,32 @@ impl Plan {
 
     /// Whether the plan is accepted.
     pub fn judge(&self) -> Result<(), Refusal> {
-        let mut place = [0; PLACE_WORDS];
-        // SAFETY: each pointer is valid for the length beside it; place is fresh.
-        let number = unsafe { gateway_judge(self.words.as_ptr(), PLAN_WORDS, self.table.as_ptr(), TABLE_PLACES, place.as_mut_ptr(), PLACE_WORDS) };
-        if number == DONE { Ok(()) } else { Err(Refusal::new(number, place)) }
+        let mut location = [0; LOCATION_WORDS];
+        // SAFETY: each pointer is valid for the length beside it; location is fresh.
+        let number = unsafe { gateway_judge(self.words.as_ptr(), PLAN_WORDS, self.table.as_ptr(), TABLE_PLACES, location.as_mut_ptr(), LOCATION_WORDS) };
+        if number == DONE { Ok(()) } else { Err(Refusal::new(number, location)) }
     }
 
     /// The slack figure; none for a plan without essential jobs.
     pub fn slack(&self) -> Result<Option<Slack>, Refusal> {
-        let mut place = [0; PLACE_WORDS];
+        let mut location = [0; LOCATION_WORDS];
         let mut units = 0;
-        // SAFETY: each pointer is valid for the length beside it; place and units are fresh.
-        let number = unsafe { gateway_slack(self.words.as_ptr(), PLAN_WORDS, self.table.as_ptr(), TABLE_PLACES, &mut units, place.as_mut_ptr(), PLACE_WORDS) };
+        // SAFETY: each pointer is valid for the length beside it; location and units are fresh.
+        let number = unsafe { gateway_slack(self.words.as_ptr(), PLAN_WORDS, self.table.as_ptr(), TABLE_PLACES, &mut units, location.as_mut_ptr(), LOCATION_WORDS) };
         match number {
-            DONE => Ok(Some(Slack { units, interval: place[0] as usize, deadline: place[1] as u32 })),
+            DONE => Ok(Some(Slack { units, interval: location[0] as usize, deadline: location[1] as u32 })),
             NONE_ESSENTIAL => Ok(None),
-            _ => Err(Refusal::new(number, place)),
+            _ => Err(Refusal::new(number, location)),
         }
     }
 
     /// Judges the plan, and starts its run.
     pub fn start(&self) -> Result<Run, Refusal> {
         let mut run = Run { words: [0; RUN_WORDS] };
-        let mut place = [0; PLACE_WORDS];
-        // SAFETY: each pointer is valid for the length beside it; run and place are fresh.
-        let number = unsafe { gateway_start(self.words.as_ptr(), PLAN_WORDS, self.table.as_ptr(), TABLE_PLACES, run.words.as_mut_ptr(), RUN_WORDS, place.as_mut_ptr(), PLACE_WORDS) };
-        if number == DONE { Ok(run) } else { Err(Refusal::new(number, place)) }
+        let mut location = [0; LOCATION_WORDS];
+        // SAFETY: each pointer is valid for the length beside it; run and location are fresh.
+        let number = unsafe { gateway_start(self.words.as_ptr(), PLAN_WORDS, self.table.as_ptr(), TABLE_PLACES, run.words.as_mut_ptr(), RUN_WORDS, location.as_mut_ptr(), LOCATION_WORDS) };
+        if number == DONE { Ok(run) } else { Err(Refusal::new(number, location)) }
     }
 
     pub fn job_count(&self) -> usize {

@@ -2,7 +2,7 @@
 //! With `--check` it reads a plan file alone, and says whether the plan is accepted, how much slack it has, and whether it is written again
 //! as the same file. Then the exit status is 0 for an accepted plan and 1 for any other.
 
-use gateway::{Outcome, Place, Plan, Refusal, Run, LARGEST_FILE};
+use gateway::{Outcome, Location, Plan, Refusal, Run, LARGEST_FILE};
 use std::io::{self, Read, Write};
 use std::process::ExitCode;
 
@@ -79,12 +79,12 @@ fn verdict_line(verdict: Result<(), Refusal>) -> String {
         Err(refusal) => refusal,
     };
     let number = refusal.number();
-    match refusal.place() {
-        Place::Nowhere => format!("refused {number}"),
-        Place::JobAndInterval(job, interval) => format!("refused {number} at job {job}, interval {interval}"),
-        Place::Job(job) => format!("refused {number} at job {job}"),
-        Place::Interval(interval) => format!("refused {number} at interval {interval}"),
-        Place::IntervalAndDeadline(interval, deadline) => format!("refused {number} at interval {interval}, deadline {deadline}"),
+    match refusal.location() {
+        Location::Nowhere => format!("refused {number}"),
+        Location::JobAndInterval(job, interval) => format!("refused {number} at job {job}, interval {interval}"),
+        Location::Job(job) => format!("refused {number} at job {job}"),
+        Location::Interval(interval) => format!("refused {number} at interval {interval}"),
+        Location::IntervalAndDeadline(interval, deadline) => format!("refused {number} at interval {interval}, deadline {deadline}"),
     }
 }
 

@@ -7,23 +7,23 @@ use super::Cases;
 use crate::both::{Both, Difference};
 use crate::memory::Memory;
 use crate::words::{
-    job_at, DEADLINE, FLOOR, GRADE, JOB_COUNT, NAME, NORMAL_RATE, PLACE_WORDS, PLAN_WORDS, RELEASE,
+    job_at, DEADLINE, FLOOR, GRADE, JOB_COUNT, NAME, NORMAL_RATE, LOCATION_WORDS, PLAN_WORDS, RELEASE,
     RUN_WORDS, SIZE,
 };
 
-/// The words of a place, and those where nothing is named.
-type Place = [u64; 2];
-const NOWHERE: Place = [0, 0];
+/// The words of a location, and those where nothing is named.
+type Location = [u64; 2];
+const NOWHERE: Location = [0, 0];
 
 /// What the four calls have to answer: each its number, and then what it hands out.
 #[derive(Clone, Copy)]
 pub struct Answers {
     /// With the length of the file.
     pub write: (u32, usize),
-    /// With the place; start answers the same.
-    pub judge: (u32, Place),
-    /// With the figure and its place.
-    pub slack: (u32, i64, Place),
+    /// With the location; start answers the same.
+    pub judge: (u32, Location),
+    /// With the figure and its location.
+    pub slack: (u32, i64, Location),
 }
 
 struct PlanCase {
@@ -130,8 +130,8 @@ const TOO_SHORT: Answers = answers((22, 0), (22, NOWHERE), (22, 0, NOWHERE));
 
 pub const fn answers(
     write: (u32, usize),
-    judge: (u32, Place),
-    slack: (u32, i64, Place),
+    judge: (u32, Location),
+    slack: (u32, i64, Location),
 ) -> Answers {
     Answers {
         write,
@@ -140,25 +140,25 @@ pub const fn answers(
     }
 }
 
-fn place(memory: &Memory) -> Place {
-    [memory.place.contents()[0], memory.place.contents()[1]]
+fn location(memory: &Memory) -> Location {
+    [memory.location.contents()[0], memory.location.contents()[1]]
 }
 
 fn write(both: &mut Both, memory: &mut Memory) -> Result<(u32, usize), Difference> {
     Ok((both.write(memory)?, memory.written.contents()[0]))
 }
 
-fn judge(both: &mut Both, memory: &mut Memory) -> Result<(u32, Place), Difference> {
-    Ok((both.judge(memory)?, place(memory)))
+fn judge(both: &mut Both, memory: &mut Memory) -> Result<(u32, Location), Difference> {
+    Ok((both.judge(memory)?, location(memory)))
 }
 
-fn slack(both: &mut Both, memory: &mut Memory) -> Result<(u32, i64, Place), Difference> {
+fn slack(both: &mut Both, memory: &mut Memory) -> Result<(u32, i64, Location), Difference> {
     let number = both.slack(memory)?;
-    Ok((number, memory.slack.contents()[0], place(memory)))
+    Ok((number, memory.slack.contents()[0], location(memory)))
 }
 
-fn start(both: &mut Both, memory: &mut Memory) -> Result<(u32, Place), Difference> {
-    Ok((both.start(memory)?, place(memory)))
+fn start(both: &mut Both, memory: &mut Memory) -> Result<(u32, Location), Difference> {
+    Ok((both.start(memory)?, location(memory)))
 }
 
 /// Makes the four calls and holds each to its answer.
@@ -225,7 +225,7 @@ pub fn words(cases: &mut Cases) -> Result<(), String> {
     hold(cases, "rubbish from the count on", memory, OF_E)
 }
 
-/// A short table is found before an unsound plan; a short plan or place before everything.
+/// A short table is found before an unsound plan; a short plan or location before everything.
 pub fn shorts(cases: &mut Cases) -> Result<(), String> {
     let memory = &mut memory_of(&JOBS, &ROWS);
     memory.out.lend(END - 1);
@@ -241,11 +241,11 @@ pub fn shorts(cases: &mut Cases) -> Result<(), String> {
     cases.expect("plan too short to write", got, (22, 0))?;
     hold_untouched(cases, "plan too short", memory)?;
     memory.lend_all();
-    memory.place.lend(PLACE_WORDS - 1);
-    hold_untouched(cases, "place too short", memory)?;
+    memory.location.lend(LOCATION_WORDS - 1);
+    hold_untouched(cases, "location too short", memory)?;
     memory.lend_all();
     memory.run.lend(RUN_WORDS - 1);
-    let untouched = place(&memory_of(&JOBS, &ROWS));
+    let untouched = location(&memory_of(&JOBS, &ROWS));
     let got = start(&mut cases.both, memory);
     cases.expect("run too short", got, (22, untouched))
 }
@@ -253,7 +253,7 @@ pub fn shorts(cases: &mut Cases) -> Result<(), String> {
 /// Judge, slack and start are refused by 22 and hand out nothing.
 fn hold_untouched(cases: &mut Cases, name: &str, memory: &mut Memory) -> Result<(), String> {
     let fresh = memory_of(&JOBS, &ROWS);
-    let (untouched, figure) = (place(&fresh), fresh.slack.contents()[0]);
+    let (untouched, figure) = (location(&fresh), fresh.slack.contents()[0]);
     let got = judge(&mut cases.both, memory);
     cases.expect(name, got, (22, untouched))?;
     let got = slack(&mut cases.both, memory);

@@ -56,8 +56,8 @@ pub fn file(cases: &mut Cases) -> Result<(), String> {
     let got = cases.both.judge(memory);
     cases.expect("largest file, judged", got, 15)?;
     // The second job's window begins after the first interval.
-    let place = memory.place.contents()[..2].to_vec();
-    cases.expect("largest file, judged", Ok(place), vec![1, 0])?;
+    let location = memory.location.contents()[..2].to_vec();
+    cases.expect("largest file, judged", Ok(location), vec![1, 0])?;
     longer(cases, bytes)
 }
 

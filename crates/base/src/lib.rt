@@ -5,7 +5,7 @@ ghost use Rattle.base.specs.Sum.{sum, strided};
 
 // The number of k below `count` for which index start + stride × k is inside
 // a slice of length `len`.
-fn held(len: usize, start: usize, stride: usize, count: u32) -> u32
+fn count_inside(len: usize, start: usize, stride: usize, count: u32) -> u32
     ensures few { λ r. ⌜ r ≤ count ⌝ }
     ensures inside { λ r. ⌜ ((k : ℕ) → k < r → start + stride * k < len) ⌝ }
     ensures outside { λ r. ⌜ ((k : ℕ) → r ≤ k → k < count → len ≤ start + stride * k) ⌝ }
@@ -30,7 +30,7 @@ fn held(len: usize, start: usize, stride: usize, count: u32) -> u32
 pub fn sum_of(s: &[u32], start: usize, stride: usize, count: u32) -> u64
     ensures { λ r. ⌜ r ≡ sum (strided (now (s .entry)) start stride) count ⌝ }
 {
-    let inside = held(s.len(), start, stride, count);
+    let inside = count_inside(s.len(), start, stride, count);
     let mut total: u64 = 0;
     let mut k: u32 = 0;
     while k < inside {

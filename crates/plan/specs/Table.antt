@@ -1,12 +1,11 @@
 -- The table: a row of places for each job, one place per interval;
 -- and the soundness of a plan in hand.
-use mathlib.Core.Bool.{Bool, true, cond, _&&_, _||_}
+use mathlib.Core.Bool.{Bool, true, _&&_, _||_}
 use mathlib.Core.List.{List, [], _∷_}
 use Prim.Native.Nat.{ℕ, suc, _+_, _*_, _/_, _%_}
 use lib.Dec.{ltb, eqb}
 use lib.ListN.{getD, take}
 use Rattle.plan.specs.Kinds.{Amount, Interval, Position, Table}
-use Rattle.base.specs.Sum.{on}
 use Rattle.plan.specs.Edition.{mostIntervals, places}
 use Rattle.plan.specs.Rules.{rulesHold, counted}
 use Rattle.plan.specs.Boundaries.{intervals}
@@ -20,17 +19,9 @@ place width i j = width * i + j
 abbrev pub allotment : (width : ℕ) (table : Table) (i : Position) (j : Interval) → Amount
 allotment width table i j = getD table (place width i j) 0
 
--- The place of job i in interval j if both are in bounds, otherwise the first place past the table.
-abbrev pub placeIn : (jobs width : ℕ) (i : Position) (j : Interval) → ℕ
-placeIn jobs width i j = cond (ltb i jobs && ltb j width) (place width i j) (jobs * width)
-
--- The allotment of job i in interval j if both are in bounds, otherwise 0.
-abbrev pub allotmentIn : (jobs width : ℕ) (table : Table) (i : Position) (j : Interval) → Amount
-allotmentIn jobs width table i j = on (ltb i jobs && ltb j width) (allotment width table i j)
-
 -- Each number of the list, whose first is at place q, is 0 unless its job is below `jobs`
 -- and its interval below `spans`.
-unfoldable pub noStray : ℕ → ℕ → ℕ → ℕ → List ℕ → Bool
+unfoldable pub noStray : (width jobs spans q : ℕ) (cells : List ℕ) → Bool
 noStray width jobs spans q [] = true
 noStray width jobs spans q (u ∷ l) =
     (eqb u 0 || ltb (q / width) jobs && ltb (q % width) spans) && noStray width jobs spans (suc q) l

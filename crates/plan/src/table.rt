@@ -1,7 +1,6 @@
-// The places of the table, their allotments, and the soundness of a plan with its table.
+// The soundness of a plan with its table.
 use crate::edition::Edition;
 use crate::kinds::Plan;
-use crate::kinds::Units;
 use crate::rules::counted_of;
 use crate::rules::rules_hold;
 ghost use mathlib.Core.Path.{_≡_};
@@ -10,37 +9,7 @@ ghost use lib.Dec.{eqb};
 ghost use lib.ListN.{getD, take};
 ghost use Rattle.plan.specs.Edition.{mostJobs, mostIntervals, places};
 ghost use Rattle.plan.specs.Below.{every};
-ghost use Rattle.plan.specs.Table.{placeIn, allotmentIn, noStray, soundWithin};
-
-// The place of job i in interval j, or the first place past the table if i or j is out of bounds.
-pub fn place(i: usize, j: usize) -> usize
-    ensures { λ r. ⌜ r ≡ placeIn mostJobs mostIntervals i j ⌝ }
-{
-    if Edition::MOST_JOBS <= i {
-        return Edition::PLACES;
-    }
-    if Edition::MOST_INTERVALS <= j {
-        return Edition::PLACES;
-    }
-    Edition::MOST_INTERVALS * i + j
-}
-
-// The allotment of job i in interval j, or 0 if i, j or the place is out of bounds.
-pub fn allotment(table: &[u32], i: usize, j: usize) -> Units
-    ensures { λ r. ⌜ r ≡ record { 0 = allotmentIn mostJobs mostIntervals (now (table .entry)) i j } ⌝ }
-{
-    if Edition::MOST_JOBS <= i {
-        return Units(0);
-    }
-    if Edition::MOST_INTERVALS <= j {
-        return Units(0);
-    }
-    let at = Edition::MOST_INTERVALS * i + j;
-    if table.len() <= at {
-        return Units(0);
-    }
-    Units(table[at] as u64)
-}
+ghost use Rattle.plan.specs.Table.{noStray, soundWithin};
 
 // The lesser of a number and a bound.
 fn at_most(n: usize, most: usize) -> usize

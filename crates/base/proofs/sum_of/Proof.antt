@@ -30,8 +30,8 @@ Inv-loop s start stride count inside total₀ k₀ total k =
 abbrev μ-loop : tie.MeasureT-loop
 μ-loop s start stride count inside total₀ k₀ total k = inside - k
 
-held-requires : tie.Need-held-requires Inv-loop μ-loop
-held-requires c κs = search needs
+count-inside-requires : tie.Need-count-inside-requires Inv-loop μ-loop
+count-inside-requires c κs = search needs
 
 loop-holds : tie.Need-loop-holds Inv-loop μ-loop
 loop-holds c = (omega arith, sym (sum-start _), omega arith)
@@ -39,7 +39,7 @@ loop-holds c = (omega arith, sym (sum-start _), omega arith)
 at-inside : (c : tie.In-loop Inv-loop μ-loop)
     → c .before .before .before .before .args .start + c .before .before .before .before .args .stride * c .before .loop .k
     < length (c .before .before .before .before .args .s .now)
-at-inside c = c .before .before .held .ensures .1 .0 (c .before .loop .k) (omega arith)
+at-inside c = c .before .before .count-inside .ensures .1 .0 (c .before .loop .k) (omega arith)
 
 cast-at : tie.Need-cast-at Inv-loop μ-loop
 cast-at c = omega arith
@@ -85,10 +85,10 @@ loop-again c =
 returns : tie.Need-returns Inv-loop μ-loop
 returns c =
     let a = c .before .before .before .before .args in
-    let h = c .before .before .held .ensures in
-    let end : c .before .loop .k ≡ c .before .before .held .result = omega arith in
+    let h = c .before .before .count-inside .ensures in
+    let end : c .before .loop .k ≡ c .before .before .count-inside .result = omega arith in
     c .before .loop .inv .1 ∙ ap (sum (strided (a .s .now) (a .start) (a .stride))) end
-    ∙ inside-is-all (a .s .now) (a .start) (a .stride) (c .before .before .held .result) (a .count) (h .0) (h .1 .1)
+    ∙ inside-is-all (a .s .now) (a .start) (a .stride) (c .before .before .count-inside .result) (a .count) (h .0) (h .1 .1)
 
 pub sum-of-spec : {M : Type 1} → statement M
 sum-of-spec =
@@ -96,7 +96,7 @@ sum-of-spec =
     (tie.spec
     Inv-loop
     μ-loop
-    held-requires
+    count-inside-requires
     loop-holds
     cast-at
     mul-at

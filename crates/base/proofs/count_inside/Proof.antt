@@ -1,10 +1,10 @@
--- `base::held` meets its contract: a division gives the last index inside the slice.
+-- `base::count_inside` meets its contract: a division gives the last index inside the slice.
 use Prim.Native.Nat.{ℕ, _*_, _/_, _-_, _≤_, _<_}
 use native.Mathlib.Nat.{zero-mul, le-div-iff-mul-le, div-lt-iff-lt-mul}
 use native.Mathlib.Omega.{arith}
 use borrow.Author.Needs.{needs}
-use Rattle.base.proofs.held.Statement.{statement}
-use Rattle.base.proofs.held.Tie as tie
+use Rattle.base.proofs.count_inside.Statement.{statement}
+use Rattle.base.proofs.count_inside.Tie as tie
 
 -- If k is at most gap / stride, then stride × k is at most gap.
 near : (gap stride k : ℕ) → 0 < stride → k ≤ gap / stride → stride * k ≤ gap
@@ -58,7 +58,7 @@ returns-4 c =
       ),
     )
 
-pub held-spec : {M : Type 1} → statement M
-held-spec =
+pub count-inside-spec : {M : Type 1} → statement M
+count-inside-spec =
     tie.close
     (tie.spec returns returns-2 sub-most sub-most-2 div-most cast-result add-result returns-3 returns-4)
