@@ -1,3 +1,6 @@
+pub mod Logic
 pub mod SumLaws
 pub mod Choice
+pub mod Below
+pub mod Padding
 pub mod Stores

@@ -3,9 +3,9 @@ use mathlib.Core.Path.{_≡_, refl, sym, _∙_, ap, ap₂}
 use Prim.Native.Nat.{ℕ, zero, suc, _+_, _*_, _≤_, _<_}
 use native.Mathlib.Nat.{suc-mul, add-zero, add-suc}
 use native.Mathlib.Numerals.{add-one}
-use native.Mathlib.Decide.{decLt}
 use native.Mathlib.Omega.{arith}
 use Rattle.base.specs.Sum.{sum}
+use Rattle.base.proofs.Logic.{below-or-last}
 
 -- The empty sum is 0, and a sum of n + 1 terms is the sum of the first n plus term n.
 pub sum-start : (f : ℕ → ℕ) → sum f 0 ≡ 0
@@ -57,14 +57,6 @@ pub sum-swap : (f : ℕ → ℕ → ℕ) (m n : ℕ) → sum (λ i. sum (f i) m)
 unfolding sum
 sum-swap f m zero = sym (sum-none (λ j. 0) m (λ k l. refl))
 sum-swap f m (suc n) = ap (λ s. s + sum (f n) m) (sum-swap f m n) ∙ sym (sum-add (λ j. sum (λ i. f i j) n) (f n) m)
-
--- Case split: an index below n + 1 is below n or equal to n.
-pub below-or-last {ℓ} : {A : Type ℓ} (k n : ℕ) → k < suc n → (k < n → A) → (k ≡ n → A) → A
-below-or-last {A = A} k n l below last = go (decLt k n)
-  where
-    go : Dec (k < n) → A
-    go (yes p) = below p
-    go (no p) = last (omega arith)
 
 -- No term exceeds the sum.
 pub term-le : (f : ℕ → ℕ) (n k : ℕ) → k < n → f k ≤ sum f n

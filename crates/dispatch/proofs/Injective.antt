@@ -1,7 +1,7 @@
 -- The views are injective: answers with equal views are equal.
 use mathlib.Core.Path.{_≡_, refl, sym, _∙_, ap}
 use mathlib.Core.List.{[], _∷_}
-use Rattle.judge.specs.Verdict.{Report}
+use Rattle.plan.specs.Report.{Report}
 use Rattle.dispatch.specs.declared.answers.Answer.{Answer}
 use Rattle.dispatch.specs.declared.answers.Answer.the-variants as answer
 use Rattle.dispatch.specs.declared.answers.Outcome.{Outcome}

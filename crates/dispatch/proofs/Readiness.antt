@@ -10,7 +10,7 @@ use Rattle.plan.specs.Edition.{places}
 use Rattle.plan.specs.Rules.{counted}
 use Rattle.plan.specs.Boundaries.{lastDeadline, present}
 use Rattle.plan.specs.declared.kinds.Plan.{Plan}
-use Rattle.judge.specs.Verdict.{Report, isNone}
+use Rattle.plan.specs.Report.{Report, isNone}
 use Rattle.dispatch.specs.declared.Run.{Run}
 use Rattle.dispatch.specs.declared.soundness.Readiness.{Readiness}
 use Rattle.dispatch.specs.declared.soundness.Readiness.the-variants.{Unsound, Ended, Running}

@@ -11,19 +11,19 @@ use lib.Dec.{ltb, eqb}
 use lib.ListN.{length, getD, set, drop, replicate, length-set, length-append, length-replicate, length-drop}
 use lib.Seq.{getD-set-same, getD-set-other, getD-append-add, getD-drop, ext-getD}
 use Rattle.base.specs.Sum.{sum, on}
-use Rattle.base.proofs.SumLaws.{sum-ext, below-or-last}
+use Rattle.base.proofs.SumLaws.{sum-ext}
 use Rattle.plan.specs.Edition.{mostJobs, mostDeadline}
-use Rattle.plan.specs.Rules.{counted, deadline, isHi, boundsHold}
+use Rattle.plan.specs.Rules.{counted, deadline, isHi}
 use Rattle.plan.specs.declared.kinds.Plan.{Plan}
-use Rattle.plan.proofs.BoundaryOrder.{by-order}
 use Rattle.dispatch.specs.declared.Run.{Run}
 use Rattle.dispatch.specs.Dues.{carriedOf, slowAfter}
 use Rattle.dispatch.specs.Order.{queue}
 use Rattle.dispatch.specs.inner.Shares.{claim, before, share, capped, rankAt, rank, rowShare, filled}
 use Rattle.dispatch.specs.Step.{granted, added}
-use Rattle.dispatch.proofs.Queues.{if-less, queued, queue-queued, serve-absent, serve-length}
+use Rattle.dispatch.proofs.Queues.{queued, queue-queued, serve-absent, serve-length}
+use Rattle.base.proofs.Logic.{if-less, by-order, below-or-last}
 use Rattle.dispatch.proofs.Shares.{two-lines, granted-is-share}
-use Rattle.dispatch.proofs.SlotSoundness.{deadline-small}
+use Rattle.plan.proofs.Soundness.{Bounded}
 
 -- Filling a row entry by entry, as a loop does.
 pub filled-start : (f : ℕ → ℕ) (l : List ℕ) → filled f 0 l ≡ l
@@ -152,7 +152,7 @@ module _ (p : Plan) (table : List ℕ) (run : Run) (v : ℕ) where
   rankRow = filled (rank p) jobs (replicate mostJobs 0)
 
   -- The share computed from the rows of ranks and capped claims is the share.
-  pub share-from-rows : boundsHold p ≡ true → (i : ℕ) → i < jobs
+  pub share-from-rows : Bounded p → (i : ℕ) → i < jobs
       → rowShare rankRow cappedRow jobs v i ≡ share p table run v i
   unfolding share
   share-from-rows bounds i counts =
@@ -164,7 +164,7 @@ module _ (p : Plan) (table : List ℕ) (run : Run) (v : ℕ) where
       jobs
       (λ k l. ap₂ on
       (ap₂ ltb (filled-at (rank p) jobs (replicate mostJobs 0) k (room k l) l) (filled-at (rank p) jobs (replicate mostJobs 0) i (room i counts) counts)
-      ∙ sym (before-by-rank (isHi p k) (isHi p i) (deadline p k) (deadline p i) k i (deadline-small p bounds k l) (deadline-small p bounds i counts) (omega arith) (omega arith)))
+      ∙ sym (before-by-rank (isHi p k) (isHi p i) (deadline p k) (deadline p i) k i (bounds .deadlines k l) (bounds .deadlines i counts) (omega arith) (omega arith)))
       (filled-at (capped p table run (slowAfter p run v) v) jobs (replicate mostJobs 0) k (room k l) l)) in
       ap₂ (λ x s. min x (v - s)) own others
       ∙ capped-share (claims i) v _ ∙ ap (min (claims i)) (same-rest _ _ v (capped-sum (λ k. before p k i) claims v jobs))
@@ -205,7 +205,7 @@ module _ (p : Plan) (table : List ℕ) (run : Run) (v : ℕ) where
         (λ k inside below. granted-is-share p table run v grants k below) granted-rest
 
     -- What the code stores from its rows: the grants and the carried units of the rules.
-    module _ (bounds : boundsHold p ≡ true) (room : jobs ≤ length grants) {ranks rows : List ℕ} {n : ℕ} (by-ranks : ranks ≡ rankRow)
+    module _ (bounds : Bounded p) (room : jobs ≤ length grants) {ranks rows : List ℕ} {n : ℕ} (by-ranks : ranks ≡ rankRow)
         (by-rows : rows ≡ cappedRow) (by-count : n ≡ jobs) where
       pub stored-grants : {stored : List ℕ} → stored ≡ filled (rowShare ranks rows n v) n grants → stored ≡ granted p table run v grants
       stored-grants is =

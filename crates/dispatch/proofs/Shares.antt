@@ -18,7 +18,8 @@ use Rattle.dispatch.specs.Dues.{live, slowAfter, due}
 use Rattle.dispatch.specs.Order.{queue, order, serve}
 use Rattle.dispatch.specs.inner.Shares.{served, claim, ahead, share}
 use Rattle.dispatch.specs.Step.{granted}
-use Rattle.dispatch.proofs.Queues.{over, front, queued, gets, if-true, queue-in-order, queue-queued, queue-once, over-queue, front-queue, serve-absent, serve-gets, gets-share, serve-both, serve-length, first-get, all-get}
+use Rattle.dispatch.proofs.Queues.{over, front, queued, gets, queue-in-order, queue-queued, queue-once, over-queue, front-queue, serve-absent, serve-gets, gets-share, serve-both, serve-length, first-get, all-get}
+use Rattle.base.proofs.Logic.{if-true}
 
 -- The claims served before a HI job are those of the HI jobs that precede it.
 before-hi : (alive h slow b : Bool) (x : ℕ) → on (cond h b false) (on (alive && (h || not slow)) x) ≡ on (alive && h && b) x

@@ -9,7 +9,8 @@ use Rattle.base.proofs.Choice.{on-less}
 use Rattle.base.specs.Sum.{sum, on}
 use Rattle.plan.specs.Rules.{counted}
 use Rattle.plan.specs.declared.kinds.Plan.{Plan}
-use Rattle.judge.specs.Verdict.{Report, judged}
+use Rattle.judge.specs.Verdict.{judged}
+use Rattle.plan.specs.Report.{Report}
 use Rattle.dispatch.specs.declared.Run.{Run}
 use Rattle.dispatch.specs.Dues.{carriedOf, live, slowAfter, due}
 use Rattle.dispatch.specs.inner.Shares.{served, claim}

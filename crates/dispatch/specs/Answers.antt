@@ -5,7 +5,8 @@ use mathlib.Core.List.{List, [], _∷_}
 use Prim.Native.Nat.{ℕ}
 use Rattle.plan.specs.Kinds.{Position, Row, Speed, Table}
 use Rattle.plan.specs.declared.kinds.Plan.{Plan}
-use Rattle.judge.specs.Verdict.{Report, judged}
+use Rattle.judge.specs.Verdict.{judged}
+use Rattle.plan.specs.Report.{Report}
 use Rattle.judge.specs.Answers as verdict
 use Rattle.dispatch.specs.Step.{Ending, met, discarded, missed, stillOpen, refused, started, noRun, startFrom, stepped, outcome}
 use Rattle.dispatch.specs.declared.Run.{Run}

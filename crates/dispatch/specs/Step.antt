@@ -7,11 +7,12 @@ use lib.ListN.{length, getD, drop, replicate}
 use Rattle.plan.specs.Kinds.{Position, Row, Speed, Table, Time}
 use Rattle.plan.specs.Edition.{mostJobs, places}
 use Rattle.plan.specs.Refusal.{clockAtEnd, speedAboveNormal, unsound, bufferTooShort}
-use Rattle.plan.specs.Below.{every}
+use Rattle.base.specs.Below.{every}
 use Rattle.plan.specs.Rules.{counted, size, deadline, isHi, ratesHold, countHolds, gradesHold, boundsHold}
 use Rattle.plan.specs.Boundaries.{firstRelease, lastDeadline}
 use Rattle.plan.specs.declared.kinds.Plan.{Plan}
-use Rattle.judge.specs.Verdict.{Report, orElse, fault, judged}
+use Rattle.judge.specs.Verdict.{judged}
+use Rattle.plan.specs.Report.{Report, orElse, fault}
 use Rattle.dispatch.specs.declared.Run.{Run}
 use Rattle.dispatch.specs.Dues.{carriedOf, slowAfter, belowAfter, due}
 use Rattle.dispatch.specs.Order.{order, serve}
@@ -104,6 +105,14 @@ pub data Ending : Type 0 where
   missed : Ending
   stillOpen : Ending
   refused : ℕ → Ending
+
+-- The refusal that an outcome is, if it is one.
+abbrev pub endingReport : Ending → Report
+endingReport met = []
+endingReport discarded = []
+endingReport missed = []
+endingReport stillOpen = []
+endingReport (refused number) = number ∷ []
 
 -- The outcome of job i: 21 on the slot's grounds and for a position not below the count; otherwise
 -- the first that applies of met, discarded, missed and open.

@@ -16,7 +16,7 @@ ghost use mathlib.Core.Path.{_≡_};
 ghost use Prim.Native.Nat.{suc};
 ghost use lib.Dec.{leb};
 ghost use lib.ListN.{getD};
-ghost use Rattle.plan.specs.Below.{every};
+ghost use Rattle.base.specs.Below.{every};
 ghost use Rattle.plan.specs.Rules.{counted, size};
 ghost use Rattle.plan.specs.Boundaries.{present};
 ghost use Rattle.dispatch.specs.Step.{slotSound};

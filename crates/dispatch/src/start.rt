@@ -11,6 +11,7 @@ ghost use mathlib.Core.Path.{_≡_};
 ghost use mathlib.Core.Bool.{false};
 ghost use lib.ListN.{replicate};
 ghost use Rattle.plan.specs.Edition.{mostJobs};
+ghost use Rattle.dispatch.specs.Step.{noRun};
 ghost use Rattle.dispatch.specs.Answers.{Starts};
 
 // The result of a start; with a refusal the run is all zeros.
@@ -32,14 +33,21 @@ fn fresh(clock: Slots) -> Run
     }
 }
 
+// The run of no plan: all zeros.
+pub fn no_run() -> Run
+    ensures { λ r. ⌜ r ≡ noRun ⌝ }
+{
+    fresh(Slots(0))
+}
+
 // Judges a plan and starts its run if it is accepted.
 pub fn start(p: Plan, table: &[u32]) -> Started
     ensures { λ r. ⌜ Starts p (now (table .entry)) r ⌝ }
 {
     let verdict = judge(p, table);
     if !is_accepted(verdict) {
-        let none = fresh(Slots(0));
-        return Started { verdict, run: none };
+        let run = no_run();
+        return Started { verdict, run };
     }
     let run = fresh(first_release(p));
     Started { verdict, run }

@@ -24,7 +24,7 @@ use plan::refusal::UNSOUND;
 use plan::rules::counted_of;
 ghost use mathlib.Core.Path.{_≡_};
 ghost use lib.Dec.{ltb};
-ghost use Rattle.judge.specs.Verdict.{isNone};
+ghost use Rattle.plan.specs.Report.{isNone};
 ghost use Rattle.dispatch.specs.inner.Readiness.{faultBy};
 ghost use Rattle.dispatch.specs.Answers.{answerView, Steps};
 

@@ -8,12 +8,12 @@ use borrow.Author.Tests.{ltb-true, ltb-false}
 use lib.Dec.{ltb}
 use lib.ListN.{length}
 use Rattle.plan.specs.declared.kinds.Plan.{Plan}
-use Rattle.judge.specs.Verdict.{Report, isNone}
+use Rattle.plan.specs.Report.{Report, isNone}
 use Rattle.planfile.specs.Reader.{readFile, nameShown}
 use Rattle.planfile.specs.inner.Parts.{countOf}
 use Rattle.planfile.proofs.WholeFile.{shown-none}
 use Rattle.dispatch.specs.Step.{started}
-use Rattle.dispatch.proofs.Queues.{neither}
+use Rattle.base.proofs.Logic.{neither}
 use Rattle.hostmemory.specs.Memory.{runPut}
 use Rattle.gateway.specs.Calls.{startWords}
 

@@ -5,12 +5,12 @@ use mathlib.Core.List.{List, [], _∷_}
 use Prim.Native.Nat.{ℕ}
 use borrow.Author.Tests.{not-false}
 use Rattle.plan.specs.Refusal.{unsound, bufferTooShort}
-use Rattle.judge.specs.Verdict.{Report}
+use Rattle.plan.specs.Report.{Report, numberOf}
 use Rattle.dispatch.specs.Step.{SlotEffect, stepped}
 use Rattle.dispatch.proofs.SlotLimits.{refused-changes-nothing}
 use Rattle.hostmemory.specs.Memory.{shortPlan, shortRun, planOf, marksHold, runOf, runPut}
 use Rattle.hostmemory.proofs.RoundTrip.{run-again}
-use Rattle.gateway.specs.Calls.{HostStepEffect, numberOf, slotWords, stepCall}
+use Rattle.gateway.specs.Calls.{HostStepEffect, slotWords, stepCall}
 
 -- A step's call, by the results of its two tests.
 abbrev stepBy : Bool → Bool → SlotEffect → List ℕ → List ℕ → HostStepEffect

@@ -8,16 +8,13 @@ use lib.ListN.{length, set}
 use Rattle.plan.specs.Kinds.{Bytes, Position, Row, Speed, Table, Words}
 use Rattle.plan.specs.Refusal.{unsound, bufferTooShort}
 use Rattle.plan.specs.declared.kinds.Plan.{Plan}
-use Rattle.judge.specs.Verdict.{Report, judged}
+use Rattle.judge.specs.Verdict.{judged}
+use Rattle.plan.specs.Report.{Report, doneNumber, numberOf}
 use Rattle.judge.specs.Slack as slack
 use Rattle.planfile.specs.Reader.{ReadEffect, reader, nameAt, nameShown}
 use Rattle.planwriter.specs.Writing as writing
 use Rattle.dispatch.specs.Step.{SlotEffect, Ending, met, discarded, missed, stillOpen, refused, started, stepped, outcome}
 use Rattle.hostmemory.specs.Memory.{locationWords, shortPlan, shortRun, planOf, planPut, marksHold, runOf, runPut}
-
--- The number for no refusal; no refusal has it.
-abbrev pub doneNumber : ℕ
-doneNumber = 0
 
 -- The number for no HI job. Like those of the outcomes it is above
 -- every refusal number, which has one byte.
@@ -39,11 +36,6 @@ missedNumber = 259
 -- The job is open.
 abbrev pub openNumber : ℕ
 openNumber = 260
-
--- The number of a report: that of the refusal, or that of no refusal.
-abbrev pub numberOf : Report → ℕ
-numberOf [] = doneNumber
-numberOf (number ∷ places) = number
 
 -- The first part of a report's location: a job or an interval; 0 if it has none.
 abbrev pub firstOf : Report → ℕ

@@ -4,22 +4,17 @@ use dispatch::answers::Answer;
 use dispatch::answers::Outcome;
 use judge::answers::Slack;
 use judge::answers::Verdict;
-use plan::refusal::BELOW_FLOOR_RULE;
-use plan::refusal::BUFFER_TOO_SHORT;
-use plan::refusal::OUTSIDE_WINDOW;
-use plan::refusal::OVER_CAPACITY;
-use plan::refusal::UNSOUND;
-use plan::refusal::WRONG_TOTAL;
+use judge::answers::number_of;
+use plan::refusal::DONE;
 use planfile::reader::Answer as Reader;
 use planwriter::writer::Written;
 ghost use mathlib.Core.Path.{_≡_};
+ghost use Rattle.plan.specs.Report.{numberOf};
 ghost use Rattle.judge.specs.Answers.{verdictView, slackView};
 ghost use Rattle.planfile.specs.Answers as files;
 ghost use Rattle.planwriter.specs.Answers as written;
 ghost use Rattle.dispatch.specs.Answers as slots;
-ghost use Rattle.gateway.specs.Calls.{numberOf, firstOf, secondOf, endingNumber, figureNumber, figureSlack, figureFirst, figureSecond, writtenNumber, writtenLength};
-
-pub const DONE: u32 = 0;
+ghost use Rattle.gateway.specs.Calls.{firstOf, secondOf, endingNumber, figureNumber, figureSlack, figureFirst, figureSecond, writtenNumber, writtenLength};
 
 pub const NONE_ESSENTIAL: u32 = 256;
 
@@ -31,18 +26,10 @@ pub const MISSED: u32 = 259;
 
 pub const OPEN: u32 = 260;
 
-pub(crate) fn number_of(v: Verdict) -> u32
+pub(crate) fn verdict_number(v: Verdict) -> u32
     ensures { λ r. ⌜ r ≡ numberOf (verdictView v) ⌝ }
 {
-    match v {
-        Verdict::Accepted => DONE,
-        Verdict::BufferTooShort => BUFFER_TOO_SHORT as u32,
-        Verdict::Unsound => UNSOUND as u32,
-        Verdict::OutsideWindow(_, _) => OUTSIDE_WINDOW as u32,
-        Verdict::WrongTotal(_) => WRONG_TOTAL as u32,
-        Verdict::OverCapacity(_) => OVER_CAPACITY as u32,
-        Verdict::BelowFloor(_, _) => BELOW_FLOOR_RULE as u32,
-    }
+    number_of(v) as u32
 }
 
 // The first part of the location that a verdict names; 0 if it names none.
@@ -79,7 +66,7 @@ pub(crate) fn answer_number(a: Answer) -> u32
     ensures { λ r. ⌜ r ≡ numberOf (slots.answerView a) ⌝ }
 {
     match a {
-        Answer::Done => DONE,
+        Answer::Done => DONE as u32,
         Answer::Refused(number) => number as u32,
     }
 }
@@ -101,8 +88,8 @@ pub(crate) fn slack_number(s: Slack) -> u32
 {
     match s {
         Slack::NoneEssential => NONE_ESSENTIAL,
-        Slack::Least(_, _, _) => DONE,
-        Slack::Refused(v) => number_of(v),
+        Slack::Least(_, _, _) => DONE as u32,
+        Slack::Refused(v) => verdict_number(v),
     }
 }
 
@@ -142,7 +129,7 @@ pub(crate) fn read_number(a: Reader) -> u32
     ensures { λ r. ⌜ r ≡ numberOf (files.answerView a) ⌝ }
 {
     match a {
-        Reader::Read => DONE,
+        Reader::Read => DONE as u32,
         Reader::Refused(number) => number as u32,
     }
 }
@@ -151,7 +138,7 @@ pub(crate) fn written_number(w: Written) -> u32
     ensures { λ r. ⌜ r ≡ writtenNumber (written.writtenView w) ⌝ }
 {
     match w {
-        Written::Length(_) => DONE,
+        Written::Length(_) => DONE as u32,
         Written::Refused(number) => number as u32,
     }
 }

@@ -1,6 +1,6 @@
 // The judge's calls for hosts.
 use crate::answers::first_of;
-use crate::answers::number_of;
+use crate::answers::verdict_number;
 use crate::answers::second_of;
 use crate::answers::slack_figure;
 use crate::answers::slack_first;
@@ -24,7 +24,7 @@ pub extern "C" fn gateway_judge(plan: &[u64], table: &[u32], location: &mut [u64
     let verdict = judge(plan_of(plan), table);
     location[0] = first_of(verdict);
     location[1] = second_of(verdict);
-    number_of(verdict)
+    verdict_number(verdict)
 }
 
 // The slack figure of a plan and its table.

@@ -1,7 +1,7 @@
 // The calls for hosts on a run.
 use crate::answers::answer_number;
 use crate::answers::first_of;
-use crate::answers::number_of;
+use crate::answers::verdict_number;
 use crate::answers::outcome_number;
 use crate::answers::second_of;
 use dispatch::outcome::outcome;
@@ -53,7 +53,7 @@ pub extern "C" fn gateway_start(
     let verdict = start_in(run, plan_of(plan), table);
     location[0] = first_of(verdict);
     location[1] = second_of(verdict);
-    number_of(verdict)
+    verdict_number(verdict)
 }
 
 // Carries one slot at speed v: advances the lent run, and writes the grants to the lent row.

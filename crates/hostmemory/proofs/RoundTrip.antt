@@ -13,7 +13,7 @@ use lib.Seq.{sets, length-sets, take-at, take-suc, take-all, length-take-le, get
 use Rattle.plan.specs.Edition.{mostJobs}
 use Rattle.plan.specs.Rules.{jobOf, noJob}
 use Rattle.plan.specs.declared.kinds.Plan.{Plan}
-use Rattle.plan.proofs.Below.{both}
+use Rattle.base.proofs.Logic.{both}
 use Rattle.base.proofs.Stores.{sets-whole}
 use Rattle.dispatch.specs.declared.Run.{Run}
 use Rattle.dispatch.specs.Step.{noRun}

@@ -1,6 +1,7 @@
 // A run in the words that a host lends: decoding and encoding.
 use crate::sizes::Sizes;
 use dispatch::Run;
+use dispatch::start::no_run;
 use plan::edition::Edition;
 use plan::kinds::Slots;
 ghost use mathlib.Core.Path.{_≡_};
@@ -8,7 +9,6 @@ ghost use Prim.Native.Nat.{_≤_};
 ghost use lib.ListN.{length};
 ghost use lib.Seq.{sets};
 ghost use Rattle.plan.specs.Edition.{mostJobs};
-ghost use Rattle.dispatch.specs.Step.{noRun};
 ghost use Rattle.hostmemory.specs.Memory.{markWords, runWords, marksIn, marksHold, runIn, runOf, markOut, runOut};
 ghost use Rattle.hostmemory.specs.Answers.{PutsRun};
 
@@ -55,18 +55,6 @@ fn whole_run(words: &[u32]) -> Run
         clock,
         slow: words[1] == 1,
         below: words[2] == 1,
-        carried,
-    }
-}
-
-fn no_run() -> Run
-    ensures { λ r. ⌜ r ≡ noRun ⌝ }
-{
-    let carried = [0u32; Edition::MOST_JOBS];
-    Run {
-        clock: Slots(0),
-        slow: false,
-        below: false,
         carried,
     }
 }

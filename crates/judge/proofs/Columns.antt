@@ -13,8 +13,8 @@ use lib.ListN.{length, getD, set, length-set}
 use lib.Seq.{getD-set-same, getD-set-other}
 use Rattle.base.specs.Sum.{sum, on}
 use Rattle.base.proofs.SumLaws.{sum-ext, sum-none, sum-split, sum-start, sum-step}
-use Rattle.plan.proofs.Below.{every-at}
-use Rattle.plan.proofs.BoundaryOrder.{by-order}
+use Rattle.base.proofs.Below.{every-at}
+use Rattle.base.proofs.Logic.{by-order}
 use Rattle.plan.specs.Rules.{isAbsent}
 use Rattle.judge.specs.inner.Columns.{lowest, asksMore}
 

@@ -10,15 +10,17 @@ use lib.Dec.{ltb, eqb}
 use lib.ListN.{length}
 use Rattle.plan.specs.Edition.{places}
 use Rattle.plan.specs.Refusal.{outsideWindow, wrongTotal, overCapacity, belowFloorRule}
-use Rattle.plan.specs.Below.{every}
+use Rattle.base.specs.Below.{every}
 use Rattle.plan.specs.Rules.{counted, size}
 use Rattle.plan.specs.Boundaries.{boundary, intervals}
 use Rattle.plan.specs.Table.{sound}
 use Rattle.plan.specs.declared.kinds.Plan.{Plan}
-use Rattle.plan.proofs.Below.{every-ext, both, every-at, every-all}
+use Rattle.base.proofs.Below.{every-ext, every-at, every-all}
+use Rattle.base.proofs.Logic.{both}
 use Rattle.judge.specs.Constraints.{units, inWindow, intervalLength, total, load, demand, floorCapacity, Figure2}
-use Rattle.judge.specs.Verdict.{Report, orElse, fault, isNone, first, isOutside, isHiDeadline, isPair, fallsShort, outsideFault, totalFault, capacityFault, floorFault, handFault, constraintFault, judged}
-use Rattle.judge.proofs.Reports.{none-empty, empty-none, none-plain, none-fault, none-first, none-faults}
+use Rattle.judge.specs.Verdict.{isOutside, isHiDeadline, isPair, fallsShort, outsideFault, totalFault, capacityFault, floorFault, handFault, constraintFault, judged}
+use Rattle.plan.specs.Report.{Report, orElse, fault, isNone, first}
+use Rattle.plan.proofs.Reports.{none-empty, empty-none, none-plain, none-fault, none-first, none-faults}
 use Rattle.judge.proofs.HandFault.{hand-none, hand-sound}
 use Rattle.judge.proofs.HiDeadlinesSuffice.{hi-deadlines-are-enough}
 

@@ -9,18 +9,19 @@ use native.Mathlib.Omega.{arith}
 use borrow.Author.Tests.{ltb-true, ltb-false, lt-ltb, le-ltb, eqb-true, eqb-false, not-true, not-false}
 use lib.Dec.{ltb, eqb}
 use lib.ListN.{length}
-use Rattle.base.proofs.SumLaws.{below-or-last}
 use Rattle.plan.specs.Edition.{places}
 use Rattle.plan.specs.Refusal.{outsideWindow, wrongTotal, overCapacity, belowFloorRule, unsound, bufferTooShort}
 use Rattle.plan.specs.Rules.{counted, size}
 use Rattle.plan.specs.Boundaries.{boundary, intervals}
 use Rattle.plan.specs.Table.{sound}
 use Rattle.plan.specs.declared.kinds.Plan.{Plan}
-use Rattle.plan.proofs.Below.{both, every-at}
+use Rattle.base.proofs.Below.{every-at}
+use Rattle.base.proofs.Logic.{both, below-or-last}
 use Rattle.judge.specs.Constraints.{intervalLength, total, load, demand, floorCapacity}
-use Rattle.judge.specs.Verdict.{Report, orElse, fault, isNone, first, isOutside, isPair, fallsShort, outsideFault, totalFault, capacityFault, floorFault, handFault, constraintFault, judged}
+use Rattle.judge.specs.Verdict.{isOutside, isPair, fallsShort, outsideFault, totalFault, capacityFault, floorFault, handFault, constraintFault, judged}
+use Rattle.plan.specs.Report.{Report, orElse, fault, isNone, first}
 use Rattle.judge.specs.Decided.{InHand, InsideTo, TotalTo, WithinTo, Decided, short, bad, outside, wrong, over, below, accepted}
-use Rattle.judge.proofs.Reports.{none-empty, empty-none, none-plain, none-first, or-some, or-none}
+use Rattle.plan.proofs.Reports.{none-empty, empty-none, none-plain, none-first, or-some, or-none}
 use Rattle.judge.proofs.HandFault.{hand-sound}
 
 -- No number below n has a report; or k has one, no lesser number has, and it is the first report.

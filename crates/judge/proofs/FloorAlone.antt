@@ -15,10 +15,10 @@ use Rattle.base.proofs.SumLaws.{sum-mono, sum-none}
 use Rattle.plan.specs.Rules.{counted, release, deadline, size, isHi}
 use Rattle.plan.specs.Boundaries.{boundaries, boundary, intervals, come}
 use Rattle.plan.specs.declared.kinds.Plan.{Plan}
-use Rattle.plan.proofs.BoundaryOrder.{boundaries-rise, by-order}
+use Rattle.plan.proofs.BoundaryOrder.{boundaries-rise}
 use Rattle.plan.proofs.BoundaryCount.{come-few}
 use Rattle.plan.proofs.PresentInterval.{deadline-is-boundary}
-use Rattle.plan.proofs.Below.{both}
+use Rattle.base.proofs.Logic.{both, by-order}
 use Rattle.judge.specs.Constraints.{units, inWindow, unitsBetween, Figure2}
 use Rattle.judge.proofs.IncreasingTimes.{come-first}
 use Rattle.judge.proofs.HiDeadlinesSuffice.{boundary-less}

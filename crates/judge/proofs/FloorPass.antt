@@ -8,27 +8,30 @@ use Prim.Native.Nat.{ℕ, zero, suc, _+_, _*_, _-_, _≤_, _<_, min}
 use native.Mathlib.Nat.{zero-add, mul-le-mul-right}
 use native.Mathlib.Decide.{decLt}
 use native.Mathlib.Omega.{arith}
-use borrow.Author.Tests.{ltb-true, leb-true, lt-ltb, le-ltb, le-leb, lt-leb, eq-eqb, ne-eqb, not-false}
+use borrow.Author.Tests.{lt-ltb, le-ltb, le-leb, lt-leb, eq-eqb, ne-eqb, not-false}
 use lib.Dec.{leb, ltb, eqb}
 use lib.ListN.{length, getD, replicate}
 use Rattle.base.proofs.Choice.{on-and, on-sum}
 use Rattle.base.specs.Sum.{sum, on}
 use Rattle.base.proofs.SumLaws.{sum-ext, sum-add, sum-split, sum-swap, sum-none, sum-bound}
-use Rattle.plan.specs.Edition.{mostJobs, mostIntervals, mostDeadline, places}
+use Rattle.plan.specs.Edition.{mostJobs, mostIntervals, places}
 use Rattle.plan.specs.Refusal.{belowFloorRule}
-use Rattle.plan.specs.Below.{every}
-use Rattle.plan.specs.Rules.{isAbsent, counted, release, size, deadline, isHi, windowAllowed, sizeAllowed, boundsHold, rulesHold}
+use Rattle.base.specs.Below.{every}
+use Rattle.plan.specs.Rules.{isAbsent, counted, deadline, isHi, rulesHold}
 use Rattle.plan.specs.Boundaries.{boundaries, boundary, intervals}
 use Rattle.plan.specs.declared.kinds.Plan.{Plan}
-use Rattle.plan.proofs.BoundaryOrder.{by-order, boundaries-few}
-use Rattle.plan.proofs.Below.{every-start, every-next, every-ext, every-cut, every-all, every-at, both, greatest-attained}
+use Rattle.plan.proofs.BoundaryOrder.{boundaries-few}
+use Rattle.base.proofs.Below.{every-start, every-next, every-ext, every-cut, every-all, greatest-attained}
+use Rattle.base.proofs.Logic.{by-order}
 use Rattle.plan.proofs.PresentInterval.{deadline-is-boundary, last-boundary}
 use Rattle.judge.specs.Constraints.{units, demand}
 use Rattle.judge.specs.inner.Widths.{mostAtPlace}
-use Rattle.judge.specs.Verdict.{Report, fault, isNone, first, isHiDeadline, isPair, fallsShort, floorFault}
+use Rattle.judge.specs.Verdict.{isHiDeadline, isPair, fallsShort, floorFault}
+use Rattle.plan.specs.Report.{Report, fault, isNone, first}
 use Rattle.judge.specs.inner.Columns.{never, hiDeadline, asksMore, lowest}
-use Rattle.judge.proofs.HandFault.{zeros-at, rules-count, rules-bounds}
-use Rattle.judge.proofs.Reports.{none-empty, none-plain, none-first, first-found, found-here}
+use Rattle.plan.proofs.Soundness.{rules-bounded}
+use Rattle.base.proofs.Padding.{getD-replicate}
+use Rattle.plan.proofs.Reports.{none-empty, none-plain, none-first, first-found, found-here}
 use Rattle.base.proofs.Choice.{on-at-most}
 use Rattle.judge.proofs.Demand.{end-by-boundary, demand-is, early-pair, other-pair, true-pair}
 use Rattle.judge.proofs.HiDeadlinesSuffice.{boundary-less, deadline-before}
@@ -199,21 +202,15 @@ column-bound p table m j most =
 
 -- If rules 4 to 9 hold, every boundary is before `never`.
 early-boundary : (p : Plan) → rulesHold p ≡ true → (m : ℕ) → m ≤ intervals p → boundary p m < never
-unfolding boundsHold
 early-boundary p rules m h =
-    let some = rules-count p rules in
-    let last = greatest-attained (deadline p) (counted p) some in
-    let end = last-boundary p some (λ i b. ltb-true (release p i) (deadline p i) (both (ltb (release p i) (deadline p i)) (leb (deadline p i) mostDeadline) (window i b) .0)) in
+    let b = rules-bounded p rules in
+    let last = greatest-attained (deadline p) (counted p) (b .some) in
+    let end = last-boundary p (b .some) (b .windows) in
     let rises : boundary p m ≤ boundary p (intervals p)
     = by-order m (intervals p) (λ q. omega (arith, ap (boundary p) q))
     (λ q. omega (arith, boundary-less p m (intervals p) q (omega arith)))
     (λ q. absurd (omega arith)) in
-    omega (arith, leb-true (deadline p (last .0)) mostDeadline (both (ltb (release p (last .0)) (deadline p (last .0))) (leb (deadline p (last .0)) mostDeadline) (window (last .0) (last .1)) .1), last .2, end, rises)
-  where
-    window : (i : ℕ) → i < counted p → windowAllowed (release p i) (deadline p i) ≡ true
-    window i b =
-        both (windowAllowed (release p i) (deadline p i)) (sizeAllowed (size p i))
-        (every-at (λ k. windowAllowed (release p k) (deadline p k) && sizeAllowed (size p k)) (counted p) i (rules-bounds p rules) b) .0
+    omega (arith, b .deadlines (last .0) (last .1), last .2, end, rises)
 
 -- The inputs of a pass: the plan's boundaries, all before `never`, its HI deadlines, the number of
 -- its intervals, and a table with all its places.
@@ -254,7 +251,7 @@ pub record Summed (p : Plan) (table : List ℕ) (m : ℕ) (sums : List ℕ) : Ty
   pub columns : (j : ℕ) → j < intervals p → getD sums j 0 ≡ columnSum p table m j
 
 pub summed-start : (p : Plan) (table : List ℕ) → Summed p table 0 (replicate mostIntervals 0)
-summed-start p table = record { room = refl; columns = λ j b. zeros-at mostIntervals j ∙ sym (column-none p table j) }
+summed-start p table = record { room = refl; columns = λ j b. getD-replicate mostIntervals j 0 ∙ sym (column-none p table j) }
 
 pub few-intervals : (p : Plan) → intervals p ≤ mostIntervals
 few-intervals p = omega (arith, boundaries-few p (counted p))

@@ -11,14 +11,15 @@ use lib.Dec.{leb, eqb}
 use lib.ListN.{length}
 use Rattle.base.proofs.Choice.{on-le}
 use Rattle.base.specs.Sum.{on, strided}
-use Rattle.base.proofs.SumLaws.{sum-mono, below-or-last}
+use Rattle.base.proofs.SumLaws.{sum-mono}
 use Rattle.plan.specs.Edition.{mostIntervals}
 use Rattle.plan.specs.Rules.{counted, deadline, release, isHi}
 use Rattle.plan.specs.Boundaries.{boundaries, boundary, intervals}
 use Rattle.plan.specs.declared.kinds.Plan.{Plan}
-use Rattle.plan.proofs.BoundaryOrder.{boundaries-rise, by-order}
+use Rattle.plan.proofs.BoundaryOrder.{boundaries-rise}
 use Rattle.plan.proofs.PresentInterval.{deadline-is-boundary, boundary-rises}
-use Rattle.plan.proofs.Below.{both, every-at}
+use Rattle.base.proofs.Below.{every-at}
+use Rattle.base.proofs.Logic.{both, by-order, below-or-last}
 use Rattle.judge.specs.Constraints.{units, inWindow, unitsBetween, demand, floorCapacity}
 use Rattle.judge.specs.Verdict.{isHiDeadline, isPair}
 use Rattle.judge.proofs.IncreasingTimes.{rising-less}

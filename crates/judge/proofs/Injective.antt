@@ -5,7 +5,7 @@ use mathlib.Core.Bool.{cond}
 use mathlib.Core.List.{[], _∷_}
 use lib.Dec.{eqb}
 use Rattle.plan.specs.Refusal.{outsideWindow, wrongTotal, bufferTooShort}
-use Rattle.judge.specs.Verdict.{Report}
+use Rattle.plan.specs.Report.{Report}
 use Rattle.judge.specs.Slack.{Figure, noneEssential, least, refused}
 use Rattle.judge.specs.Answers.{verdictView, slackView}
 use Rattle.judge.specs.declared.answers.Slack.{Slack}

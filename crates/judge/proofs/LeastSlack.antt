@@ -10,10 +10,9 @@ use borrow.Author.Tests.{ltb-true, ltb-false}
 use lib.Dec.{ltb}
 use lib.IntN.{ℤ}
 use lib.Signed.{ltZ, leZ}
-use Rattle.base.proofs.SumLaws.{below-or-last}
 use Rattle.plan.specs.Boundaries.{boundary, intervals}
 use Rattle.plan.specs.declared.kinds.Plan.{Plan}
-use Rattle.plan.proofs.Below.{both}
+use Rattle.base.proofs.Logic.{both, below-or-last}
 use Rattle.judge.specs.Verdict.{isHiDeadline, isPair}
 use Rattle.judge.specs.Slack.{Figure, noneEssential, least, refused, slackOf, lesser, taken, through, leastSlack}
 use Rattle.judge.specs.inner.Columns.{sooner}

@@ -1,4 +1,3 @@
-pub mod Reports
 pub mod RunningSums
 pub mod IncreasingTimes
 pub mod Demand

@@ -1,25 +1,25 @@
 -- The slack figure is negative exactly if the floor rule fails.
 use mathlib.Core.Path.{_≡_, refl, sym, _∙_, ap, subst}
-use mathlib.Core.Bool.{Bool, true, false, _&&_}
+use mathlib.Core.Bool.{Bool, true, false}
 use mathlib.Core.List.{List, [], _∷_}
 use mathlib.Core.Logic.{_↔_}
 use Prim.Native.Nat.{ℕ, _-_, _≤_, _<_}
 use native.Mathlib.Omega.{arith}
 use borrow.Author.Tests.{ltb-true, ltb-false, le-ltb}
-use lib.Dec.{ltb, leb}
+use lib.Dec.{ltb}
 use lib.IntN.{ℤ, pos, subℕ}
 use lib.Signed.{ltZ}
-use Rattle.plan.specs.Edition.{mostDeadline}
-use Rattle.plan.specs.Rules.{counted, release, deadline, size, isHi, windowAllowed, sizeAllowed, boundsHold}
+use Rattle.plan.specs.Rules.{counted, release, deadline, isHi}
 use Rattle.plan.specs.Boundaries.{boundary, intervals}
 use Rattle.plan.specs.declared.kinds.Plan.{Plan}
-use Rattle.plan.proofs.BoundaryOrder.{by-order}
 use Rattle.plan.proofs.PresentInterval.{release-is-boundary, deadline-is-boundary}
-use Rattle.plan.proofs.Below.{both, every-at}
+use Rattle.base.proofs.Logic.{both, by-order}
 use Rattle.judge.specs.Constraints.{demand, floorCapacity}
-use Rattle.judge.specs.Verdict.{Report, orElse, isHiDeadline, isPair, handFault, constraintFault, floorFault, judged}
+use Rattle.judge.specs.Verdict.{isHiDeadline, isPair, handFault, constraintFault, floorFault, judged}
+use Rattle.plan.specs.Report.{Report, orElse}
 use Rattle.judge.specs.Slack.{Figure, noneEssential, least, refused, slackOf, leastSlack, unless, slackFigure}
-use Rattle.judge.proofs.HandFault.{hand-none, sound-rules, rules-bounds}
+use Rattle.judge.proofs.HandFault.{hand-none}
+use Rattle.plan.proofs.Soundness.{Bounded, sound-bounded}
 use Rattle.judge.proofs.Signed.{not-below-two}
 use Rattle.judge.proofs.HiDeadlinesSuffice.{boundary-less, hi-deadline}
 use Rattle.judge.proofs.Demand.{true-pair}
@@ -52,17 +52,13 @@ module _ (p : Plan) (table : List ℕ) where
           Plain (least s l D) = ⊥
           Plain (refused report) = Unit {0}
 
-  -- If rule 9 holds, interval 0 and the deadline of a HI job are a pair.
-  a-pair : boundsHold p ≡ true → (i : ℕ) → i < counted p → isHi p i ≡ true
+  -- If rules 4, 5 and 9 hold, interval 0 and the deadline of a HI job are a pair.
+  a-pair : Bounded p → (i : ℕ) → i < counted p → isHi p i ≡ true
       → (m : ℕ) × (m ≤ intervals p) × (isPair p 0 m ≡ true)
-  unfolding boundsHold
   a-pair rules i b e =
       let d = deadline-is-boundary p i b in
       let r = release-is-boundary p i b in
-      let allowed = every-at (λ k. windowAllowed (release p k) (deadline p k) && sizeAllowed (size p k)) (counted p) i rules b in
-      let window = both (windowAllowed (release p i) (deadline p i)) (sizeAllowed (size p i)) allowed .0 in
-      let ordered : release p i < deadline p i = ltb-true (release p i) (deadline p i) (both (ltb (release p i) (deadline p i)) (leb (deadline p i) mostDeadline) window .0) in
-      let later : r .0 < d .0 = in-order (r .0) (d .0) (r .1) (omega (arith, r .2, d .2)) in
+      let later : r .0 < d .0 = in-order (r .0) (d .0) (r .1) (omega (arith, r .2, d .2, rules .windows i b)) in
       (d .0, d .1, true-pair p 0 (d .0) (omega arith) (is-deadline (d .0) (isHiDeadline p (boundary p (d .0))) refl (d .2)))
     where
       in-order : (j k : ℕ) → j ≤ intervals p → boundary p j < boundary p k → j < k
@@ -80,7 +76,7 @@ module _ (p : Plan) (table : List ℕ) where
       × ((floorFault p table ≡ []) ↔ (ltZ s (pos 0) ≡ false))
   unfolding slackFigure judged
   short-exactly-below-zero hand rest i b e =
-      let w = a-pair (rules-bounds p (sound-rules p table (hand-none p table hand .1))) i b e in
+      let w = a-pair (sound-bounded p table (hand-none p table hand .1)) i b e in
       go (leastSlack p table) refl (first-of-all p table) (w .0) (w .2, w .1)
     where
       go : (f : Figure) → leastSlack p table ≡ f → LeastAmong p table (Pairs p) f → (m : ℕ) → Pairs p 0 m

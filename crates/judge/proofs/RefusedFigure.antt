@@ -3,7 +3,7 @@ use mathlib.Core.Path.{_≡_, refl, sym, _∙_, ap}
 use mathlib.Core.Bool.{Bool, true, false, not, true≢false}
 use mathlib.Core.List.{[], _∷_}
 use borrow.Author.Tests.{not-true}
-use Rattle.judge.specs.Verdict.{Report, isNone}
+use Rattle.plan.specs.Report.{Report, isNone}
 use Rattle.judge.specs.Slack.{Figure, refused, unless}
 
 -- A refusal is the answer; without one the figure is.

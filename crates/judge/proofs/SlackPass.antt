@@ -10,10 +10,10 @@ use borrow.Author.Tests.{ltb-true}
 use lib.Dec.{ltb}
 use lib.IntN.{subℕ}
 use lib.ListN.{getD}
-use Rattle.base.proofs.SumLaws.{sum-ext, below-or-last}
+use Rattle.base.proofs.SumLaws.{sum-ext}
 use Rattle.plan.specs.Boundaries.{boundaries, boundary, intervals}
 use Rattle.plan.specs.declared.kinds.Plan.{Plan}
-use Rattle.plan.proofs.Below.{both}
+use Rattle.base.proofs.Logic.{both, below-or-last}
 use Rattle.judge.specs.Verdict.{isHiDeadline, isPair}
 use Rattle.judge.specs.Slack.{Figure, noneEssential, slackOf, leastSlack}
 use Rattle.judge.specs.inner.Columns.{spare, columnTaken}

@@ -1,13 +1,13 @@
 -- The answers of `judge` and `slack` in the rules' terms: refusal numbers, locations and figures.
 use mathlib.Core.Path.{_≡_}
-use mathlib.Core.List.{List, [], _∷_}
-use Prim.Native.Nat.{ℕ}
+use mathlib.Core.List.{[], _∷_}
 use lib.IntN.{ℤ}
 use Rattle.plan.specs.Kinds.{Interval, Table}
 use Rattle.plan.specs.Refusal.{outsideWindow, wrongTotal, overCapacity, belowFloorRule, unsound, bufferTooShort}
 use Rattle.plan.specs.declared.kinds.Plan.{Plan}
 use Rattle.plan.specs.declared.kinds.Slots.{Slots}
-use Rattle.judge.specs.Verdict.{Report, judged}
+use Rattle.judge.specs.Verdict.{judged}
+use Rattle.plan.specs.Report.{Report}
 use Rattle.judge.specs.Slack.{Figure, noneEssential, least, refused, slackOf, slackFigure}
 use Rattle.judge.specs.declared.answers.Slack.{Slack}
 use Rattle.judge.specs.declared.answers.Slack.the-variants.{NoneEssential, Least, Refused}

@@ -14,7 +14,8 @@ use Rattle.plan.specs.Boundaries.{boundary, intervals}
 use Rattle.plan.specs.Table.{sound}
 use Rattle.plan.specs.declared.kinds.Plan.{Plan}
 use Rattle.judge.specs.Constraints.{intervalLength, total, load, demand, floorCapacity}
-use Rattle.judge.specs.Verdict.{Report, isOutside, isPair}
+use Rattle.judge.specs.Verdict.{isOutside, isPair}
+use Rattle.plan.specs.Report.{Report}
 
 -- Neither 22 nor 21 applies: the table has all its places, and the plan is sound.
 abbrev pub InHand : (p : Plan) (table : Table) → Type 0

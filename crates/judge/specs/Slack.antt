@@ -8,8 +8,9 @@ use Rattle.plan.specs.Kinds.{Interval, Table, Time}
 use Rattle.plan.specs.Boundaries.{boundary, intervals}
 use Rattle.plan.specs.declared.kinds.Plan.{Plan}
 use Rattle.judge.specs.Constraints.{demand, floorCapacity}
-use Rattle.judge.specs.Verdict.{Report, orElse, handFault, constraintFault, isPair}
-use mathlib.Core.Path.{_≡_, refl}
+use Rattle.judge.specs.Verdict.{handFault, constraintFault, isPair}
+use Rattle.plan.specs.Report.{Report, orElse}
+use mathlib.Core.Path.{_≡_}
 use mathlib.Core.Bool.{false}
 use Prim.Native.Nat.{_≤_}
 

@@ -1,42 +1,19 @@
 -- The judge's verdict: a refusal number with its first location, or acceptance.
-use mathlib.Core.Bool.{Bool, true, false, not, _&&_, _||_}
-use mathlib.Core.List.{List, [], _∷_}
-use Prim.Native.Nat.{ℕ, zero, suc, _*_}
+use mathlib.Core.Bool.{Bool, not, _&&_, _||_}
+use mathlib.Core.List.{[], _∷_}
+use Prim.Native.Nat.{ℕ, suc, _*_}
 use lib.Dec.{ltb, eqb}
 use lib.ListN.{length}
 use Rattle.plan.specs.Kinds.{Interval, Position, Table, Time}
 use Rattle.plan.specs.Edition.{places}
 use Rattle.plan.specs.Refusal.{outsideWindow, wrongTotal, overCapacity, belowFloorRule, unsound, bufferTooShort}
-use Rattle.plan.specs.Below.{every}
+use Rattle.base.specs.Below.{every}
 use Rattle.plan.specs.Rules.{counted, size, deadline, isHi}
 use Rattle.plan.specs.Boundaries.{boundary, intervals}
 use Rattle.plan.specs.Table.{sound}
 use Rattle.plan.specs.declared.kinds.Plan.{Plan}
+use Rattle.plan.specs.Report.{Report, orElse, fault, first}
 use Rattle.judge.specs.Constraints.{units, inWindow, intervalLength, total, load, demand, floorCapacity}
-
--- A refusal number followed by the location it names; empty if there is no refusal.
-abbrev pub Report : Type 0
-Report = List ℕ
-
--- The first report if it is nonempty, otherwise the second: the order of the refusals.
-abbrev pub orElse : Report → Report → Report
-orElse [] next = next
-orElse (number ∷ places) next = number ∷ places
-
--- Whether a report is empty.
-abbrev pub isNone : Report → Bool
-isNone [] = true
-isNone (number ∷ places) = false
-
--- The report if the fault is present, otherwise the empty report.
-abbrev pub fault : Bool → Report → Report
-fault true report = report
-fault false report = []
-
--- The first nonempty report among f 0, …, f (n − 1); empty if there is none.
-unfoldable pub first : (f : ℕ → Report) (n : ℕ) → Report
-first f zero = []
-first f (suc n) = orElse (first f n) (f n)
 
 -- Rule 15 is violated: job i has units in interval j, which lies outside its window.
 abbrev pub isOutside : (p : Plan) (table : Table) (i : Position) (j : Interval) → Bool

@@ -1,7 +1,14 @@
 // The answers of `judge` and `slack`.
 use plan::kinds::Slots;
+use plan::refusal::BELOW_FLOOR_RULE;
+use plan::refusal::BUFFER_TOO_SHORT;
+use plan::refusal::DONE;
+use plan::refusal::OUTSIDE_WINDOW;
+use plan::refusal::OVER_CAPACITY;
+use plan::refusal::UNSOUND;
+use plan::refusal::WRONG_TOTAL;
 ghost use mathlib.Core.Path.{_≡_};
-ghost use Rattle.judge.specs.Verdict.{isNone};
+ghost use Rattle.plan.specs.Report.{isNone, numberOf};
 ghost use Rattle.judge.specs.Answers.{verdictView};
 
 // The verdict on a plan: accepted, or the first fault in the judge's order with its first location.
@@ -27,17 +34,24 @@ pub enum Slack {
     Refused(Verdict),
 }
 
+// The number of a verdict: that of the refusal, or that of none.
+pub fn number_of(v: Verdict) -> u8
+    ensures { λ r. ⌜ r ≡ numberOf (verdictView v) ⌝ }
+{
+    match v {
+        Verdict::Accepted => DONE,
+        Verdict::BufferTooShort => BUFFER_TOO_SHORT,
+        Verdict::Unsound => UNSOUND,
+        Verdict::OutsideWindow(_, _) => OUTSIDE_WINDOW,
+        Verdict::WrongTotal(_) => WRONG_TOTAL,
+        Verdict::OverCapacity(_) => OVER_CAPACITY,
+        Verdict::BelowFloor(_, _) => BELOW_FLOOR_RULE,
+    }
+}
+
 // Whether a verdict is acceptance.
 pub fn is_accepted(v: Verdict) -> bool
     ensures { λ r. ⌜ r ≡ isNone (verdictView v) ⌝ }
 {
-    match v {
-        Verdict::Accepted => true,
-        Verdict::BufferTooShort => false,
-        Verdict::Unsound => false,
-        Verdict::OutsideWindow(_, _) => false,
-        Verdict::WrongTotal(_) => false,
-        Verdict::OverCapacity(_) => false,
-        Verdict::BelowFloor(_, _) => false,
-    }
+    number_of(v) == DONE
 }

@@ -13,7 +13,8 @@ ghost use Prim.Native.Nat.{_<_, _≤_};
 ghost use lib.ListN.{length};
 ghost use Rattle.plan.specs.Edition.{places};
 ghost use Rattle.plan.specs.Boundaries.{boundaries, intervals};
-ghost use Rattle.judge.specs.Verdict.{orElse, handFault, constraintFault};
+ghost use Rattle.judge.specs.Verdict.{handFault, constraintFault};
+ghost use Rattle.plan.specs.Report.{orElse};
 ghost use Rattle.judge.specs.Answers.{verdictView};
 
 // The refusals before the constraints: 22, then 21. `count` is the number of boundaries.

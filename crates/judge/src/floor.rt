@@ -21,7 +21,8 @@ ghost use Rattle.plan.specs.Refusal.{belowFloorRule};
 ghost use Rattle.plan.specs.Rules.{rulesHold};
 ghost use Rattle.plan.specs.Boundaries.{boundaries, intervals};
 ghost use Rattle.judge.specs.inner.Widths.{mostAtPlace};
-ghost use Rattle.judge.specs.Verdict.{fault, floorFault};
+ghost use Rattle.judge.specs.Verdict.{floorFault};
+ghost use Rattle.plan.specs.Report.{fault};
 ghost use Rattle.judge.specs.inner.Columns.{asksMore, lowest};
 ghost use Rattle.judge.specs.Answers.{verdictView};
 

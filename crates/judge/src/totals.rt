@@ -19,7 +19,8 @@ ghost use Rattle.plan.specs.Refusal.{overCapacity};
 ghost use Rattle.plan.specs.Boundaries.{intervals};
 ghost use Rattle.judge.specs.Constraints.{units};
 ghost use Rattle.judge.specs.inner.Widths.{mostSide};
-ghost use Rattle.judge.specs.Verdict.{first, fault, totalFault};
+ghost use Rattle.judge.specs.Verdict.{totalFault};
+ghost use Rattle.plan.specs.Report.{first, fault};
 ghost use Rattle.judge.specs.Answers.{verdictView};
 
 // The slots from one time to another; 0 if the second is earlier.

@@ -11,10 +11,11 @@ ghost use lib.Dec.{leb, eqb};
 ghost use lib.ListN.{length, getD};
 ghost use Rattle.plan.specs.Edition.{places};
 ghost use Rattle.plan.specs.Refusal.{outsideWindow};
-ghost use Rattle.plan.specs.Below.{every};
+ghost use Rattle.base.specs.Below.{every};
 ghost use Rattle.plan.specs.Boundaries.{boundaries, intervals};
 ghost use Rattle.judge.specs.Constraints.{within};
-ghost use Rattle.judge.specs.Verdict.{first, fault, outsideFault};
+ghost use Rattle.judge.specs.Verdict.{outsideFault};
+ghost use Rattle.plan.specs.Report.{first, fault};
 ghost use Rattle.judge.specs.Answers.{verdictView};
 
 // Whether the interval between two times lies inside a window or has 0 units.

@@ -1,18 +1,18 @@
 -- The effect of a line's call: its answer and the lent buffer.
 use mathlib.Core.Path.{_≡_}
 use mathlib.Core.Bool.{cond}
-use mathlib.Core.List.{List, _++_}
+use mathlib.Core.List.{List, [], _∷_, _++_}
 use Prim.Native.Nat.{ℕ}
 use lib.Dec.{ltb}
 use lib.ListN.{length, drop}
 use Rattle.plan.specs.Kinds.{Amount, Bytes, Number}
 use Rattle.plan.specs.Refusal.{bufferTooShort}
+use Rattle.plan.specs.Report.{Report}
 use Rattle.plan.specs.declared.kinds.Name.{Name}
 use Rattle.dispatch.specs.declared.answers.Outcome.{Outcome}
 use Rattle.dispatch.specs.Answers.{outcomeView}
-use Rattle.dispatch.specs.Step.{Ending, met, discarded, missed, stillOpen, refused}
-use Rattle.lines.specs.Text.{text}
-use Rattle.lines.specs.Lines.{outcomeLine}
+use Rattle.dispatch.specs.Step.{Ending, endingReport}
+use Rattle.lines.specs.Lines.{outcomeLine, endingWord}
 use Rattle.lines.specs.declared.Printed.{Printed}
 use Rattle.lines.specs.declared.Printed.the-variants.{Length, Refused}
 
@@ -42,13 +42,14 @@ printed line out =
     cond (ltb (length out) (length line)) (refusal bufferTooShort out)
     (record { answer = wrote (length line); out = line ++ drop (length line) out })
 
--- A job's line, by its outcome; a refused outcome has no line, and its number is the answer.
-abbrev pub outcomePrinted : (x : ℕ) (met : Ending) (carried : Amount) (out : Bytes) → PrintEffect
-outcomePrinted x met carried out = printed (outcomeLine x (text "met") carried) out
-outcomePrinted x discarded carried out = printed (outcomeLine x (text "discarded") carried) out
-outcomePrinted x missed carried out = printed (outcomeLine x (text "missed") carried) out
-outcomePrinted x stillOpen carried out = printed (outcomeLine x (text "open") carried) out
-outcomePrinted x (refused number) carried out = refusal number out
+-- A line printed unless the call was refused; its number is then the answer.
+abbrev pub printedUnless : (report : Report) (line out : Bytes) → PrintEffect
+printedUnless [] line out = printed line out
+printedUnless (number ∷ places) line out = refusal number out
+
+-- A job's line, by its outcome; a refused outcome has no line.
+abbrev pub outcomePrinted : (x : ℕ) (ended : Ending) (carried : Amount) (out : Bytes) → PrintEffect
+outcomePrinted x ended carried out = printedUnless (endingReport ended) (outcomeLine x (endingWord ended) carried) out
 
 -- The contract of a line's call: its answer and the buffer at exit are those of printing the line.
 abbrev pub Prints : (line out : Bytes) (r : Printed) (left : List ℕ) → Type 0

@@ -7,6 +7,7 @@ use lib.ListN.{getD}
 use Rattle.plan.specs.Kinds.{Amount, Number, Row, Speed, Time}
 use Rattle.plan.specs.Rules.{name, counted}
 use Rattle.plan.specs.declared.kinds.Plan.{Plan}
+use Rattle.dispatch.specs.Step.{Ending, met, discarded, missed, stillOpen, refused}
 use Rattle.lines.specs.Text.{text, decimal, nameText}
 
 -- The header of the slots.
@@ -53,6 +54,14 @@ slotLine clock speed slow p grants =
 unfoldable pub refusedSlotLine : (clock : Time) (speed : Speed) (number : Number) → List ℕ
 refusedSlotLine clock speed number =
     decimal clock ++ text " " ++ decimal speed ++ text " " ++ text "R " ++ decimal number ++ text "\n"
+
+-- The word of an outcome; a refusal has none.
+abbrev pub endingWord : Ending → List ℕ
+endingWord met = text "met"
+endingWord discarded = text "discarded"
+endingWord missed = text "missed"
+endingWord stillOpen = text "open"
+endingWord (refused number) = []
 
 -- The line of a job: its name, a word for its outcome, and the units carried.
 unfoldable pub outcomeLine : (x : ℕ) (word : List ℕ) (carried : Amount) → List ℕ

@@ -1,6 +1,7 @@
-pub mod Below
 pub mod Names
 pub mod BoundaryOrder
 pub mod BoundaryCount
 pub mod Stray
 pub mod PresentInterval
+pub mod Soundness
+pub mod Reports

@@ -10,11 +10,11 @@ use native.Mathlib.Omega.{arith}
 use lib.Dec.{eqb, lit<}
 use lib.ListN.{length, getD, take, List·getD-map}
 use lib.Seq.{length-take-le, getD-take}
-use Rattle.plan.specs.Below.{every}
+use Rattle.base.specs.Below.{every}
 use Rattle.plan.specs.Rules.{names, jobOf, noJob, isAbsent, byteOf}
 use Rattle.plan.specs.declared.kinds.Job.{Job}
 use Rattle.plan.specs.declared.kinds.Plan.{Plan}
-use Rattle.plan.proofs.Below.{every-ext}
+use Rattle.base.proofs.Below.{every-ext}
 
 -- Entry k of `names p` is the name in record k.
 pub name-at : (p : Plan) (k : ℕ) → getD (names p) k 0 ≡ jobOf p k .name .0

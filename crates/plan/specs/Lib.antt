@@ -1,7 +1,7 @@
 pub mod Kinds
 pub mod Edition
 pub mod Refusal
-pub mod Below
+pub mod Report
 pub mod Rules
 pub mod Boundaries
 pub mod Table

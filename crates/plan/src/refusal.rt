@@ -1,5 +1,8 @@
 // The refusal numbers, by name.
 
+// The number of a call that is not refused.
+pub const DONE: u8 = 0;
+
 // Refusals of the reader.
 pub const WRONG_VERSION: u8 = 1;
 

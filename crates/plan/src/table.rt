@@ -8,7 +8,7 @@ ghost use Prim.Native.Nat.{_+_, _≤_, min};
 ghost use lib.Dec.{eqb};
 ghost use lib.ListN.{getD, take};
 ghost use Rattle.plan.specs.Edition.{mostJobs, mostIntervals, places};
-ghost use Rattle.plan.specs.Below.{every};
+ghost use Rattle.base.specs.Below.{every};
 ghost use Rattle.plan.specs.Table.{noStray, soundWithin};
 
 // The lesser of a number and a bound.

@@ -14,7 +14,7 @@ use Rattle.plan.specs.Edition.{jobLength}
 use Rattle.plan.specs.Refusal.{wrongNameByte, nameTaken, wrongGrade, wrongJobBounds}
 use Rattle.plan.specs.Rules.{nameAllowed, isAbsent, gradeAllowed, windowAllowed, sizeAllowed}
 use Rattle.plan.specs.declared.kinds.Job.{Job}
-use Rattle.plan.proofs.Below.{every-at}
+use Rattle.base.proofs.Below.{every-at}
 use Rattle.planfields.specs.Fields.{got, field, checked, named, jobName, oneJob}
 use Rattle.planfile.specs.Reader.{namesOf, allJobs}
 use Rattle.planfile.specs.inner.Parts.{Distinct}

@@ -13,7 +13,7 @@ use Rattle.plan.specs.Rules.{ratesAllowed, counted}
 use Rattle.plan.specs.Boundaries.{intervals}
 use Rattle.plan.specs.declared.kinds.Job.{Job}
 use Rattle.plan.specs.declared.kinds.Plan.{Plan}
-use Rattle.plan.proofs.Below.{both}
+use Rattle.base.proofs.Logic.{both}
 use Rattle.planfields.specs.Fields.{Parsed, got, no, field, checked, opening, Head, head}
 use Rattle.planfile.specs.Reader.{namesOf, allJobs, planFrom, Preamble, preamble}
 use Rattle.planfields.specs.Answers.{fieldView}

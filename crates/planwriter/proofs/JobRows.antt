@@ -12,7 +12,7 @@ use lib.ListN.{length, getD, take, drop, length-take, length-append, take-append
 use lib.Seq.{take-add, take-all, length-take-le}
 use Rattle.plan.specs.Edition.{mostIntervals}
 use Rattle.plan.specs.Table.{noStray}
-use Rattle.plan.proofs.Below.{both}
+use Rattle.base.proofs.Logic.{both}
 use Rattle.planwriter.specs.Writing.{rowAt, rowsBytes}
 use Rattle.planwriter.proofs.JobAndRowBytes.{rows-split, rows-within}
 

@@ -10,9 +10,11 @@ use Rattle.plan.specs.Edition.{places}
 use Rattle.plan.specs.Rules.{counted}
 use Rattle.plan.specs.declared.kinds.Plan.{Plan}
 use Rattle.planfile.specs.Reader.{reader}
-use Rattle.judge.specs.Verdict.{Report, orElse, handFault, constraintFault, floorFault, judged}
-use Rattle.judge.proofs.Reports.{or-empty}
-use Rattle.judge.proofs.HandFault.{hand-none, sound-rules, rules-count}
+use Rattle.judge.specs.Verdict.{handFault, constraintFault, floorFault, judged}
+use Rattle.plan.specs.Report.{Report, orElse}
+use Rattle.plan.proofs.Reports.{or-empty}
+use Rattle.judge.proofs.HandFault.{hand-none}
+use Rattle.plan.proofs.Soundness.{sound-bounded}
 use Rattle.dispatch.specs.Step.{started, noRun}
 use Rattle.dispatch.specs.declared.Run.{Run}
 use Rattle.lines.specs.Lines.{slotHeader, outcomeHeader, strayLine, refusedLine}
@@ -74,7 +76,7 @@ some-job : (p : Plan) (table : List ℕ) → judged p table ≡ [] → 0 < count
 unfolding judged
 some-job p table h =
     let rest = orElse (constraintFault p table) (floorFault p table) in
-    rules-count p (sound-rules p table (hand-none p table (or-empty (handFault p table) rest h) .1))
+    sound-bounded p table (hand-none p table (or-empty (handFault p table) rest h) .1) .some
 
 -- The first turn and those after it print the text of the plan.
 progress-by : (r : Report) (p : Plan) (table speeds : List ℕ) (turns : ℕ) → (r ≡ [] → 0 < counted p) → length speeds + counted p + 2 ≤ turns

@@ -1,5 +1,5 @@
 -- All that the program prints, as a function of all that it reads.
-use mathlib.Core.Bool.{Bool, true, false, cond}
+use mathlib.Core.Bool.{Bool, cond, not}
 use mathlib.Core.List.{List, [], _∷_, _++_}
 use Prim.Native.Nat.{ℕ, zero, suc, _+_, _*_, min}
 use lib.Dec.{ltb}
@@ -9,12 +9,12 @@ use Rattle.plan.specs.Edition.{mostJobs, mostRows, places, headerBytes, jobLeng
 use Rattle.plan.specs.Rules.{counted, name}
 use Rattle.plan.specs.declared.kinds.Plan.{Plan}
 use Rattle.planfile.specs.Reader.{ReadEffect, reader}
-use Rattle.judge.specs.Verdict.{Report, orElse, judged}
+use Rattle.judge.specs.Verdict.{judged}
+use Rattle.plan.specs.Report.{Report, orElse, isNone}
 use Rattle.dispatch.specs.Dues.{carriedOf}
-use Rattle.dispatch.specs.Step.{SlotEffect, Ending, met, discarded, missed, stillOpen, refused, started, stepped, outcome}
+use Rattle.dispatch.specs.Step.{SlotEffect, Ending, endingReport, started, stepped, outcome}
 use Rattle.dispatch.specs.declared.Run.{Run}
-use Rattle.lines.specs.Text.{text}
-use Rattle.lines.specs.Lines.{slotHeader, outcomeHeader, strayLine, refusedLine, slotLine, refusedSlotLine, outcomeLine}
+use Rattle.lines.specs.Lines.{slotHeader, outcomeHeader, strayLine, refusedLine, slotLine, refusedSlotLine, outcomeLine, endingWord}
 
 -- The length of version and length field, which decide a file's size.
 abbrev pub headBytes : ℕ
@@ -51,21 +51,13 @@ abbrev pub slotText : Plan → Run → Speed → Report → SlotEffect → List 
 slotText p run v [] slot = slotLine (run .clock .0) v (slot .run .slow) p (slot .grants)
 slotText p run v (number ∷ place) slot = refusedSlotLine (run .clock .0) v number
 
--- The line of a job with this outcome; a refused outcome has none.
-abbrev pub endingText : (x : ℕ) (met : Ending) (carried : Amount) → List ℕ
-endingText x met carried = outcomeLine x (text "met") carried
-endingText x discarded carried = outcomeLine x (text "discarded") carried
-endingText x missed carried = outcomeLine x (text "missed") carried
-endingText x stillOpen carried = outcomeLine x (text "open") carried
-endingText x (refused number) carried = []
-
 -- Whether an outcome is refused.
 abbrev pub isRefused : Ending → Bool
-isRefused met = false
-isRefused discarded = false
-isRefused missed = false
-isRefused stillOpen = false
-isRefused (refused number) = true
+isRefused ended = not (isNone (endingReport ended))
+
+-- The line of a job with this outcome; a refused outcome has none.
+abbrev pub endingText : (x : ℕ) (ended : Ending) (carried : Amount) → List ℕ
+endingText x ended carried = cond (isRefused ended) [] (outcomeLine x (endingWord ended) carried)
 
 -- The line of job i.
 abbrev pub jobText : (p : Plan) (run : Run) (i : Position) → List ℕ

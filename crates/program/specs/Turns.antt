@@ -9,7 +9,7 @@ use Rattle.plan.specs.Kinds.{Bytes, Position, Table}
 use Rattle.plan.specs.Rules.{counted}
 use Rattle.plan.specs.declared.kinds.Plan.{Plan}
 use Rattle.planfile.specs.Reader.{ReadEffect, reader}
-use Rattle.judge.specs.Verdict.{Report}
+use Rattle.plan.specs.Report.{Report}
 use Rattle.dispatch.specs.Step.{started, noRun}
 use Rattle.dispatch.specs.declared.Run.{Run}
 use Rattle.lines.specs.Answers.{Prints}

@@ -2,20 +2,13 @@
 use crate::Phase;
 use crate::Progress;
 use crate::Turn;
-use dispatch::Run;
+use dispatch::start::no_run;
 use dispatch::start::start;
-use judge::answers::Verdict;
+use judge::answers::is_accepted;
+use judge::answers::number_of;
 use lines::refused_line;
 use lines::slot_header;
-use plan::edition::Edition;
 use plan::kinds::Plan;
-use plan::kinds::Slots;
-use plan::refusal::BELOW_FLOOR_RULE;
-use plan::refusal::BUFFER_TOO_SHORT;
-use plan::refusal::OUTSIDE_WINDOW;
-use plan::refusal::OVER_CAPACITY;
-use plan::refusal::UNSOUND;
-use plan::refusal::WRONG_TOTAL;
 use planfile::reader::Answer;
 use planfile::reader::read;
 ghost use mathlib.Core.Path.{_≡_};
@@ -25,19 +18,6 @@ ghost use Rattle.lines.specs.Answers.{Prints};
 ghost use Rattle.lines.specs.Lines.{refusedLine};
 ghost use Rattle.program.specs.Turns.{progress, openedBy, Takes, Opens};
 ghost use Rattle.program.specs.declared.Phase.the-variants.{Over};
-
-// The all-zero run that comes with a refused plan.
-fn no_run() -> Run
-    ensures { λ r. ⌜ r ≡ noRun ⌝ }
-{
-    let carried = [0u32; Edition::MOST_JOBS];
-    Run {
-        clock: Slots(0),
-        slow: false,
-        below: false,
-        carried,
-    }
-}
 
 // Refuses a plan; the program is then over.
 fn refuse(p: Plan, number: u8, out: &mut [u8]) -> Turn
@@ -62,26 +42,19 @@ fn judge_and_start(p: Plan, table: &[u32], out: &mut [u8]) -> Turn
 {
     let begun = start(p, table);
     let verdict = begun.verdict;
-    match verdict {
-        Verdict::Accepted => {
-            let printed = slot_header(out);
-            let run = begun.run;
-            let begins = Progress {
-                phase: Phase::Slots,
-                plan: p,
-                run,
-            };
-            Turn {
-                progress: begins,
-                printed,
-            }
-        }
-        Verdict::BufferTooShort => refuse(p, BUFFER_TOO_SHORT, out),
-        Verdict::Unsound => refuse(p, UNSOUND, out),
-        Verdict::OutsideWindow(_, _) => refuse(p, OUTSIDE_WINDOW, out),
-        Verdict::WrongTotal(_) => refuse(p, WRONG_TOTAL, out),
-        Verdict::OverCapacity(_) => refuse(p, OVER_CAPACITY, out),
-        Verdict::BelowFloor(_, _) => refuse(p, BELOW_FLOOR_RULE, out),
+    if !is_accepted(verdict) {
+        return refuse(p, number_of(verdict), out);
+    }
+    let printed = slot_header(out);
+    let run = begun.run;
+    let begins = Progress {
+        phase: Phase::Slots,
+        plan: p,
+        run,
+    };
+    Turn {
+        progress: begins,
+        printed,
     }
 }
 

@@ -7,13 +7,14 @@ use lib.ListN.{length, take, replicate}
 use Rattle.base.specs.Sum.{sum, on}
 use Rattle.plan.specs.Edition.{mostJobs, mostIntervals, places}
 use Rattle.plan.specs.Refusal.{outsideWindow, wrongTotal, overCapacity, belowFloorRule, speedAboveNormal}
-use Rattle.plan.specs.Below
+use Rattle.base.specs.Below
 use Rattle.plan.specs.Rules.{hi, lo, noJob, nameAllowed, namesHold, namesDiffer, gradesHold, boundsHold, rulesHold}
 use Rattle.plan.specs.Boundaries.{insert, boundariesTo, come}
 use Rattle.plan.specs.Table.{noStray, sound}
 use Rattle.plan.specs.declared.kinds.Job.{Job}
 use Rattle.plan.specs.declared.kinds.Plan.{Plan}
-use Rattle.judge.specs.Verdict.{Report, first, outsideFault, totalFault, capacityFault, isHiDeadline, floorFault, judged}
+use Rattle.judge.specs.Verdict.{outsideFault, totalFault, capacityFault, isHiDeadline, floorFault, judged}
+use Rattle.plan.specs.Report.{Report, first}
 use Rattle.judge.specs.Slack.{Figure, least, refused, through, leastSlack, slackFigure}
 use Rattle.dispatch.specs.declared.Run.{Run}
 use Rattle.dispatch.specs.Order.{enqueue, order, serve}

@@ -13,13 +13,13 @@ use lib.Seq.{take-at, take-all, length-take-le}
 use Rattle.base.specs.Sum.{sum}
 use Rattle.plan.specs.Edition.{mostJobs, places}
 use Rattle.plan.specs.Refusal.{bufferTooShort}
-use Rattle.plan.specs.Below
+use Rattle.base.specs.Below
 use Rattle.plan.specs.Rules.{counted, name, nameAllowed, isAbsent, namesHold, namesDiffer, gradesHold, boundsHold, rulesHold}
 use Rattle.plan.specs.Boundaries.{insert, boundariesTo, come}
 use Rattle.plan.specs.Table.{noStray, sound}
 use Rattle.plan.specs.Same.{Same}
 use Rattle.plan.specs.declared.kinds.Plan.{Plan}
-use Rattle.plan.proofs.Below.{and-left, and-right}
+use Rattle.base.proofs.Logic.{and-left, and-right}
 use Rattle.planfields.specs.Bytes.{value}
 use Rattle.planfields.specs.Fields.{Parsed, got, no, field, version, extent, opening, head, named, jobName, oneJob, ended}
 use Rattle.plan.specs.Rules.{noPlan}
@@ -32,7 +32,8 @@ use Rattle.roundtrip.proofs.WriteAfterRead.{write-after-read}
 use Rattle.roundtrip.proofs.ReadSound.{Proper, read-proper}
 use Rattle.roundtrip.proofs.ReadSound as trip
 use Rattle.judge.specs.Constraints.{Figure2}
-use Rattle.judge.specs.Verdict.{isNone, first, outsideFault, totalFault, capacityFault, isHiDeadline, floorFault, judged}
+use Rattle.judge.specs.Verdict.{outsideFault, totalFault, capacityFault, isHiDeadline, floorFault, judged}
+use Rattle.plan.specs.Report.{isNone, first}
 use Rattle.judge.proofs.Exact.{accepted-parts, exact}
 use Rattle.judge.proofs.HandFault.{hand-none}
 use Rattle.dispatch.specs.Dues.{slowAfter, due}

@@ -8,19 +8,20 @@ use native.Mathlib.Omega.{arith}
 use lib.Dec.{lit<, lit≤}
 use lib.ListN.{replicate}
 use Rattle.base.specs.Sum.{sum}
-use Rattle.plan.specs.Below
+use Rattle.base.specs.Below
 use Rattle.plan.specs.Rules.{counted, size, deadline, isHi, nameAllowed, namesHold, namesDiffer, gradesHold, boundsHold, rulesHold}
 use Rattle.plan.specs.Boundaries.{insert, boundariesTo, come}
 use Rattle.plan.specs.Table.{noStray, sound}
 use Rattle.plan.specs.declared.kinds.Plan.{Plan}
-use Rattle.judge.specs.Verdict.{first, outsideFault, totalFault, capacityFault, isHiDeadline, floorFault, judged}
+use Rattle.judge.specs.Verdict.{outsideFault, totalFault, capacityFault, isHiDeadline, floorFault, judged}
+use Rattle.plan.specs.Report.{first}
 use Rattle.dispatch.specs.Dues.{due}
 use Rattle.dispatch.specs.Order
 use Rattle.dispatch.specs.Step.{started, slotSound, slotFault, granted, added, advanced, stepped}
 use Rattle.promises.proofs.Cases.{planWith, tableOf, planE, tableE, P1, P9}
 use Rattle.promises.specs.Night.{Call, runAfter, had, Allowed, Kept, nightAt, Between, CorrectStrategy}
 use Rattle.promises.proofs.WrongVariants.{loFirst, tableOrder, Short, lo-first-loses, table-order-loses}
-use Rattle.promises.proofs.SoundFacts.{rules-of}
+use Rattle.plan.proofs.Soundness.{sound-bounded}
 use Rattle.promises.proofs.Demand2.{judge-is-exact, accepted-E}
 use Rattle.promises.proofs.NightInvariant.{kept}
 use Rattle.promises.proofs.Strategy.{night-allowed, correct-strategy}
@@ -31,21 +32,21 @@ use Rattle.promises.proofs.Strategy.{night-allowed, correct-strategy}
 pub promise-kept : (p : Plan) (table : List ℕ) → judged p table ≡ [] → (night : List Call) → Allowed p table night → Kept p night
 promise-kept p table e night a =
     let w = judge-is-exact p table .0 e in
-    kept p table (rules-of p table (w .1) .rules) (w .2) night a
+    kept p table (sound-bounded p table (w .1)) (w .2) night a
 
 -- Every accepted plan has a correct scheduling strategy.
 pub strategy-is-correct : (p : Plan) (table : List ℕ) → judged p table ≡ [] → CorrectStrategy p table
 strategy-is-correct p table e =
     let w = judge-is-exact p table .0 e in
-    let r = rules-of p table (w .1) in
-    correct-strategy p table (r .rules) (omega (arith, r .rates)) (w .2)
+    let r = sound-bounded p table (w .1) in
+    correct-strategy p table r (omega (arith, r .rates)) (w .2)
 
 -- In a night at the floor throughout, every HI job has had its size by its deadline.
 pub floor-night-meets : (p : Plan) (table : List ℕ) → judged p table ≡ [] → (slots i : ℕ) → i < counted p → isHi p i ≡ true
     → deadline p i ≤ runAfter p (nightAt p table (replicate slots (p .d .0))) .clock .0
     → had p (nightAt p table (replicate slots (p .d .0))) i ≡ size p i
 floor-night-meets p table e slots i k h o =
-    let r = rules-of p table (judge-is-exact p table .0 e .1) in
+    let r = sound-bounded p table (judge-is-exact p table .0 e .1) in
     strategy-is-correct p table e .degraded (replicate slots (p .d .0)) (at-floor (omega (arith, r .rates)) slots) i k h o
   where
     at-floor : p .d .0 ≤ p .n .0 → (slots : ℕ) → Between (p .d .0) (p .n .0) (replicate slots (p .d .0))

@@ -42,7 +42,8 @@ use Rattle.planwriter.specs.declared.writer.Written.{Written}
 use Rattle.planwriter.specs.declared.writer.Written.the-variants as write-answer
 use Rattle.planwriter.proofs.Injective.{writeView-injective}
 use Rattle.roundtrip.proofs.BytesAt.{field-again}
-use Rattle.judge.specs.Verdict.{Report, orElse, fault, handFault, constraintFault, floorFault, judged}
+use Rattle.judge.specs.Verdict.{handFault, constraintFault, floorFault, judged}
+use Rattle.plan.specs.Report.{Report, orElse, fault}
 use Rattle.judge.specs.Slack.{Figure, noneEssential, least, refused, slackOf, leastSlack, unless, slackFigure}
 use Rattle.judge.specs.Answers.{verdictView, slackView, Judges, Measures, MeasuresPair}
 use Rattle.judge.specs.Decided.{Decided, short, bad, outside, wrong, over, below, accepted}

@@ -10,9 +10,8 @@ use borrow.Author.Tests.{le-leb, lt-leb, leb-true}
 use lib.Dec.{leb}
 use Rattle.base.proofs.Choice.{on-ext, on-none}
 use Rattle.base.specs.Sum.{sum, on}
-use Rattle.base.proofs.SumLaws.{sum-ext, sum-none, sum-split, below-or-last}
-use Rattle.plan.proofs.Below.{both}
-use Rattle.dispatch.proofs.Queues.{if-less, if-same}
+use Rattle.base.proofs.SumLaws.{sum-ext, sum-none, sum-split}
+use Rattle.base.proofs.Logic.{both, if-less, if-same, below-or-last}
 
 -- A plan as functions: the numbers of N jobs, the boundaries of K
 -- intervals, the allotments, and the rates.

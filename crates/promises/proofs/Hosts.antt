@@ -11,7 +11,7 @@ use lib.Dec.{eqb, lit≤}
 use lib.IntN.{ℤ}
 use lib.ListN.{length, drop, replicate}
 use Rattle.plan.specs.Edition.{places}
-use Rattle.plan.specs.Below
+use Rattle.base.specs.Below
 use Rattle.plan.specs.Rules.{gradesHold, boundsHold}
 use Rattle.plan.specs.Refusal.{wrongVersion, wrongExtent, wrongRecordLength, wrongRates, wrongJobCount, wrongNameByte, nameTaken, wrongGrade, wrongJobBounds, tooManyRows, rowWithoutJob, rowWithoutInterval, rowWithoutUnits, rowOutOfOrder, outsideWindow, wrongTotal, overCapacity, belowFloorRule, clockAtEnd, speedAboveNormal, unsound, bufferTooShort}
 use Rattle.plan.specs.Same.{Same}
@@ -20,13 +20,14 @@ use Rattle.plan.specs.Rules.{noPlan}
 use Rattle.planfile.specs.Reader.{preamble, planFile, reader}
 use Rattle.planwriter.specs.Writing as writing
 use Rattle.planwriter.specs.Writing.{writer}
-use Rattle.judge.specs.Verdict.{Report, judged}
+use Rattle.judge.specs.Verdict.{judged}
+use Rattle.plan.specs.Report.{Report, doneNumber, numberOf}
 use Rattle.judge.specs.Slack as slack
 use Rattle.judge.specs.Slack.{slackFigure}
 use Rattle.dispatch.specs.Step as step
 use Rattle.dispatch.specs.Step.{SlotEffect, Ending, started, slotSound, slotFault, stepped, outcome}
 use Rattle.hostmemory.specs.Memory.{planWords, shortPlan, shortRun, jobsTo, planIn, planOf, jobsOut, planOut, planPut, marksHold, runIn, runOf, runOut, runPut}
-use Rattle.gateway.specs.Calls.{HostJudgeEffect, HostStartEffect, HostReadEffect, HostWriteEffect, doneNumber, noneNumber, metNumber, discardedNumber, missedNumber, openNumber, numberOf, shortLocation, startWords, located, slotWords, endingNumber, figureNumber, slackWords, readWords, writtenNumber, wroteWords, judgeCall, startCall, stepCall, outcomeCall, slackCall, readCall, writeCall}
+use Rattle.gateway.specs.Calls.{HostJudgeEffect, HostStartEffect, HostReadEffect, HostWriteEffect, noneNumber, metNumber, discardedNumber, missedNumber, openNumber, shortLocation, startWords, located, slotWords, endingNumber, figureNumber, slackWords, readWords, writtenNumber, wroteWords, judgeCall, startCall, stepCall, outcomeCall, slackCall, readCall, writeCall}
 use Rattle.gateway.proofs.RefusedStep.{refused-step-stays}
 use Rattle.promises.proofs.Cases.{tableOf, planE, tableE}
 use Rattle.promises.proofs.RefusalNumbers.{reader-numbers, writer-numbers, judge-numbers, slack-numbers, step-numbers, outcome-numbers}

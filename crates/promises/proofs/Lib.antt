@@ -2,7 +2,6 @@ pub mod Cases
 pub mod WrongVariants
 pub mod FloorTail
 pub mod SlotInvariants
-pub mod SoundFacts
 pub mod SameSlot
 pub mod SameVerdict
 pub mod SameFile

@@ -17,22 +17,22 @@ use Rattle.plan.specs.Boundaries.{intervals, present}
 use Rattle.plan.specs.declared.kinds.Plan.{Plan}
 use Rattle.plan.proofs.PresentInterval.{first-boundary, an-interval}
 use Rattle.judge.specs.Constraints.{Figure2}
-use Rattle.judge.specs.Verdict.{Report}
+use Rattle.plan.specs.Report.{Report}
 use Rattle.dispatch.specs.declared.Run.{Run}
 use Rattle.dispatch.specs.Dues.{carriedOf, live}
-use Rattle.dispatch.specs.Step.{SlotEffect, started, slotFault, granted, advanced, slotBy, stepped}
-use Rattle.dispatch.proofs.Queues.{if-true, neither}
+use Rattle.dispatch.specs.Step.{started, slotFault, granted, advanced, slotBy, stepped}
+use Rattle.base.proofs.Logic.{if-true, neither}
 use Rattle.base.proofs.Choice.{on-zero}
 use Rattle.dispatch.proofs.RowShares.{added-length}
 use Rattle.promises.specs.Night.{Call, runAfter, latest, isDone, clockAt, given, had, hadInWindow, isSlow, slowed, slowedBefore, hadSinceSlow, Allowed, WithinSpeeds, Kept}
 use Rattle.promises.proofs.FloorTail.{Good}
 use Rattle.promises.proofs.SlotInvariants
 use Rattle.promises.proofs.SlotInvariants.{NoMore, FloorHolds, OnPace, keeps-no-more, keeps-floor, keeps-pace, on-pace-here, on-pace-ended, floor-ended, begins-with-floor, begins-on-pace}
-use Rattle.promises.proofs.SoundFacts.{Ruled}
+use Rattle.plan.proofs.Soundness.{Bounded}
 use Rattle.promises.proofs.SameSlot.{done, same-slot}
 use Rattle.promises.proofs.CallAsSlot.{factsOf, stateOf, good-plan, slot-of}
 
-module _ (p : Plan) (table : List ℕ) (rules : Ruled p) (accepted : Figure2 p table) where
+module _ (p : Plan) (table : List ℕ) (rules : Bounded p) (accepted : Figure2 p table) where
   good : Good (factsOf p table)
   good = good-plan p table accepted
 

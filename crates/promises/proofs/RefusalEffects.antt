@@ -10,7 +10,7 @@ use lib.Dec.{ltb, lit≤}
 use lib.ListN.{length, take, drop, replicate}
 use Rattle.plan.specs.Edition.{places}
 use Rattle.plan.specs.Refusal.{wrongVersion, belowFloorRule, speedAboveNormal, unsound, bufferTooShort}
-use Rattle.plan.specs.Below
+use Rattle.base.specs.Below
 use Rattle.plan.specs.Rules.{nameAllowed, namesHold, namesDiffer, gradesHold, boundsHold, rulesHold}
 use Rattle.plan.specs.Boundaries.{insert, boundariesTo}
 use Rattle.plan.specs.Table.{noStray, sound}
@@ -22,7 +22,8 @@ use Rattle.planfile.specs.Reader.{Contents, preamble, planFile, readFile, leave
 use Rattle.planfile.proofs.WholeFile.{shown-none}
 use Rattle.planwriter.specs.Writing as writing
 use Rattle.planwriter.specs.Writing.{wrote, withheld, written, writer}
-use Rattle.judge.specs.Verdict.{Report, judged}
+use Rattle.judge.specs.Verdict.{judged}
+use Rattle.plan.specs.Report.{Report}
 use Rattle.dispatch.specs.Step as step
 use Rattle.dispatch.specs.Step.{Ending, started, noRun, startFrom, startIn, stepped}
 use Rattle.dispatch.specs.declared.Run.{Run}

@@ -9,7 +9,7 @@ use lib.ListN.{length, getD, take, drop, set, replicate}
 use Rattle.base.specs.Sum.{sum}
 use Rattle.plan.specs.Edition.{mostJobs, mostRows, mostIntervals, places, jobLength, rowLength}
 use Rattle.plan.specs.Refusal.{wrongVersion, wrongExtent, wrongRecordLength, wrongRates, wrongJobCount, wrongNameByte, nameTaken, wrongGrade, wrongJobBounds, tooManyRows, rowWithoutJob, rowWithoutInterval, rowWithoutUnits, rowOutOfOrder, outsideWindow, wrongTotal, overCapacity, belowFloorRule, clockAtEnd, speedAboveNormal, unsound, bufferTooShort}
-use Rattle.plan.specs.Below
+use Rattle.base.specs.Below
 use Rattle.plan.specs.Rules.{counted, size, deadline, isHi, ratesAllowed, nameAllowed, isAbsent, gradeAllowed, windowAllowed, sizeAllowed, namesHold, namesDiffer, gradesHold, boundsHold, rulesHold}
 use Rattle.plan.specs.Boundaries.{insert, boundariesTo, boundary, intervals, lastDeadline}
 use Rattle.plan.specs.Table.{place, noStray, sound}
@@ -22,7 +22,8 @@ use Rattle.planfile.specs.Reader.{namesOf, allJobs, position, oneRow, allRows, 
 use Rattle.planwriter.specs.Writing as writing
 use Rattle.planwriter.specs.Writing.{wrote, withheld, written, writer}
 use Rattle.judge.specs.Constraints.{intervalLength, total, load}
-use Rattle.judge.specs.Verdict.{Report, orElse, fault, first, isOutside, isPair, isHiDeadline, fallsShort, outsideFault, totalFault, capacityFault, floorFault, handFault, constraintFault, judged}
+use Rattle.judge.specs.Verdict.{isOutside, isPair, isHiDeadline, fallsShort, outsideFault, totalFault, capacityFault, floorFault, handFault, constraintFault, judged}
+use Rattle.plan.specs.Report.{Report, orElse, fault, first}
 use Rattle.judge.specs.Slack.{refused, leastSlack, unless, slackFigure}
 use Rattle.judge.proofs.LeastSlack.{first-of-all}
 use Rattle.dispatch.specs.Dues.{carriedOf}

@@ -16,7 +16,7 @@ use Rattle.plan.specs.declared.kinds.Plan.{Plan}
 use Rattle.plan.proofs.Names.{name-at}
 use Rattle.planfields.specs.Bytes.{bytes}
 use Rattle.planwriter.specs.Writing.{jobBytes, jobsBytes, rowsBytes, body, written, wrote, withheld, writer}
-use Rattle.planwriter.proofs.WrittenFile.{sound-parts}
+use Rattle.plan.proofs.Soundness.{sound-parts}
 use Rattle.roundtrip.proofs.ReadAfterWrite.{rows-counted}
 use Rattle.promises.proofs.Cases.{planE, tableE}
 use Rattle.promises.proofs.SameSlot.{counted-same, long-same, elseE, elseTable, same-E}

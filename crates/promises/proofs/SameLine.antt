@@ -11,11 +11,11 @@ use Rattle.plan.specs.Refusal.{unsound}
 use Rattle.plan.specs.Rules.{counted, jobOf, name}
 use Rattle.plan.specs.Same.{Same}
 use Rattle.plan.specs.declared.kinds.Plan.{Plan}
-use Rattle.judge.specs.Verdict.{Report}
+use Rattle.plan.specs.Report.{Report}
 use Rattle.dispatch.specs.Dues.{carriedOf}
 use Rattle.dispatch.specs.Step.{SlotEffect, refused, started, slotSound, outcome}
 use Rattle.dispatch.specs.declared.Run.{Run}
-use Rattle.dispatch.proofs.Queues.{if-true}
+use Rattle.base.proofs.Logic.{if-true}
 use Rattle.lines.specs.Lines.{grantText, grantsText, orDash, modeText, slotLine}
 use Rattle.lines.specs.Text.{text, decimal}
 use Rattle.program.specs.Output.{speed, slotOf, slotText, endingText, jobText}

@@ -12,24 +12,25 @@ use lib.Seq.{getD-take}
 use Rattle.base.specs.Sum.{sum}
 use Rattle.base.proofs.SumLaws.{sum-ext}
 use Rattle.plan.specs.Edition.{mostJobs, mostIntervals, places}
-use Rattle.plan.specs.Below.{every, least, greatest}
+use Rattle.base.specs.Below.{every, least, greatest}
 use Rattle.plan.specs.Rules.{counted, jobOf, release, deadline, size, hi, isHi, gradeAllowed, windowAllowed, sizeAllowed, gradesHold, boundsHold}
 use Rattle.plan.specs.Boundaries.{boundariesTo, boundaries, intervals, come, present, firstRelease, lastDeadline}
 use Rattle.plan.specs.Table.{allotment}
 use Rattle.plan.specs.Same.{Same}
 use Rattle.plan.specs.declared.kinds.Job.{Job}
 use Rattle.plan.specs.declared.kinds.Plan.{Plan}
-use Rattle.plan.proofs.Below.{every-ext, least-ext, greatest-ext, and-left, and-right}
+use Rattle.base.proofs.Below.{every-ext, least-ext, greatest-ext}
+use Rattle.base.proofs.Logic.{and-left, and-right, if-true, if-less}
 use Rattle.plan.proofs.BoundaryOrder.{boundaries-ext}
 use Rattle.plan.proofs.PresentInterval.{present-inside}
-use Rattle.judge.specs.Verdict.{Report}
+use Rattle.plan.specs.Report.{Report}
 use Rattle.dispatch.specs.declared.Run.{Run}
 use Rattle.dispatch.specs.Dues.{carriedOf, live, slowAfter, goal, due}
 use Rattle.dispatch.specs.Order.{queue, order}
 use Rattle.dispatch.specs.Step.{started, slotSound, refusedBy, slotFault, granted, advanced, slotBy, stepped, outcome}
-use Rattle.dispatch.proofs.Queues.{queued, if-true, if-less, queue-ext, serve-ext, queued-both, queued-below}
+use Rattle.dispatch.proofs.Queues.{queued, queue-ext, serve-ext, queued-both, queued-below}
 use Rattle.promises.proofs.Cases.{padded, job, tableOf, capitalMirror, jobsOfE, planE, tableE}
-use Rattle.promises.proofs.SoundFacts.{SlotSound, slot-sound}
+use Rattle.dispatch.proofs.SlotSoundness.{SlotSound, slot-sound}
 
 -- If nothing is refused, plan and run are sound and the clock is not at the end.
 none-refused : (bad short ended fast : Bool) → refusedBy bad short ended fast ≡ [] → (bad ≡ false) × (ended ≡ false)

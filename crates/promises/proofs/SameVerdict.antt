@@ -11,19 +11,20 @@ use Rattle.base.specs.Sum.{sum, on}
 use Rattle.base.proofs.SumLaws.{sum-ext}
 use Rattle.plan.specs.Edition.{mostJobs, mostIntervals}
 use Rattle.plan.specs.Refusal.{outsideWindow, wrongTotal, overCapacity, belowFloorRule}
-use Rattle.plan.specs.Below.{every}
+use Rattle.base.specs.Below.{every}
 use Rattle.plan.specs.Rules.{counted, name, nameAllowed, sameName, namesHold, namesDiffer, rulesHold}
 use Rattle.plan.specs.Boundaries.{boundary, intervals}
 use Rattle.plan.specs.Table.{soundWithin, sound}
 use Rattle.plan.specs.Same.{Same}
 use Rattle.plan.specs.declared.kinds.Rate.{Rate}
 use Rattle.plan.specs.declared.kinds.Plan.{Plan}
-use Rattle.plan.proofs.Below.{every-ext}
+use Rattle.base.proofs.Below.{every-ext}
 use Rattle.plan.proofs.BoundaryOrder.{boundaries-few}
 use Rattle.judge.specs.Constraints.{units, inWindow, intervalLength, demand, floorCapacity}
-use Rattle.judge.specs.Verdict.{fault, first, outsideFault, totalFault, capacityFault, isHiDeadline, isPair, fallsShort, floorFault, judged}
+use Rattle.judge.specs.Verdict.{outsideFault, totalFault, capacityFault, isHiDeadline, isPair, fallsShort, floorFault, judged}
+use Rattle.plan.specs.Report.{fault, first}
 use Rattle.judge.specs.Slack.{Figure, noneEssential, slackOf, taken, through, leastSlack, slackFigure}
-use Rattle.judge.proofs.Reports.{first-ext}
+use Rattle.plan.proofs.Reports.{first-ext}
 use Rattle.dispatch.specs.Step.{noRun, started, startFrom, startIn}
 use Rattle.dispatch.specs.declared.Run.{Run}
 use Rattle.promises.proofs.Cases.{planE, tableE}

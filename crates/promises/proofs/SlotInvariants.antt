@@ -10,8 +10,7 @@ use lib.Dec.{leb, ltb}
 use Rattle.base.proofs.Choice.{on-parts, on-mono}
 use Rattle.base.specs.Sum.{sum, on}
 use Rattle.base.proofs.SumLaws.{sum-ext, sum-mono, sum-none, sum-add, term-le}
-use Rattle.dispatch.proofs.Queues.{if-less, neither}
-use Rattle.plan.proofs.Below.{both}
+use Rattle.base.proofs.Logic.{both, if-less, neither}
 use Rattle.promises.proofs.FloorTail.{Facts, Good, class, before, tail, rises, rises-strictly, before-le, tail-ended, floor-tail}
 
 -- The state of a run: the clock, the slow mark, and the units carried for each job.

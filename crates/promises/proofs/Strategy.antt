@@ -11,7 +11,7 @@ use Rattle.plan.specs.Same.{Same}
 use Rattle.plan.specs.declared.kinds.Plan.{Plan}
 use Rattle.judge.specs.Constraints.{Figure2}
 use Rattle.promises.specs.Night.{latest, isDone, slowedBefore, Allowed, nightAt, Between, CorrectStrategy}
-use Rattle.promises.proofs.SoundFacts.{Ruled}
+use Rattle.plan.proofs.Soundness.{Bounded}
 use Rattle.promises.proofs.NightInvariant.{kept}
 
 -- `Same` is reflexive.
@@ -42,7 +42,7 @@ lower-bound low lower high (v ∷ speeds) h b = (omega (arith, b .0), b .1, lowe
 
 -- Every plan that satisfies the linear program and rules 5 and 9, with d ≤ n, has a
 -- correct scheduling strategy: the dispatcher.
-pub correct-strategy : (p : Plan) (table : List ℕ) → Ruled p → p .d .0 ≤ p .n .0 → Figure2 p table → CorrectStrategy p table
+pub correct-strategy : (p : Plan) (table : List ℕ) → Bounded p → p .d .0 ≤ p .n .0 → Figure2 p table → CorrectStrategy p table
 correct-strategy p table rules rates accepted =
     record {
       normal = λ speeds b i k o.

@@ -8,7 +8,7 @@ use lib.Dec.{leb, ltb, eqb, lit<}
 use lib.IntN.{pos, negsuc}
 use lib.ListN.{replicate}
 use Rattle.base.specs.Sum.{sum, on}
-use Rattle.plan.specs.Below
+use Rattle.base.specs.Below
 use Rattle.plan.specs.Edition.{nameBytes}
 use Rattle.plan.specs.Refusal.{belowFloorRule, unsound}
 use Rattle.plan.specs.Rules.{counted, size, deadline, isHi, nameAllowed, namesHold, namesDiffer, gradesHold, boundsHold, rulesHold}
@@ -16,7 +16,8 @@ use Rattle.plan.specs.Boundaries.{insert, boundariesTo, come, boundary, interva
 use Rattle.plan.specs.Table.{noStray, sound}
 use Rattle.plan.specs.declared.kinds.Plan.{Plan}
 use Rattle.judge.specs.Constraints.{demand, floorCapacity}
-use Rattle.judge.specs.Verdict.{Report, orElse, fault, first, outsideFault, totalFault, capacityFault, isHiDeadline, floorFault, judged}
+use Rattle.judge.specs.Verdict.{outsideFault, totalFault, capacityFault, isHiDeadline, floorFault, judged}
+use Rattle.plan.specs.Report.{Report, orElse, fault, first}
 use Rattle.judge.specs.Slack.{Figure, least, through, leastSlack, slackFigure}
 use Rattle.dispatch.specs.declared.Run.{Run}
 use Rattle.dispatch.specs.Dues.{carriedOf, live, slowAfter, belowAfter, due}

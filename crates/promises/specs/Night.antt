@@ -11,7 +11,7 @@ use Rattle.base.specs.Sum.{sum, on}
 use Rattle.plan.specs.Rules.{counted, size, deadline, isHi}
 use Rattle.plan.specs.Same.{Same}
 use Rattle.plan.specs.declared.kinds.Plan.{Plan}
-use Rattle.judge.specs.Verdict.{Report}
+use Rattle.plan.specs.Report.{Report}
 use Rattle.dispatch.specs.declared.Run.{Run}
 use Rattle.dispatch.specs.Dues.{live}
 use Rattle.dispatch.specs.Step.{SlotEffect, started, stepped}

@@ -3,7 +3,7 @@ use mathlib.Core.Bool.{Bool, false, _||_}
 use mathlib.Core.List.{List, [], _∷_}
 use Prim.Native.Nat.{ℕ}
 use lib.Dec.{eqb}
-use Rattle.plan.specs.Below
+use Rattle.base.specs.Below
 
 -- Whether a number is in a list.
 abbrev pub isOneOf : List ℕ → ℕ → Bool

@@ -15,7 +15,7 @@ use Rattle.plan.specs.Refusal.{wrongGrade}
 use Rattle.plan.specs.Rules.{nameAllowed, isAbsent, gradeAllowed, windowAllowed, sizeAllowed, noJob, jobOf}
 use Rattle.plan.specs.declared.kinds.Job.{Job}
 use Rattle.plan.specs.declared.kinds.Plan.{Plan}
-use Rattle.plan.proofs.Below.{both}
+use Rattle.base.proofs.Logic.{both}
 use Rattle.planfields.specs.Bytes.{bytes}
 use Rattle.planfields.specs.Fields.{got, field, checked, named, jobName, oneJob}
 use Rattle.planfile.specs.Reader.{namesOf, allJobs}

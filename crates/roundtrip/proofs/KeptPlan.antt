@@ -3,7 +3,7 @@ use mathlib.Core.Path.{_≡_, refl, sym, _∙_, ap, ap₂}
 use mathlib.Core.List.{List, [], _∷_, _++_}
 use Prim.Native.Nat.{ℕ, zero, suc, _-_, _/_, _<_}
 use native.Mathlib.Omega.{arith}
-use lib.ListN.{length, getD, take, replicate, List·getD-map}
+use lib.ListN.{length, getD, take, List·getD-map}
 use lib.Seq.{getD-take}
 use Rattle.plan.specs.Edition.{mostJobs}
 use Rattle.plan.specs.Rules.{noJob, jobOf, counted, names, name}
@@ -14,17 +14,7 @@ use Rattle.plan.proofs.Names.{name-at}
 use Rattle.planfields.specs.Fields.{Head}
 use Rattle.planfile.specs.Reader.{namesOf, planFrom}
 use Rattle.planwriter.specs.Writing.{rowAt, rowsBytes}
-
--- Padding a list with the default value does not change what `getD` returns.
-pub getD-pad : {A : Type 0} (l : List A) (m k : ℕ) (d : A) → getD (l ++ replicate m d) k d ≡ getD l k d
-getD-pad [] m k d = zeros m k
-  where
-    zeros : (m k : ℕ) → getD (replicate m d) k d ≡ d
-    zeros zero k = refl
-    zeros (suc m) zero = refl
-    zeros (suc m) (suc k) = zeros m k
-getD-pad (x ∷ l) m zero d = refl
-getD-pad (x ∷ l) m (suc k) d = getD-pad l m k d
+use Rattle.base.proofs.Padding.{getD-pad}
 
 -- The names of a plan that was read are those of its jobs, then zeros.
 pub names-read : (h : Head) (jobs : List Job) (k : ℕ) → getD (names (planFrom h jobs)) k 0 ≡ getD (namesOf jobs) k 0

@@ -17,7 +17,7 @@ use Rattle.planwriter.proofs.JobAndRowBytes.{jobs-long}
 use Rattle.planfile.proofs.WholeFile.{shown-part}
 use Rattle.roundtrip.proofs.BytesAt.{Stands, stands-first, stands-rest, stands-as}
 use Rattle.roundtrip.proofs.JobRoundTrip.{spanBytes, span-on, span-whole, jobs-again}
-use Rattle.roundtrip.proofs.KeptPlan.{getD-pad}
+use Rattle.base.proofs.Padding.{getD-pad}
 use Rattle.roundtrip.proofs.WriteAfterRead.{FileRead, file-read}
 
 -- The bytes of m + 1 jobs from job k on begin with those of job k.

@@ -5,19 +5,20 @@ use mathlib.Core.List.{List, [], _∷_, _++_, append-nil}
 use Prim.Native.Nat.{ℕ, zero, suc, _+_, _/_, _%_, _≤_, _<_, _^_}
 use native.Mathlib.Nat.{zero-add}
 use native.Mathlib.Omega.{arith}
-use borrow.Author.Tests.{eq-eqb, ltb-true, ltb-false, leb-true, le-leb}
+use borrow.Author.Tests.{eq-eqb, ltb-true, ltb-false, le-leb}
 use lib.Dec.{leb, ltb, eqb, lit<}
 use lib.ListN.{length, getD, take, drop, replicate, length-append, length-map, List·getD-eq-default}
 use lib.Seq.{drop-length, take-all, take-take, length-take-le}
-use Rattle.plan.specs.Edition.{mostJobs, mostRows, mostRate, mostIntervals, places}
+use Rattle.plan.specs.Edition.{mostJobs, mostRows, mostIntervals, places}
 use Rattle.plan.specs.Refusal.{tooManyRows}
-use Rattle.plan.specs.Below.{every}
-use Rattle.plan.specs.Rules.{jobOf, name, names, counted, release, size, deadline, nameAllowed, sameName, isAbsent, gradeAllowed, windowAllowed, sizeAllowed, namesHold, namesDiffer, gradesHold, boundsHold}
+use Rattle.base.specs.Below.{every}
+use Rattle.plan.specs.Rules.{jobOf, name, names, counted, nameAllowed, sameName, isAbsent, gradeAllowed, namesHold, namesDiffer, gradesHold}
 use Rattle.plan.specs.Boundaries.{intervals}
 use Rattle.plan.specs.Table.{noStray, sound}
 use Rattle.plan.specs.declared.kinds.Job.{Job}
 use Rattle.plan.specs.declared.kinds.Plan.{Plan}
-use Rattle.plan.proofs.Below.{every-ext, both, every-at}
+use Rattle.base.proofs.Below.{every-ext, every-at}
+use Rattle.base.proofs.Logic.{both}
 use Rattle.plan.proofs.Names.{name-at}
 use Rattle.plan.proofs.BoundaryOrder.{boundaries-few}
 use Rattle.planfields.specs.Bytes.{bytes}
@@ -29,7 +30,8 @@ use Rattle.planfields.proofs.ByteLaws.{length-bytes}
 use Rattle.planfields.proofs.HeadLaws.{opening-right, head-whole}
 use Rattle.planfile.proofs.DistinctNames.{jobs-apart}
 use Rattle.planfile.proofs.WholeFile.{file-whole}
-use Rattle.planwriter.proofs.WrittenFile.{Sound, sound-parts, count-bounds, counted-is, writable, body-of, body-short, written-of, written-long}
+use Rattle.plan.proofs.Soundness.{Rules, rules-parts, Sound, sound-parts, Bounded, rules-bounded, job-bounds}
+use Rattle.planwriter.proofs.WrittenFile.{counted-is, writable, body-of, body-short, written-of, written-long}
 use Rattle.planwriter.proofs.JobAndRowBytes.{count-few}
 use Rattle.roundtrip.proofs.BytesAt.{Stands, stands-at, stands-as, stands-first, stands-rest, field-back}
 use Rattle.roundtrip.proofs.JobRoundTrip.{Readable, span-whole, jobs-back}
@@ -37,11 +39,10 @@ use Rattle.roundtrip.proofs.RowRoundTrip.{rows-back}
 use Rattle.roundtrip.proofs.KeptPlan.{kept, kept-intervals, names-prefix}
 
 -- Each counted job of a sound plan can be read after the jobs before it.
-readable : (p : Plan) (table : List ℕ) → Sound p table → length (p .jobs) ≡ mostJobs → ((i : ℕ) → i < p .count → name p i < 256 ^ 8)
+readable : (p : Plan) → Rules p → p .count ≤ mostJobs → length (p .jobs) ≡ mostJobs → ((i : ℕ) → i < p .count → name p i < 256 ^ 8)
     → (k : ℕ) → k < p .count → Readable (namesOf (take k (p .jobs))) (jobOf p k)
-unfolding namesHold namesDiffer gradesHold boundsHold isAbsent
-readable p table s long fits k h =
-    let few = count-bounds p (s .count) .1 in
+unfolding namesHold namesDiffer gradesHold isAbsent
+readable p s few long fits k h =
     let h′ : k < counted p = rw (counted-is p few) h in
     let n : length (namesOf (take k (p .jobs))) ≡ k
     = length-map (take k (p .jobs)) (λ (j : Job). j .name .0) ∙ length-take-le k (p .jobs) (omega (arith, long, few)) in
@@ -54,7 +55,7 @@ readable p table s long fits k h =
           (λ i l. ap (λ x. not (eqb x (name p k))) (names-prefix (p .jobs) k i l))
           ∙ every-at (λ i. every (λ j. not (sameName (name p j) (name p i))) i) (counted p) k (s .differ) h′);
       graded = every-at (λ i. gradeAllowed (jobOf p i .grade)) (counted p) k (s .grades) h′;
-      bounds = every-at (λ i. windowAllowed (release p i) (deadline p i) && sizeAllowed (size p i)) (counted p) k (s .bounds) h′;
+      bounds = job-bounds p (s .bounds) k h′;
     }
 
 -- If no place is stray, lists that agree in the first `jobs` names give the same bytes of rows.
@@ -112,8 +113,14 @@ module _ (p : Plan) (table : List ℕ) (sound-is : sound p table ≡ true) (exac
   parts : Sound p table
   parts = sound-parts p table sound-is
 
+  rules : Rules p
+  rules = rules-parts p (parts .rules)
+
+  limits : Bounded p
+  limits = rules-bounded p (parts .rules)
+
   few : p .count ≤ mostJobs
-  few = count-bounds p (parts .count) .1
+  few = limits .few
 
   own : take places table ≡ table
   own = take-all places table (omega (arith, exact))
@@ -183,22 +190,18 @@ module _ (p : Plan) (table : List ℕ) (sound-is : sound p table ≡ true) (exac
 
   head-is : head mostJobs file 0 ≡ got headed (5 + length after-count)
   head-is =
-      let t = both (leb 1 (p .d .0) && ltb (p .d .0) (p .n .0)) (leb (p .n .0) mostRate) (parts .rates) in
-      let u = both (leb 1 (p .d .0)) (ltb (p .d .0) (p .n .0)) (t .0) in
-      let most = leb-true (p .n .0) mostRate (t .1) in
-      let less = ltb-true (p .d .0) (p .n .0) (u .1) in
       let s = stands-first after-d (bytes 1 (p .count)) to-count in
       sym (head-whole mostJobs file 0 opened
-      (field-back 2 (p .n .0) file 5 (omega arith) (omega (arith, most)) (stands-first (bytes 2 (p .n .0)) (bytes 2 (p .d .0)) s))
-      (field-back 2 (p .d .0) file (5 + length (bytes 2 (p .n .0))) (omega arith) (omega (arith, most, less)) (stands-rest (bytes 2 (p .n .0)) (bytes 2 (p .d .0)) s))
-      (parts .rates)
+      (field-back 2 (p .n .0) file 5 (omega arith) (omega (arith, limits .rate)) (stands-first (bytes 2 (p .n .0)) (bytes 2 (p .d .0)) s))
+      (field-back 2 (p .d .0) file (5 + length (bytes 2 (p .n .0))) (omega arith) (omega (arith, limits .rate, limits .rates)) (stands-rest (bytes 2 (p .n .0)) (bytes 2 (p .d .0)) s))
+      (rules .rates)
       (field-back 1 (p .count) file (5 + length after-d) (omega arith) (omega (arith, few)) (stands-rest after-d (bytes 1 (p .count)) to-count))
-      (parts .count))
+      (rules .count))
 
   jobs-are : allJobs (p .count) [] file (5 + length after-count) ≡ got counted-jobs (5 + length after-jobs)
   jobs-are =
       jobs-back p file (p .count) 0 (5 + length after-count) (omega (arith, records, few))
-      (λ k l h. readable p table parts records named k (omega arith))
+      (λ k l h. readable p rules few records named k (omega arith))
       (stands-as (stands-rest after-count (jobsBytes p (p .count)) to-jobs) (sym (span-whole p (p .count))))
       ∙ ap (λ k. got (take k (p .jobs)) (5 + length after-jobs)) (zero-add (p .count))
 

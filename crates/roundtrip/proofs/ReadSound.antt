@@ -11,13 +11,13 @@ use lib.Dec.{eqb}
 use lib.ListN.{length, getD, take, length-map}
 use lib.Seq.{take-at, take-all, getD-at, length-take-le}
 use Rattle.plan.specs.Edition.{mostJobs, mostIntervals, places}
-use Rattle.plan.specs.Below.{every}
+use Rattle.base.specs.Below.{every}
 use Rattle.plan.specs.Rules.{noJob, jobOf, name, release, size, deadline, counted, nameAllowed, sameName, isAbsent, gradeAllowed, windowAllowed, sizeAllowed, namesHold, namesDiffer, gradesHold, boundsHold, rulesHold}
 use Rattle.plan.specs.Boundaries.{intervals}
 use Rattle.plan.specs.Table.{noStray, sound}
 use Rattle.plan.specs.declared.kinds.Job.{Job}
 use Rattle.plan.specs.declared.kinds.Plan.{Plan}
-use Rattle.plan.proofs.Below.{every-ext, every-all}
+use Rattle.base.proofs.Below.{every-ext, every-all}
 use Rattle.planfields.specs.Fields.{got, oneJob}
 use Rattle.planfile.specs.Reader.{namesOf, allJobs, planFrom, Contents, readFile}
 use Rattle.planwriter.specs.Writing.{written}
@@ -26,7 +26,8 @@ use Rattle.planfields.proofs.ParserLaws.{through, same-value}
 use Rattle.planfile.proofs.JobLoop.{length-snoc, room-length}
 use Rattle.planwriter.proofs.WrittenFile.{counted-is}
 use Rattle.roundtrip.proofs.JobRoundTrip.{Readable, job-again}
-use Rattle.roundtrip.proofs.KeptPlan.{getD-pad, names-prefix, kept}
+use Rattle.roundtrip.proofs.KeptPlan.{names-prefix, kept}
+use Rattle.base.proofs.Padding.{getD-pad}
 use Rattle.roundtrip.proofs.ReadAfterWrite.{read-own}
 use Rattle.roundtrip.proofs.WriteAfterRead.{FileRead, file-read, filled, write-after-read}
 

@@ -14,7 +14,7 @@ use lib.Seq.{set-at}
 use Rattle.plan.specs.Edition.{mostIntervals, rowLength}
 use Rattle.plan.specs.Refusal.{rowWithoutJob, rowWithoutInterval, rowWithoutUnits, rowOutOfOrder}
 use Rattle.plan.specs.Table.{place, noStray}
-use Rattle.plan.proofs.Below.{both}
+use Rattle.base.proofs.Logic.{both}
 use Rattle.planfields.specs.Bytes.{bytes}
 use Rattle.planfields.specs.Fields.{got, field, checked, named}
 use Rattle.planfile.specs.Reader.{position, Row, oneRow, allRows}

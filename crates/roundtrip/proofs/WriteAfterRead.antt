@@ -27,7 +27,8 @@ use Rattle.planwriter.proofs.WrittenFile.{body-of, written-of}
 use Rattle.roundtrip.proofs.BytesAt.{Stands, stands-then, field-again}
 use Rattle.roundtrip.proofs.JobRoundTrip.{span-whole, jobs-again}
 use Rattle.roundtrip.proofs.RowRoundTrip.{Filled, rows-again}
-use Rattle.roundtrip.proofs.KeptPlan.{getD-pad, names-read, rows-names}
+use Rattle.roundtrip.proofs.KeptPlan.{names-read, rows-names}
+use Rattle.base.proofs.Padding.{getD-pad}
 
 -- The parts of a file that is read, at their offsets.
 pub record FileRead (file : List ℕ) (held : Contents) : Type 0 where

@@ -7,7 +7,7 @@ use Prim.Native.Nat.{ℕ, suc}
 use lib.Dec.{eqb}
 use Rattle.plan.specs.Boundaries.{lastDeadline, present}
 use Rattle.plan.specs.declared.kinds.Plan.{Plan}
-use Rattle.judge.specs.Verdict.{Report}
+use Rattle.plan.specs.Report.{Report}
 use Rattle.dispatch.specs.Step.{soundAt, refusedBy}
 use Rattle.dispatch.specs.declared.soundness.Readiness.{Readiness}
 use Rattle.dispatch.specs.declared.soundness.Readiness.the-variants.{Unsound, Ended, Running}

@@ -10,8 +10,9 @@ use Rattle.plan.specs.Edition.{places}
 use Rattle.plan.specs.Rules.{rulesHold}
 use Rattle.plan.specs.Boundaries.{boundaries}
 use Rattle.plan.specs.declared.kinds.Plan.{Plan}
-use Rattle.judge.specs.Verdict.{handFault, constraintFault, floorFault, orElse, judged}
-use Rattle.judge.proofs.Reports.{or-none, or-assoc, stops, passes}
+use Rattle.judge.specs.Verdict.{handFault, constraintFault, floorFault, judged}
+use Rattle.plan.specs.Report.{orElse}
+use Rattle.plan.proofs.Reports.{or-none, or-assoc, stops, passes}
 use Rattle.judge.proofs.HandFault.{refused-by-none}
 use Rattle.judge.proofs.judge_at.Statement.{statement}
 use Rattle.judge.proofs.judge_at.Tie as tie

@@ -1,7 +1,8 @@
 -- `lentrun::start_over` meets its contract: the verdict decides which of the two records is returned.
 use mathlib.Core.Path.{sym, _∙_, ap}
 use borrow.Author.Needs.{needs}
-use Rattle.judge.specs.Verdict.{isNone, judged}
+use Rattle.judge.specs.Verdict.{judged}
+use Rattle.plan.specs.Report.{isNone}
 use Rattle.dispatch.specs.Step.{started, noRun, startIn}
 use Rattle.dispatch.proofs.StartEffect.{stays, starts}
 use Rattle.lentrun.proofs.start_over.Statement.{statement}

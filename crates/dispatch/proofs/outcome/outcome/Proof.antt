@@ -8,7 +8,7 @@ use borrow.Author.Needs.{needs}
 use Rattle.plan.specs.Edition.{mostJobs}
 use Rattle.dispatch.specs.Step
 use Rattle.dispatch.specs.Step.{slotSound}
-use Rattle.dispatch.proofs.SlotSoundness.{sound-parts}
+use Rattle.dispatch.proofs.SlotSoundness as parts
 use Rattle.dispatch.proofs.outcome.outcome.Statement.{statement}
 use Rattle.dispatch.proofs.outcome.outcome.Tie as tie
 
@@ -17,7 +17,7 @@ sound : (c : tie.Else1) → slotSound (c .before .before .args .t1) (c .before .
 sound c = sym (c .before .slot-sound .ensures) ∙ not-false (c .before .slot-sound .result) (c .if1 .left)
 
 few : (c : tie.Else1) → c .before .before .args .t1 .count ≤ mostJobs
-few c = sound-parts (c .before .before .args .t1) (c .before .before .args .t2) (sound c) .few
+few c = parts.slot-sound (c .before .before .args .t1) (c .before .before .args .t2) (sound c) .rules .few
 
 slot-sound-requires : tie.Need-slot-sound-requires
 slot-sound-requires c κs = search needs

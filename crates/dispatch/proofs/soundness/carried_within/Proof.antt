@@ -6,10 +6,10 @@ use native.Mathlib.Omega.{arith}
 use borrow.Author.Needs.{needs}
 use lib.Dec.{leb}
 use lib.ListN.{getD}
-use Rattle.plan.specs.Below.{every}
+use Rattle.base.specs.Below.{every}
 use Rattle.plan.specs.Rules.{size, counted}
 use Rattle.plan.specs.declared.kinds.Units.{Units}
-use Rattle.plan.proofs.Below.{every-start, every-next}
+use Rattle.base.proofs.Below.{every-start, every-next}
 use Rattle.dispatch.proofs.soundness.carried_within.Statement.{statement}
 use Rattle.dispatch.proofs.soundness.carried_within.Tie as tie
 

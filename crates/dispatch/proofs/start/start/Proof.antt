@@ -6,9 +6,10 @@ use borrow.Author.Needs.{needs}
 use lib.ListN.{replicate}
 use Rattle.plan.specs.Edition.{mostJobs}
 use Rattle.plan.specs.declared.kinds.Slots.{Slots}
-use Rattle.judge.specs.Verdict.{isNone, judged}
+use Rattle.judge.specs.Verdict.{judged}
+use Rattle.plan.specs.Report.{isNone}
 use Rattle.judge.specs.Answers.{verdictView}
-use Rattle.judge.proofs.Reports.{passes}
+use Rattle.plan.proofs.Reports.{passes}
 use Rattle.dispatch.specs.declared.Run.{Run}
 use Rattle.dispatch.specs.Step.{started, noRun, startFrom}
 use Rattle.dispatch.proofs.StartEffect.{stays}
@@ -25,20 +26,20 @@ judge-requires c κs = search needs
 is-accepted-requires : tie.Need-is-accepted-requires
 is-accepted-requires c κs = search needs
 
-fresh-requires : tie.Need-fresh-requires
-fresh-requires c κs = search needs
+no-run-requires : tie.Need-no-run-requires
+no-run-requires c κs = search needs
 
 returns : tie.Need-returns
 returns c =
     let a = c .before .before .before .before .before .args in
     let refused = ap isNone (sym (c .before .before .before .judge .ensures)) ∙ sym (c .before .before .is-accepted .ensures) ∙ not-true (c .before .before .is-accepted .result) (c .before .if1 .taken) in
-    (c .before .before .before .judge .ensures, c .fresh .ensures ∙ sym (stays (judged (a .p) (a .table .now)) (started (a .p)) noRun refused))
+    (c .before .before .before .judge .ensures, c .no-run .ensures ∙ sym (stays (judged (a .p) (a .table .now)) (started (a .p)) noRun refused))
 
 first-release-requires : tie.Need-first-release-requires
 first-release-requires c κs = search needs
 
-fresh-requires-2 : tie.Need-fresh-requires-2
-fresh-requires-2 c κs = search needs
+fresh-requires : tie.Need-fresh-requires
+fresh-requires c κs = search needs
 
 returns-2 : tie.Need-returns-2
 unfolding started
@@ -46,7 +47,7 @@ returns-2 c =
     let a = c .before .before .before .before .before .before .args in
     let none = passes (verdictView (c .before .before .before .before .judge .result)) (judged (a .p) (a .table .now)) (c .before .before .before .is-accepted .result) (c .before .before .before .before .judge .ensures) (c .before .before .before .is-accepted .ensures) (c .before .before .if1 .left) in (
       c .before .before .before .before .judge .ensures,
-      c .fresh2 .ensures ∙ ap fresh (c .before .first-release .ensures) ∙ ap (λ r. startFrom r (started (a .p)) noRun) (sym none),
+      c .fresh .ensures ∙ ap fresh (c .before .first-release .ensures) ∙ ap (λ r. startFrom r (started (a .p)) noRun) (sym none),
     )
 
 pub start-spec : {M : Type 1} → statement M
@@ -55,8 +56,8 @@ start-spec =
     (tie.spec
     judge-requires
     is-accepted-requires
-    fresh-requires
+    no-run-requires
     returns
     first-release-requires
-    fresh-requires-2
+    fresh-requires
     returns-2)

@@ -19,16 +19,16 @@ use Rattle.plan.specs.Table.{allotment}
 use Rattle.plan.specs.declared.kinds.Plan.{Plan}
 use Rattle.plan.specs.declared.kinds.Slots.{Slots}
 use Rattle.plan.specs.declared.kinds.Units.{Units}
-use Rattle.judge.specs.Verdict.{isNone}
-use Rattle.judge.proofs.Reports.{none-empty}
+use Rattle.plan.specs.Report.{isNone}
+use Rattle.plan.proofs.Reports.{none-empty}
 use Rattle.dispatch.specs.declared.Run.{Run}
 use Rattle.dispatch.specs.Dues.{carriedOf, slowAfter}
 use Rattle.dispatch.specs.inner.Shares.{served, rank, capped, filled}
 use Rattle.dispatch.specs.Step.{soundAt, slotSound, slotFault, advanced, stepped}
 use Rattle.dispatch.specs.inner.Readiness.{readiness, begun, faultBy}
 use Rattle.dispatch.specs.Answers.{answerView}
-use Rattle.dispatch.proofs.Queues.{neither}
-use Rattle.dispatch.proofs.SlotSoundness.{sound-parts, Parts, deadline-small, size-small, last-small}
+use Rattle.base.proofs.Logic.{neither}
+use Rattle.dispatch.proofs.SlotSoundness.{SlotSound, slot-sound}
 use Rattle.dispatch.proofs.Readiness.{readiness-fault, readiness-clear, left-by}
 use Rattle.dispatch.proofs.RowShares.{filled-start, filled-next, capped-small, stored-grants, stored-carried}
 use Rattle.dispatch.proofs.step.step.Statement.{statement}
@@ -103,9 +103,9 @@ module _ (c : tie.Else1 Inv-loop μ-loop) where
       readiness-clear (p here) (run here .clock .0) (run here .carried) (ltb (length (table here)) places || ltb (length (grants here)) (counted (p here))) (ltb (p here .n .0) (v here))
       (ap isNone (sym (by-readiness here)) ∙ none)
 
-  parts : Parts (p here) (run here)
+  parts : SlotSound (p here) (run here)
   unfolding slotSound
-  parts = sound-parts (p here) (run here) (going .0)
+  parts = slot-sound (p here) (run here) (going .0)
 
   room : counted (p here) ≤ length (grants here)
   room = ltb-false (length (grants here)) (counted (p here)) (neither (ltb (length (table here)) places) _ (going .1) .1)
@@ -157,7 +157,7 @@ element-copy-out-job c = search needs
 rank-of-requires : tie.Need-rank-of-requires Inv-loop μ-loop
 rank-of-requires c κs =
     let was = c .before .before .before .before .before .before .before .before in
-    (deadline-small (p (here was)) (parts was .bounds) (c .before .before .loop .i) (omega arith), omega arith)
+    (parts was .rules .deadlines (c .before .before .loop .i) (omega arith), omega arith)
 
 mul-ranks : tie.Need-mul-ranks Inv-loop μ-loop
 mul-ranks c = search needs
@@ -230,13 +230,13 @@ grant-all-requires c κs =
       omega arith,
       rw jobs (room was),
       λ k l. rw (claim-row rows) (capped-small (p (here was)) (table (here was)) (run (here was)) (v (here was)) k (omega (arith, jobs))),
-      λ k l. omega (arith, jobs, parts was .within k (omega (arith, jobs)), size-small (p (here was)) (parts was .bounds) k (omega (arith, jobs))),
+      λ k l. omega (arith, jobs, parts was .carried k (omega (arith, jobs)), parts was .rules .sizes k (omega (arith, jobs))),
     )
 
 add-t52 : tie.Need-add-t52 Inv-loop μ-loop
 add-t52 c =
     let was = c .before .before .before .before .before .before .before .before .before .before .before .before .before .before .before in
-    omega (arith, parts was .timely, last-small (p (here was)) (parts was .bounds))
+    omega (arith, parts was .not-over, parts was .rules .last)
 
 same-length : tie.Need-same-length Inv-loop μ-loop
 same-length c = search needs
@@ -250,8 +250,8 @@ returns-2 c =
     let empty = none-empty (answerView (at .answer-to .result)) (none was) in
     let jobs = c .before .before .before .before .before .before .before .before .before .before .before .before .before .before .before .before .before .before .before .before .before .counted-of .ensures in
     let stored = c .before .before .before .grant-all .ensures in
-    let carried = stored-carried (p at) (table at) (run at) (v at) (grants at) (parts was .bounds) (room was) (rank-row rows) (claim-row rows) jobs (stored .0) in
-    let granted = stored-grants (p at) (table at) (run at) (v at) (grants at) (parts was .bounds) (room was) (rank-row rows) (claim-row rows) jobs (stored .1) in
+    let carried = stored-carried (p at) (table at) (run at) (v at) (grants at) (parts was .rules) (room was) (rank-row rows) (claim-row rows) jobs (stored .0) in
+    let granted = stored-grants (p at) (table at) (run at) (v at) (grants at) (parts was .rules) (room was) (rank-row rows) (claim-row rows) jobs (stored .1) in
     rw (sym (told at) ∙ empty)
     (λ t. record {
       answer = empty t;

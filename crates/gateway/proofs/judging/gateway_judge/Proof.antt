@@ -39,8 +39,8 @@ second-of-requires c κs = search needs
 slice-write-location-2 : tie.Need-slice-write-location-2
 slice-write-location-2 c = simp length-set (omega (arith, long (c .before .before .before .before) .1))
 
-number-of-requires : tie.Need-number-of-requires
-number-of-requires c κs = search needs
+verdict-number-requires : tie.Need-verdict-number-requires
+verdict-number-requires c κs = search needs
 
 same-length : tie.Need-same-length
 same-length c = search needs
@@ -48,7 +48,7 @@ same-length c = search needs
 returns-2 : tie.Need-returns-2
 unfolding judgeCall
 returns-2 c =
-    rw (c .before .before .before .before .before .if1 .left, ← (c .before .before .before .before .plan-of .ensures), ← (c .before .before .before .judge .ensures), ← (c .number-of .ensures), ← (c .before .second-of .ensures), ← (c .before .before .first-of .ensures)) refl
+    rw (c .before .before .before .before .before .if1 .left, ← (c .before .before .before .before .plan-of .ensures), ← (c .before .before .before .judge .ensures), ← (c .verdict-number .ensures), ← (c .before .second-of .ensures), ← (c .before .before .first-of .ensures)) refl
 
 pub gateway-judge-spec : {M : Type 1} → statement M
 gateway-judge-spec =
@@ -62,6 +62,6 @@ gateway-judge-spec =
     slice-write-location
     second-of-requires
     slice-write-location-2
-    number-of-requires
+    verdict-number-requires
     same-length
     returns-2)

@@ -42,8 +42,8 @@ second-of-requires c κs = search needs
 slice-write-location-2 : tie.Need-slice-write-location-2
 slice-write-location-2 c = simp length-set (omega (arith, long (c .before .before .before .before .before .before .before) .2))
 
-number-of-requires : tie.Need-number-of-requires
-number-of-requires c κs = search needs
+verdict-number-requires : tie.Need-verdict-number-requires
+verdict-number-requires c κs = search needs
 
 same-length : tie.Need-same-length
 same-length c = search needs
@@ -54,7 +54,7 @@ same-length-2 c = search needs
 returns-2 : tie.Need-returns-2
 unfolding startCall
 returns-2 c =
-    rw (c .before .before .before .before .before .before .before .before .if1 .left, ← (c .before .before .before .before .before .before .plan-of .ensures), ← (c .before .before .before .before .before .start-in .ensures .1), ← (c .before .before .before .before .before .start-in .ensures .0), ← (c .number-of .ensures), ← (c .before .second-of .ensures), ← (c .before .before .first-of .ensures)) refl
+    rw (c .before .before .before .before .before .before .before .before .if1 .left, ← (c .before .before .before .before .before .before .plan-of .ensures), ← (c .before .before .before .before .before .start-in .ensures .1), ← (c .before .before .before .before .before .start-in .ensures .0), ← (c .verdict-number .ensures), ← (c .before .second-of .ensures), ← (c .before .before .first-of .ensures)) refl
 
 pub gateway-start-spec : {M : Type 1} → statement M
 gateway-start-spec =
@@ -68,7 +68,7 @@ gateway-start-spec =
     slice-write-location
     second-of-requires
     slice-write-location-2
-    number-of-requires
+    verdict-number-requires
     same-length
     same-length-2
     returns-2)

@@ -1,7 +1,8 @@
 -- `gateway::slots::start_in` meets its contract: the verdict decides
 -- whether the run is written to the words.
 use mathlib.Core.Path.{sym, _∙_, ap}
-use Rattle.judge.specs.Verdict.{isNone, judged}
+use Rattle.judge.specs.Verdict.{judged}
+use Rattle.plan.specs.Report.{isNone}
 use Rattle.dispatch.specs.Step.{started, noRun}
 use Rattle.dispatch.proofs.StartEffect as fresh
 use Rattle.hostmemory.specs.Memory.{runPut}

@@ -4,7 +4,7 @@ use mathlib.Core.Path.{refl, sym, _∙_}
 use native.Mathlib.Omega.{arith}
 use borrow.Author.Needs.{needs}
 use Rattle.judge.specs.Verdict.{capacityFault}
-use Rattle.judge.proofs.Reports.{or-none, stops, passes}
+use Rattle.plan.proofs.Reports.{or-none, stops, passes}
 use Rattle.judge.proofs.faults.constraints.Statement.{statement}
 use Rattle.judge.proofs.faults.constraints.Tie as tie
 

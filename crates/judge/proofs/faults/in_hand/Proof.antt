@@ -9,7 +9,7 @@ use borrow.Author.Tests.{lt-ltb, le-ltb}
 use Rattle.plan.specs.Refusal.{unsound, bufferTooShort}
 use Rattle.plan.specs.Table.{sound}
 use Rattle.plan.proofs.Stray.{sound-told}
-use Rattle.judge.specs.Verdict.{fault, orElse}
+use Rattle.plan.specs.Report.{fault, orElse}
 use Rattle.judge.proofs.HandFault.{unbounded}
 use Rattle.judge.proofs.faults.in_hand.Statement.{statement}
 use Rattle.judge.proofs.faults.in_hand.Tie as tie

@@ -11,7 +11,7 @@ use Rattle.plan.specs.Rules.{rulesHold}
 use Rattle.plan.specs.Boundaries.{boundaries}
 use Rattle.plan.specs.declared.kinds.Plan.{Plan}
 use Rattle.judge.specs.Verdict.{handFault}
-use Rattle.judge.proofs.Reports.{or-none, stops, passes}
+use Rattle.plan.proofs.Reports.{or-none, stops, passes}
 use Rattle.judge.proofs.HandFault.{hand-ready}
 use Rattle.judge.proofs.faults.refusal_of.Statement.{statement}
 use Rattle.judge.proofs.faults.refusal_of.Tie as tie

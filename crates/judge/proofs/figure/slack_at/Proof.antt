@@ -10,9 +10,10 @@ use Rattle.plan.specs.Edition.{places}
 use Rattle.plan.specs.Rules.{rulesHold}
 use Rattle.plan.specs.Boundaries.{boundaries}
 use Rattle.plan.specs.declared.kinds.Plan.{Plan}
-use Rattle.judge.specs.Verdict.{handFault, constraintFault, orElse}
+use Rattle.judge.specs.Verdict.{handFault, constraintFault}
+use Rattle.plan.specs.Report.{orElse}
 use Rattle.judge.specs.Slack.{slackFigure}
-use Rattle.judge.proofs.Reports.{passes}
+use Rattle.plan.proofs.Reports.{passes}
 use Rattle.judge.proofs.RefusedFigure.{refuses, unless-none}
 use Rattle.judge.proofs.HandFault.{refused-by-none}
 use Rattle.judge.proofs.figure.slack_at.Statement.{statement}

@@ -11,7 +11,8 @@ use lib.ListN.{getD}
 use Rattle.plan.specs.Refusal.{belowFloorRule}
 use Rattle.plan.specs.Boundaries.{boundary, intervals}
 use Rattle.judge.specs.inner.Widths.{mostAtPlace}
-use Rattle.judge.specs.Verdict.{fault, isHiDeadline}
+use Rattle.judge.specs.Verdict.{isHiDeadline}
+use Rattle.plan.specs.Report.{fault}
 use Rattle.judge.proofs.FloorPass.{Lowest, ReadyFor, Summed, ready-from, summed-start, few-intervals, rows-fit, due-is, summed-next, column-fits, lowest-start, lowest-next, place-is}
 use Rattle.judge.proofs.floor.below_floor.Statement.{statement}
 use Rattle.judge.proofs.floor.below_floor.Tie as tie

@@ -5,7 +5,7 @@ use native.Mathlib.Omega.{arith}
 use borrow.Author.Tests.{lt-ltb, le-ltb}
 use lib.ListN.{getD}
 use Rattle.plan.specs.Refusal.{belowFloorRule}
-use Rattle.judge.specs.Verdict.{fault}
+use Rattle.plan.specs.Report.{fault}
 use Rattle.judge.proofs.floor.found_at.Statement.{statement}
 use Rattle.judge.proofs.floor.found_at.Tie as tie
 

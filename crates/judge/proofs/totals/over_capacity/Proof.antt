@@ -10,9 +10,9 @@ use lib.Dec.{ltb}
 use lib.ListN.{getD}
 use Rattle.plan.specs.Refusal.{overCapacity}
 use Rattle.base.specs.Sum.{sum}
-use Rattle.judge.specs.Verdict.{first, fault}
+use Rattle.plan.specs.Report.{first, fault}
 use Rattle.judge.specs.Constraints.{units}
-use Rattle.judge.proofs.Reports.{first-start, first-next, found-here}
+use Rattle.plan.proofs.Reports.{first-start, first-next, found-here}
 use Rattle.judge.proofs.totals.over_capacity.Statement.{statement}
 use Rattle.judge.proofs.totals.over_capacity.Tie as tie
 

@@ -15,9 +15,10 @@ use Rattle.plan.specs.Rules.{counted, size}
 use Rattle.plan.proofs.BoundaryOrder.{boundaries-few}
 use Rattle.plan.specs.Edition.{mostIntervals}
 use Rattle.plan.specs.Boundaries.{intervals}
-use Rattle.judge.specs.Verdict.{first, fault, totalFault}
+use Rattle.judge.specs.Verdict.{totalFault}
+use Rattle.plan.specs.Report.{first, fault}
 use Rattle.judge.specs.Constraints.{total}
-use Rattle.judge.proofs.Reports.{first-start, first-next, found-here}
+use Rattle.plan.proofs.Reports.{first-start, first-next, found-here}
 use Rattle.judge.proofs.totals.wrong_total.Statement.{statement}
 use Rattle.judge.proofs.totals.wrong_total.Tie as tie
 

@@ -10,11 +10,11 @@ use borrow.Author.Tests.{not-true, not-false}
 use lib.Dec.{eqb}
 use lib.ListN.{getD}
 use Rattle.plan.specs.Refusal.{outsideWindow}
-use Rattle.plan.specs.Below.{every}
-use Rattle.plan.proofs.Below.{every-start}
-use Rattle.judge.specs.Verdict.{fault}
+use Rattle.base.specs.Below.{every}
+use Rattle.base.proofs.Below.{every-start}
+use Rattle.plan.specs.Report.{fault}
 use Rattle.judge.specs.Constraints.{within}
-use Rattle.judge.proofs.Reports.{faults-none, last-fails, found-here}
+use Rattle.plan.proofs.Reports.{faults-none, last-fails, found-here}
 use Rattle.judge.proofs.windows.outside_in_row.Statement.{statement}
 use Rattle.judge.proofs.windows.outside_in_row.Tie as tie
 

@@ -12,11 +12,12 @@ use Rattle.plan.specs.Refusal.{outsideWindow}
 use Rattle.plan.specs.Rules.{counted, release, deadline}
 use Rattle.plan.specs.Boundaries.{intervals, boundaries}
 use Rattle.plan.proofs.BoundaryOrder.{boundaries-few}
-use Rattle.plan.specs.Below.{every}
+use Rattle.base.specs.Below.{every}
 use Rattle.plan.specs.declared.kinds.Plan.{Plan}
-use Rattle.judge.specs.Verdict.{first, fault, isOutside, outsideFault, isNone}
+use Rattle.judge.specs.Verdict.{isOutside, outsideFault}
+use Rattle.plan.specs.Report.{first, fault, isNone}
 use Rattle.judge.specs.Constraints.{within, units, inWindow}
-use Rattle.judge.proofs.Reports.{first-start, first-next, first-found, none-empty, none-faults}
+use Rattle.plan.proofs.Reports.{first-start, first-next, first-found, none-empty, none-faults}
 use Rattle.judge.proofs.windows.outside_window.Statement.{statement}
 use Rattle.judge.proofs.windows.outside_window.Tie as tie
 

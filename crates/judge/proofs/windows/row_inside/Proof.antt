@@ -8,9 +8,9 @@ use native.Mathlib.Omega.{arith}
 use borrow.Author.Needs.{needs}
 use lib.Dec.{eqb}
 use lib.ListN.{getD}
-use Rattle.plan.specs.Below.{every}
+use Rattle.base.specs.Below.{every}
 use Rattle.plan.specs.Rules.{release, deadline}
-use Rattle.plan.proofs.Below.{every-start, every-next}
+use Rattle.base.proofs.Below.{every-start, every-next}
 use Rattle.judge.specs.Constraints.{within}
 use Rattle.judge.proofs.windows.row_inside.Statement.{statement}
 use Rattle.judge.proofs.windows.row_inside.Tie as tie

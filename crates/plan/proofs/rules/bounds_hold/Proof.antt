@@ -5,9 +5,9 @@ use mathlib.Core.Bool.{_&&_}
 use Prim.Native.Nat.{_-_, _≤_}
 use native.Mathlib.Omega.{arith}
 use borrow.Author.Needs.{needs}
-use Rattle.plan.specs.Below.{every}
+use Rattle.base.specs.Below.{every}
 use Rattle.plan.specs.Rules.{boundsHold, windowAllowed, sizeAllowed, jobOf, counted}
-use Rattle.plan.proofs.Below.{every-start, every-next}
+use Rattle.base.proofs.Below.{every-start, every-next}
 use Rattle.plan.proofs.rules.bounds_hold.Statement.{statement}
 use Rattle.plan.proofs.rules.bounds_hold.Tie as tie
 

@@ -8,9 +8,9 @@ use native.Mathlib.Numerals.{add-one}
 use native.Mathlib.Omega.{arith}
 use borrow.Author.Needs.{needs}
 use lib.Dec.{leb}
-use Rattle.plan.specs.Below.{every}
+use Rattle.base.specs.Below.{every}
 use Rattle.plan.specs.Rules.{nameAllowed, byteOf}
-use Rattle.plan.proofs.Below.{every-start, every-next}
+use Rattle.base.proofs.Below.{every-start, every-next}
 use Rattle.plan.proofs.rules.name_allowed.Statement.{statement}
 use Rattle.plan.proofs.rules.name_allowed.Tie as tie
 

@@ -9,10 +9,10 @@ use lib.Dec.{eqb}
 use lib.ListN.{length, getD}
 use lib.Seq.{length-take-le}
 use Rattle.plan.specs.Edition.{mostJobs}
-use Rattle.plan.specs.Below.{every}
+use Rattle.base.specs.Below.{every}
 use Rattle.plan.specs.Rules.{namesDiffer, counted}
 use Rattle.plan.proofs.Names.{name-at, absent-before}
-use Rattle.plan.proofs.Below.{every-start, every-next, every-ext}
+use Rattle.base.proofs.Below.{every-start, every-next, every-ext}
 use Rattle.plan.proofs.rules.names_differ.Statement.{statement}
 use Rattle.plan.proofs.rules.names_differ.Tie as tie
 

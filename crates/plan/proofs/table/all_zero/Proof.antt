@@ -6,8 +6,8 @@ use native.Mathlib.Omega.{arith}
 use borrow.Author.Needs.{needs}
 use lib.Dec.{eqb}
 use lib.ListN.{getD}
-use Rattle.plan.specs.Below.{every}
-use Rattle.plan.proofs.Below.{every-start, every-next}
+use Rattle.base.specs.Below.{every}
+use Rattle.base.proofs.Below.{every-start, every-next}
 use Rattle.plan.proofs.Stray.{zero-past}
 use Rattle.plan.proofs.table.all_zero.Statement.{statement}
 use Rattle.plan.proofs.table.all_zero.Tie as tie

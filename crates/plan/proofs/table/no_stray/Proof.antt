@@ -8,9 +8,9 @@ use borrow.Author.Needs.{needs}
 use lib.Dec.{lit<, eqb}
 use lib.ListN.{getD, take}
 use Rattle.plan.specs.Edition.{mostJobs, mostIntervals, places}
-use Rattle.plan.specs.Below.{every}
+use Rattle.base.specs.Below.{every}
 use Rattle.plan.specs.Table.{noStray}
-use Rattle.plan.proofs.Below.{every-start, every-next}
+use Rattle.base.proofs.Below.{every-start, every-next}
 use Rattle.plan.proofs.Stray.{stray-parts}
 use Rattle.plan.proofs.table.no_stray.Statement.{statement}
 use Rattle.plan.proofs.table.no_stray.Tie as tie

@@ -6,10 +6,10 @@ use Prim.Native.Nat.{ℕ, zero, suc, _+_, _<_}
 use native.Mathlib.Numerals.{add-one}
 use native.Mathlib.Omega.{arith}
 use borrow.Author.Tests.{not-true, not-false}
-use Rattle.base.proofs.SumLaws.{below-or-last}
-use Rattle.plan.specs.Below.{every}
-use Rattle.plan.proofs.Below.{every-next, every-ext}
-use Rattle.judge.specs.Verdict.{Report, orElse, fault, isNone, first}
+use Rattle.base.proofs.Logic.{below-or-last}
+use Rattle.base.specs.Below.{every}
+use Rattle.base.proofs.Below.{every-next, every-ext}
+use Rattle.plan.specs.Report.{Report, orElse, fault, isNone, first}
 
 -- A report is empty exactly if `isNone` holds.
 pub none-empty : (a : Report) → isNone a ≡ true → a ≡ []

@@ -6,8 +6,8 @@ use native.Mathlib.Nat.{add-zero, add-suc}
 use native.Mathlib.Numerals.{add-one}
 use native.Mathlib.Decide.{decLt}
 use native.Mathlib.Omega.{arith}
-use Rattle.base.proofs.SumLaws.{below-or-last}
-use Rattle.plan.specs.Below.{every, least, greatest}
+use Rattle.base.proofs.Logic.{below-or-last, and-left, and-right}
+use Rattle.base.specs.Below.{every, least, greatest}
 
 -- `every` as a loop computes it: true over 0 numbers,
 -- and over n + 1 numbers the conjunction with test n.
@@ -96,18 +96,6 @@ greatest-attained f (suc (suc n)) h = go (decLt (greatest f (suc n)) (f (suc n))
         → (i : ℕ) × (i < suc (suc n)) × (f i ≡ max (greatest f (suc n)) (f (suc n)))
     go (yes l) w = (suc n, omega arith, omega arith)
     go (no l) w = (w .0, omega (arith, w .1), omega (arith, w .2))
-
--- Both conjuncts of a true conjunction are true.
-pub and-left : (a b : Bool) → (a && b) ≡ true → a ≡ true
-and-left true b e = refl
-and-left false b e = e
-
-pub and-right : (a b : Bool) → (a && b) ≡ true → b ≡ true
-and-right true b e = e
-and-right false b e = absurd (true≢false (sym e))
-
-pub both : (a b : Bool) → (a && b) ≡ true → (a ≡ true) × (b ≡ true)
-both a b e = (and-left a b e, and-right a b e)
 
 -- `every test n` is true exactly when the test is true at each k below n.
 pub every-at : (test : ℕ → Bool) (n k : ℕ) → every test n ≡ true → k < n → test k ≡ true
