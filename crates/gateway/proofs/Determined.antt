@@ -4,7 +4,8 @@ use mathlib.Core.Path.{_≡_, refl, sym, _∙_, ap}
 use mathlib.Core.List.{List}
 use Prim.Native.Nat.{ℕ}
 use lib.IntN.{ℤ}
-use Rattle.gateway.specs.Calls.{HostJudgeEffect, HostSlackEffect, HostStartEffect, HostStepEffect, HostReadEffect, HostWriteEffect, judgeCall, startCall, stepCall, outcomeCall, slackCall, readCall, writeCall, nameCall}
+use Rattle.planfile.specs.Reader.{nameFound}
+use Rattle.gateway.specs.Calls.{HostJudgeEffect, HostSlackEffect, HostStartEffect, HostStepEffect, HostReadEffect, HostWriteEffect, judgeCall, startCall, stepCall, outcomeCall, slackCall, readCall, writeCall}
 use Rattle.gateway.specs.Answers.{HostReads, HostWrites, HostShows, HostJudges, HostMeasures, HostStarts, HostSteps, HostEnds}
 
 -- `gateway_read`.
@@ -32,7 +33,7 @@ pub one-name : (file : List ℕ) (position r s : ℕ) → HostShows file positio
 one-name file position r s d e = d ∙ sym e
 
 pub some-name : (file : List ℕ) (position : ℕ) → (r : ℕ) × HostShows file position r
-some-name file position = (nameCall file position, refl)
+some-name file position = (nameFound file position, refl)
 
 -- `gateway_judge`.
 pub one-judge : (plan table location : List ℕ) (r s : ℕ) (left other : List ℕ) → HostJudges plan table location r left

@@ -1,17 +1,13 @@
--- Laws for the calls: what follows from the length tests, what a
--- start leaves, and which names are shown.
-use mathlib.Core.Path.{_≡_, refl, sym, ap}
-use mathlib.Core.Bool.{Bool, true, false, true≢false, _||_}
+-- Laws for the calls: what follows from the length tests, and what a start leaves.
+use mathlib.Core.Path.{_≡_, refl, sym}
+use mathlib.Core.Bool.{true, false, true≢false, _||_}
 use mathlib.Core.List.{List, [], _∷_}
-use Prim.Native.Nat.{ℕ, _≤_, _<_}
-use borrow.Author.Tests.{ltb-true, ltb-false}
+use Prim.Native.Nat.{ℕ, _≤_}
+use borrow.Author.Tests.{ltb-false}
 use lib.Dec.{ltb}
 use lib.ListN.{length}
 use Rattle.plan.specs.declared.kinds.Plan.{Plan}
 use Rattle.plan.specs.Report.{Report, isNone}
-use Rattle.planfile.specs.Reader.{readFile, nameShown}
-use Rattle.planfile.specs.inner.Parts.{countOf}
-use Rattle.planfile.proofs.WholeFile.{shown-none}
 use Rattle.dispatch.specs.Step.{started}
 use Rattle.base.proofs.Logic.{neither}
 use Rattle.hostmemory.specs.Memory.{runPut}
@@ -39,12 +35,3 @@ starts (number ∷ places) p run e = absurd (true≢false (sym e))
 pub stays : (r : Report) (p : Plan) (run : List ℕ) → isNone r ≡ false → startWords r p run ≡ run
 stays [] p run e = absurd (true≢false e)
 stays (number ∷ places) p run e = refl
-
--- A name is shown only for a position below the job count.
-pub some-shown : (file : List ℕ) (k : ℕ) → (length (nameShown file k) ≡ 0 → ⊥) → k < countOf (readFile file)
-unfolding nameShown
-some-shown file k some = go (ltb k (countOf (readFile file))) refl
-  where
-    go : (t : Bool) → ltb k (countOf (readFile file)) ≡ t → k < countOf (readFile file)
-    go true e = ltb-true k (countOf (readFile file)) e
-    go false e = absurd (some (ap length (shown-none (readFile file) file k (ltb-false k (countOf (readFile file)) e))))

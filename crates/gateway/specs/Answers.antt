@@ -1,11 +1,11 @@
 -- The contract of each call for hosts: its number, and every lent
 -- buffer at exit, are those of its definition.
 use mathlib.Core.Path.{_≡_}
-use mathlib.Core.List.{List}
 use Prim.Native.Nat.{ℕ}
 use lib.IntN.{ℤ}
 use Rattle.plan.specs.Kinds.{Bytes, Position, Row, Speed, Table, Words}
-use Rattle.gateway.specs.Calls.{judgeCall, startCall, stepCall, outcomeCall, slackCall, readCall, writeCall, nameCall}
+use Rattle.planfile.specs.Reader.{nameFound}
+use Rattle.gateway.specs.Calls.{judgeCall, startCall, stepCall, outcomeCall, slackCall, readCall, writeCall}
 
 -- The contract of `gateway_read`: the number, the lent plan and the table.
 abbrev pub HostReads : (file : Bytes) (plan : Words) (table : Table) (r : ℕ) (plan-left : Words) (table-left : Table) → Type 0
@@ -20,7 +20,7 @@ HostWrites plan table out r out-left length-left =
 
 -- The contract of `gateway_name`: the offset of the name in the file, or 0.
 abbrev pub HostShows : (file : Bytes) (position : Position) (r : ℕ) → Type 0
-HostShows file position r = r ≡ nameCall file position
+HostShows file position r = r ≡ nameFound file position
 
 -- The contract of `gateway_judge`: the number and the lent location.
 abbrev pub HostJudges : (plan : Words) (table : Table) (location : Words) (r : ℕ) (location-left : Words) → Type 0

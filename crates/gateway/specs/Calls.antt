@@ -2,7 +2,7 @@
 use mathlib.Core.Bool.{Bool, not, cond, _||_}
 use mathlib.Core.List.{List, [], _∷_}
 use Prim.Native.Nat.{ℕ}
-use lib.Dec.{ltb, eqb}
+use lib.Dec.{ltb}
 use lib.IntN.{ℤ, pos}
 use lib.ListN.{length, set}
 use Rattle.plan.specs.Kinds.{Bytes, Position, Row, Speed, Table, Words}
@@ -11,7 +11,7 @@ use Rattle.plan.specs.declared.kinds.Plan.{Plan}
 use Rattle.judge.specs.Verdict.{judged}
 use Rattle.plan.specs.Report.{Report, doneNumber, numberOf}
 use Rattle.judge.specs.Slack as slack
-use Rattle.planfile.specs.Reader.{ReadEffect, reader, nameAt, nameShown}
+use Rattle.planfile.specs.Reader.{ReadEffect, reader}
 use Rattle.planwriter.specs.Writing as writing
 use Rattle.dispatch.specs.Step.{SlotEffect, Ending, met, discarded, missed, stillOpen, refused, started, stepped, outcome}
 use Rattle.hostmemory.specs.Memory.{locationWords, shortPlan, shortRun, planOf, planPut, marksHold, runOf, runPut}
@@ -214,8 +214,3 @@ wroteWords o = record { number = writtenNumber (o .answer); length = writtenLeng
 unfoldable pub writeCall : (plan : Words) (table : Table) (out : Bytes) → HostWriteEffect
 writeCall plan table out =
     cond (shortPlan plan) (record { number = bufferTooShort; length = 0; out = out }) (wroteWords (writing.writer (planOf plan) table out))
-
--- The name's call: the offset in the file at which the eight bytes of a
--- job's name begin; 0 if no name is shown.
-unfoldable pub nameCall : (file : Bytes) (position : Position) → ℕ
-nameCall file position = cond (eqb (length (nameShown file position)) 0) 0 (nameAt position)

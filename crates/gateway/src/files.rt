@@ -5,9 +5,8 @@ use crate::answers::written_number;
 use hostmemory::plans::plan_of;
 use hostmemory::plans::put_plan;
 use hostmemory::sizes::Sizes;
-use plan::edition::Edition;
 use plan::refusal::BUFFER_TOO_SHORT;
-use planfile::lookup::name_of;
+use planfile::lookup::name_at;
 use planfile::reader::read;
 use planwriter::writer::write;
 ghost use Rattle.gateway.specs.Answers.{HostReads, HostWrites, HostShows};
@@ -51,9 +50,5 @@ pub extern "C" fn gateway_write(
 pub extern "C" fn gateway_name(file: &[u8], position: usize) -> usize
     ensures { λ r. ⌜ HostShows (now (file .entry)) position r ⌝ }
 {
-    let shown = name_of(file, position);
-    if shown.len() == 0 {
-        return 0;
-    }
-    Edition::HEADER_BYTES + position * (1 + Edition::JOB_LENGTH) + 1
+    name_at(file, position)
 }

@@ -1,5 +1,5 @@
 -- The bounds of the plan edition, by name.
-use Prim.Native.Nat.{ℕ, _+_, _*_, _-_}
+use Prim.Native.Nat.{ℕ, _*_, _-_}
 
 -- The greatest number of jobs.
 abbrev pub mostJobs : ℕ
@@ -33,22 +33,6 @@ mostSize = 100_000_000
 abbrev pub places : ℕ
 places = mostJobs * mostIntervals
 
--- The first byte of a plan file.
-abbrev pub versionByte : ℕ
-versionByte = 1
-
 -- The number of bytes in a name.
 abbrev pub nameBytes : ℕ
 nameBytes = 8
-
--- The number of bytes before the jobs of a file: version, length, both rates and the job count.
-abbrev pub headerBytes : ℕ
-headerBytes = 1 + 4 + 2 + 2 + 1
-
--- The value of a job's length byte.
-abbrev pub jobLength : ℕ
-jobLength = 21
-
--- The value of a row's length byte.
-abbrev pub rowLength : ℕ
-rowLength = 14

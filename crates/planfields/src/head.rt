@@ -1,9 +1,9 @@
 // Reading the fields before the jobs: version, length, both rates and the job count.
+use crate::layout::Layout;
 use crate::field::Field;
 use crate::field::NONE;
 use crate::field::field_refusal;
 use crate::field::read_field;
-use plan::edition::Edition;
 use plan::kinds::Rate;
 use plan::refusal::WRONG_EXTENT;
 use plan::refusal::WRONG_JOB_COUNT;
@@ -42,7 +42,7 @@ fn read_opening(file: &[u8]) -> Field
     if file.len() == 0 {
         return Field::Refused(WRONG_VERSION);
     }
-    if file[0] != Edition::VERSION {
+    if file[0] != Layout::VERSION {
         return Field::Refused(WRONG_VERSION);
     }
     let length = read_field(file, 1, 4);

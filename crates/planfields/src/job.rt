@@ -1,10 +1,10 @@
 // Reading one job.
+use crate::layout::Layout;
 use crate::field::Field;
 use crate::field::NONE;
 use crate::field::field_refusal;
 use crate::field::read_field;
 use crate::field::read_named;
-use plan::edition::Edition;
 use plan::kinds::Job;
 use plan::kinds::Name;
 use plan::kinds::Slots;
@@ -43,7 +43,7 @@ pub fn job_refusal(j: JobRead) -> u8
 fn read_name(file: &[u8], at: usize, earlier: &[u64]) -> Field
     ensures { λ r. ⌜ fieldView r ≡ jobName (now (earlier .entry)) (now (file .entry)) at ⌝ }
 {
-    let named = read_named(file, at, Edition::JOB_LENGTH as u64);
+    let named = read_named(file, at, Layout::JOB_LENGTH as u64);
     let Field::Value(name, next) = named else {
         return named;
     };

@@ -2,4 +2,5 @@
 pub mod field;
 pub mod head;
 pub mod job;
+pub mod layout;
 pub mod numbers;

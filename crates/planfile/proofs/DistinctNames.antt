@@ -10,7 +10,7 @@ use borrow.Author.Tests.{eqb-false, not-true}
 use lib.Dec.{eqb}
 use lib.ListN.{length, getD, length-append, List·getD-append}
 use lib.Seq.{getD-at}
-use Rattle.plan.specs.Edition.{jobLength}
+use Rattle.planfields.specs.Layout.{jobLength}
 use Rattle.plan.specs.Refusal.{wrongNameByte, nameTaken, wrongGrade, wrongJobBounds}
 use Rattle.plan.specs.Rules.{nameAllowed, isAbsent, gradeAllowed, windowAllowed, sizeAllowed}
 use Rattle.plan.specs.declared.kinds.Job.{Job}

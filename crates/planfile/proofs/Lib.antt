@@ -1,3 +1,4 @@
+pub mod FileSize
 pub mod PositionLaws
 pub mod JobLoop
 pub mod Rows

@@ -7,14 +7,15 @@ use native.Mathlib.Omega.{arith}
 use borrow.Author.Tests.{leb-true, ltb-true, eqb-true}
 use lib.Dec.{leb, ltb, eqb}
 use lib.ListN.{length, getD, take, drop, replicate}
-use Rattle.plan.specs.Edition.{mostJobs, mostRows, mostIntervals, places, jobLength}
+use Rattle.plan.specs.Edition.{mostJobs, mostRows, mostIntervals, places}
+use Rattle.planfields.specs.Layout.{jobLength, nameAt}
 use Rattle.plan.specs.Refusal.{wrongExtent, wrongVersion, wrongRecordLength, wrongRates, wrongJobCount, tooManyRows}
 use Rattle.plan.specs.Rules.{ratesAllowed}
 use Rattle.plan.specs.Boundaries.{intervals}
 use Rattle.plan.specs.declared.kinds.Job.{Job}
 use Rattle.planfields.specs.Bytes.{value}
 use Rattle.planfields.specs.Fields.{Parsed, got, no, onward, field, checked, version, extent, opening, Head, head, named, oneJob, ended}
-use Rattle.planfile.specs.Reader.{namesOf, allJobs, Preamble, preamble, allRows, Contents, planFile, readFile, nameAt}
+use Rattle.planfile.specs.Reader.{namesOf, allJobs, Preamble, preamble, allRows, Contents, planFile, readFile}
 use Rattle.planfile.specs.inner.Parts.{countOf}
 use Rattle.planfields.proofs.ParserLaws.{through, past, checked-is, same-value, same-next}
 use Rattle.planfile.proofs.DistinctNames.{job-read}

@@ -8,7 +8,8 @@ use native.Mathlib.Omega.{arith}
 use borrow.Author.Tests.{ltb-true, le-leb, lt-leb}
 use lib.Dec.{leb, ltb, eqb}
 use lib.ListN.{length, set}
-use Rattle.plan.specs.Edition.{mostIntervals, rowLength}
+use Rattle.plan.specs.Edition.{mostIntervals}
+use Rattle.planfields.specs.Layout.{rowLength}
 use Rattle.plan.specs.Refusal.{rowWithoutJob, rowWithoutInterval, rowWithoutUnits, rowOutOfOrder}
 use Rattle.plan.specs.Table.{place}
 use Rattle.planfields.specs.Fields.{Parsed, got, no, onward, checked, named}

@@ -1,4 +1,5 @@
 -- Laws of a whole file, part by part: the first fault decides the result.
+use mathlib.Core.Logic.{_≢_}
 use mathlib.Core.Path.{_≡_, refl, sym, _∙_, ap}
 use mathlib.Core.List.{List, [], _∷_, _++_, append-nil}
 use Prim.Native.Nat.{ℕ, _≤_, _<_}
@@ -12,7 +13,9 @@ use Rattle.plan.specs.Boundaries.{intervals}
 use Rattle.plan.specs.declared.kinds.Plan.{Plan}
 use Rattle.planfields.specs.Fields.{Parsed, got, no, ended}
 use Rattle.plan.specs.Rules.{noPlan}
-use Rattle.planfile.specs.Reader.{Preamble, preamble, allRows, Contents, planFile, readFile, ReadEffect, leaves, reader, nameAt, shownBy}
+use Rattle.planfile.specs.Reader.{Preamble, preamble, allRows, Contents, planFile, readFile, ReadEffect, leaves, reader, shownBy, foundBy}
+use Rattle.base.proofs.Logic.{if-less}
+use Rattle.planfields.specs.Layout.{nameAt}
 use Rattle.planfields.specs.Answers.{passedView}
 use Rattle.planfile.specs.Answers.{answerView, readView}
 use Rattle.planfile.specs.inner.Parts.{Distinct, RowsAnswer, FillAnswer, countOf}
@@ -25,17 +28,17 @@ use Rattle.planfile.proofs.Rows.{onlyPassed}
 
 -- What the answer of `store_rows` says about the parser result.
 module _ (r : Passed) (left : List ℕ) where
-  pub rows-refused : (s : Parsed (List ℕ)) {k : ℕ} → RowsAnswer s r left → r ≡ passed.Refused k → s ≡ no k
-  rows-refused (got t next) a e = absurd (let z : _≡_ {A = ℕ} 0 1 = cc (a .0) in omega arith)
-  rows-refused (no number) a e = cc
-
-  pub rows-got : (s : Parsed (List ℕ)) {next : ℕ} → RowsAnswer s r left → r ≡ passed.Next next → s ≡ got left next
-  rows-got (got t next) a e = cc (a .0, a .1)
-  rows-got (no number) a e = absurd (let z : _≡_ {A = ℕ} 0 1 = cc in omega arith)
-
   pub rows-passed : (s : Parsed (List ℕ)) → RowsAnswer s r left → passedView r ≡ onlyPassed s
   rows-passed (got t next) a = ap passedView (a .0)
   rows-passed (no number) a = ap passedView a
+
+  pub rows-left : (s : Parsed (List ℕ)) {t : List ℕ} {next : ℕ} → RowsAnswer s r left → s ≡ got t next → left ≡ t
+  rows-left (got t next) a e = a .1 ∙ cc
+  rows-left (no number) a e = absurd (let z : _≡_ {A = ℕ} 0 1 = cc in omega arith)
+
+-- The rows of a preamble, read into a table from an offset on.
+abbrev pub rowsOf : (f : Preamble) (table file : List ℕ) (at : ℕ) → Parsed (List ℕ)
+rowsOf f table file at = allRows (f .rows) mostIntervals (f .names) (intervals (f .plan)) 0 table file at
 
 -- The same from the view of the answer, without the table.
 pub only-refused : (s : Parsed (List ℕ)) {r : Passed} {k : ℕ} → passedView r ≡ onlyPassed s → r ≡ passed.Refused k → s ≡ no k
@@ -54,13 +57,13 @@ module _ (file : List ℕ) where
   no-preamble e = rw e
 
   module _ {f : Preamble} {at : ℕ} (e : preamble file 0 ≡ got f at) where
-    pub no-rows : {k : ℕ} → allRows (f .rows) mostIntervals (f .names) (intervals (f .plan)) 0 (replicate places 0) file at ≡ no k
+    pub no-rows : {k : ℕ} → rowsOf f (replicate places 0) file at ≡ no k
         → readFile file ≡ no k
     unfolding planFile
     no-rows e′ = rw (e, e′)
 
     module _ {table : List ℕ} {last : ℕ}
-        (e′ : allRows (f .rows) mostIntervals (f .names) (intervals (f .plan)) 0 (replicate places 0) file at ≡ got table last) where
+        (e′ : rowsOf f (replicate places 0) file at ≡ got table last) where
       pub no-end : {k : ℕ} → ended file last ≡ no k → readFile file ≡ no k
       unfolding planFile
       no-end t = rw (e, e′, t)
@@ -89,20 +92,20 @@ module _ (file : List ℕ) {f : Preamble} {at : ℕ} (e : preamble file 0 ≡ go
 
   pub rows-same : (spans : ℕ) → spans ≡ intervals plan → (table : List ℕ)
       → allRows rows mostIntervals (take (plan .count) names) spans 0 table file at
-      ≡ allRows (f .rows) mostIntervals (f .names) (intervals (f .plan)) 0 table file at
+      ≡ rowsOf f table file at
   rows-same spans s table = rw (names-taken, s, ep, er)
 
 -- What the reader leaves, by the answer of `fill` and by the length of the table.
-pub whole-read : (s : Parsed Contents) (r : PlanRead) (left : List ℕ) → FillAnswer s r left → r .answer ≡ answer.Read → readView r left ≡ leaves s []
-whole-read (got contents next) r left a e =
-    λ t. record { answer = (ap answerView e) t; plan = (a .1) t; table = (a .2 ∙ sym (append-nil (contents .table))) t }
-whole-read (no number) r left a e = absurd (let z : _≡_ {A = ℕ} 0 1 = cc in omega arith)
+pub whole-read : (s : Parsed Contents) (table : List ℕ) (r : PlanRead) (left : List ℕ) → FillAnswer s table r left → table ≡ replicate places 0 → r .answer ≡ answer.Read → readView r left ≡ leaves s []
+whole-read (got contents next) table r left a zeros e =
+    λ t. record { answer = (ap answerView e) t; plan = (a .1) t; table = (a .2 zeros ∙ sym (append-nil (contents .table))) t }
+whole-read (no number) table r left a zeros e = absurd (let z : _≡_ {A = ℕ} 0 1 = cc in omega arith)
 
-pub whole-refused : (s : Parsed Contents) (r : PlanRead) (left : List ℕ) → FillAnswer s r left → {k : ℕ} → r .answer ≡ answer.Refused k
+pub whole-refused : (s : Parsed Contents) (table : List ℕ) (r : PlanRead) (left : List ℕ) → FillAnswer s table r left → {k : ℕ} → r .answer ≡ answer.Refused k
     → {plan : Plan} → plan ≡ noPlan → {zeros : List ℕ} → zeros ≡ replicate places 0
     → readView (record { answer = r .answer; plan = plan }) zeros ≡ leaves s []
-whole-refused (got contents next) r left a e p z = absurd (let z : _≡_ {A = ℕ} 0 1 = cc (a .0) in omega arith)
-whole-refused (no number) r left a e p z =
+whole-refused (got contents next) table r left a e p z = absurd (let z : _≡_ {A = ℕ} 0 1 = cc (a .0) in omega arith)
+whole-refused (no number) table r left a e p z =
     λ t. record { answer = (ap answerView a) t; plan = p t; table = (z ∙ sym (append-nil (replicate places 0))) t }
 
 pub whole-beyond : (s : Parsed Contents) (r : PlanRead) (left table : List ℕ) → readView r left ≡ leaves s []
@@ -129,7 +132,32 @@ pub reader-long : (file table : List ℕ) → places ≤ length table → leaves
 unfolding reader
 reader-long file table h = rw (le-ltb (length table) places h)
 
--- What the name lookup shows: nothing from the job count on, and eight bytes below it.
+-- The job count by the answer of `fill`.
+pub count-read : (s : Parsed Contents) (table : List ℕ) (r : PlanRead) (left : List ℕ) → FillAnswer s table r left → r .answer ≡ answer.Read
+    → r .plan .count ≡ countOf s
+count-read (got contents next) table r left a e = ap (λ (p : Plan). p .count) (a .1)
+count-read (no number) table r left a e = absurd (let z : _≡_ {A = ℕ} 0 1 = cc in omega arith)
+
+pub count-refused : (s : Parsed Contents) (table : List ℕ) (r : PlanRead) (left : List ℕ) → FillAnswer s table r left → {k : ℕ}
+    → r .answer ≡ answer.Refused k → 0 ≡ countOf s
+count-refused (got contents next) table r left a e = absurd (let z : _≡_ {A = ℕ} 0 1 = cc (a .0) in omega arith)
+count-refused (no number) table r left a e = refl
+
+-- What the name lookup finds and shows: nothing from the job count on, eight bytes below it.
+pub found-none : (s : Parsed Contents) (k : ℕ) → countOf s ≤ k → foundBy s k ≡ 0
+found-none (got contents next) k h = rw (le-ltb k (contents .plan .count) h)
+found-none (no number) k h = refl
+
+pub found-name : (s : Parsed Contents) (k : ℕ) → k < countOf s → foundBy s k ≡ nameAt k
+found-name (got contents next) k h = rw (lt-ltb k (contents .plan .count) h)
+found-name (no number) k h = absurd (omega arith)
+
+pub found-above : (s : Parsed Contents) (k : ℕ) → foundBy s k ≡ 0 → countOf s ≤ k
+found-above s k none = if-less k (countOf s) (λ l. absurd (omega (arith, found-name s k l))) (λ m. m)
+
+pub found-below : (s : Parsed Contents) (k : ℕ) → foundBy s k ≢ 0 → k < countOf s
+found-below s k some = if-less k (countOf s) (λ l. l) (λ m. absurd (some (found-none s k m)))
+
 pub shown-none : (s : Parsed Contents) (file : List ℕ) (k : ℕ) → countOf s ≤ k → shownBy s file k ≡ []
 shown-none (got contents next) file k h = rw (le-ltb k (contents .plan .count) h)
 shown-none (no number) file k h = refl

@@ -21,6 +21,10 @@ readView r left = record { answer = answerView (r .answer); plan = r .plan; tabl
 abbrev pub Reads : (file : Bytes) (table : Table) (r : PlanRead) (left : List ℕ) → Type 0
 Reads file table r left = readView r left ≡ rule.reader file table
 
+-- The contract of `name_at`: the offset that it returns is the one of `nameFound`.
+abbrev pub Finds : (file : Bytes) (position : Position) (r : ℕ) → Type 0
+Finds file position r = r ≡ rule.nameFound file position
+
 -- The contract of `name_of`: the part that it returns is the one of `nameShown`.
 abbrev pub Shows : (file : Bytes) (position : Position) (part : List ℕ) → Type 0
 Shows file position part = part ≡ rule.nameShown file position

@@ -5,8 +5,9 @@ use mathlib.Core.List.{List, [], _∷_, _++_, map}
 use Prim.Native.Nat.{ℕ, zero, suc, _+_, _*_, _-_}
 use lib.Dec.{leb, ltb, eqb}
 use lib.ListN.{length, take, drop, set, replicate}
-use Rattle.plan.specs.Kinds.{Bytes, Table}
-use Rattle.plan.specs.Edition.{headerBytes, mostJobs, mostRows, mostIntervals, places, jobLength, rowLength}
+use Rattle.plan.specs.Kinds.{Bytes, Offset, Position, Table}
+use Rattle.plan.specs.Edition.{mostJobs, mostRows, mostIntervals, places}
+use Rattle.planfields.specs.Layout.{rowLength, nameAt}
 use Rattle.plan.specs.Refusal.{tooManyRows, rowWithoutJob, rowWithoutInterval, rowWithoutUnits, rowOutOfOrder, bufferTooShort}
 use Rattle.plan.specs.Rules.{sameName, noJob, noPlan}
 use Rattle.plan.specs.Boundaries.{intervals}
@@ -114,9 +115,14 @@ unfoldable pub reader : (file : Bytes) (table : Table) → ReadEffect
 reader file table =
     cond (ltb (length table) places) (record { answer = bufferTooShort ∷ []; plan = noPlan; table = table }) (leaves (readFile file) table)
 
--- The offset of the name of job k in a file.
-abbrev pub nameAt : ℕ → ℕ
-nameAt k = headerBytes + k * (1 + jobLength) + 1
+-- The offset at which the name lookup finds job k's name; 0, where no name begins, if the file is
+-- refused or has no job k.
+abbrev pub foundBy : Parsed Contents → Position → Offset
+foundBy (got contents at) k = cond (ltb k (contents .plan .count)) (nameAt k) 0
+foundBy (no number) k = 0
+
+unfoldable pub nameFound : (file : Bytes) (k : Position) → Offset
+nameFound file k = foundBy (readFile file) k
 
 -- The part that the name lookup shows: the eight bytes of job k's name,
 -- or nothing if the file is refused or has no job k.

@@ -40,11 +40,11 @@ fn clear(table: &mut [u32])
     }
 }
 
-// Reads a file into a table of exactly PLACES zeros.
+// Reads a file: the plan, and into a table of exactly PLACES zeros the allotments. With an empty
+// table the rows are checked and none is stored.
 // After a refusal the plan and the table have no meaning.
-fn fill(file: &[u8], table: &mut [u32]) -> PlanRead
-    requires { ⌜ now table ≡ replicate places 0 ⌝ }
-    ensures { λ r. ⌜ FillAnswer (readFile (now (file .entry))) r (now (table .exit)) ⌝ }
+pub(crate) fn fill(file: &[u8], table: &mut [u32]) -> PlanRead
+    ensures { λ r. ⌜ FillAnswer (readFile (now (file .entry))) (now (table .entry)) r (now (table .exit)) ⌝ }
 {
     let mut names = [0u64; Edition::MOST_JOBS];
     let preamble = read_preamble(file, &mut names);

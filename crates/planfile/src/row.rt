@@ -8,6 +8,7 @@ use planfields::field::field_refusal;
 use planfields::field::read_named;
 use planfields::numbers::read_interval;
 use planfields::numbers::read_units;
+use planfields::layout::Layout;
 ghost use mathlib.Core.Path.{_≡_};
 ghost use Prim.Native.Nat.{ℕ, _≤_, _<_};
 ghost use lib.ListN.{length, getD};
@@ -78,7 +79,7 @@ pub(crate) fn read_row(
     requires { ⌜ Distinct (now names) × (length (now names) ≤ mostJobs) ⌝ }
     ensures { λ r. ⌜ rowView r ≡ oneRow mostIntervals (now (names .entry)) spans low (now (file .entry)) at ⌝ }
 {
-    let named = read_named(file, at, Edition::ROW_LENGTH as u64);
+    let named = read_named(file, at, Layout::ROW_LENGTH as u64);
     let Field::Value(name, after_name) = named else {
         return RowRead::Refused(field_refusal(named));
     };

@@ -10,7 +10,8 @@ use borrow.Author.Tests.{eq-eqb, ne-eqb}
 use lib.Dec.{eqb}
 use lib.ListN.{length, getD, take, drop, length-append, take-append-drop}
 use lib.Seq.{sets, take-suc, length-take-le}
-use Rattle.plan.specs.Edition.{mostIntervals, jobLength, rowLength}
+use Rattle.plan.specs.Edition.{mostIntervals}
+use Rattle.planfields.specs.Layout.{jobLength, rowLength}
 use Rattle.plan.specs.Rules.{jobOf}
 use Rattle.plan.specs.declared.kinds.Job.{Job}
 use Rattle.plan.specs.declared.kinds.Plan.{Plan}

@@ -7,7 +7,8 @@ use native.Mathlib.Omega.{arith}
 use borrow.Author.Tests.{lt-ltb, le-ltb}
 use lib.ListN.{length, take, length-append}
 use lib.Seq.{sets, length-take-le}
-use Rattle.plan.specs.Edition.{mostJobs, mostIntervals, places, jobLength, rowLength}
+use Rattle.plan.specs.Edition.{mostJobs, mostIntervals, places}
+use Rattle.planfields.specs.Layout.{jobLength, rowLength}
 use Rattle.plan.specs.Refusal.{unsound, bufferTooShort}
 use Rattle.plan.specs.Rules.{counted, names, size}
 use Rattle.plan.specs.Table.{sound}

@@ -5,7 +5,8 @@ use Prim.Native.Nat.{ℕ, zero, suc, _/_, _%_}
 use lib.Dec.{ltb, eqb}
 use lib.ListN.{length, getD, take, drop}
 use Rattle.plan.specs.Kinds.{Amount, Bytes, Interval, Number, Table}
-use Rattle.plan.specs.Edition.{versionByte, nameBytes, mostIntervals, places, jobLength, rowLength}
+use Rattle.plan.specs.Edition.{nameBytes, mostIntervals, places}
+use Rattle.planfields.specs.Layout.{versionByte, jobLength, rowLength}
 use Rattle.plan.specs.Refusal.{unsound, bufferTooShort}
 use Rattle.plan.specs.Rules.{counted, names, jobOf}
 use Rattle.plan.specs.Table.{sound}

@@ -1,12 +1,14 @@
 // Writing one field, and the fields of a job and of a row.
 use plan::edition::Edition;
 use plan::kinds::Job;
+use planfields::layout::Layout;
 ghost use mathlib.Core.Path.{_≡_};
 ghost use mathlib.Core.List.{[], _∷_};
 ghost use Prim.Native.Nat.{_+_, _≤_, _<_, _^_};
 ghost use lib.ListN.{length};
 ghost use lib.Seq.{sets};
-ghost use Rattle.plan.specs.Edition.{mostIntervals, jobLength, rowLength};
+ghost use Rattle.plan.specs.Edition.{mostIntervals};
+ghost use Rattle.planfields.specs.Layout.{jobLength, rowLength};
 ghost use Rattle.planfields.specs.Bytes.{bytes};
 ghost use Rattle.planwriter.specs.Writing.{jobBytes, rowBytes, rowAt};
 
@@ -33,7 +35,7 @@ pub(crate) fn put_job(out: &mut [u8], at: usize, job: Job) -> usize
     let release = job.release;
     let size = job.size;
     let deadline = job.deadline;
-    let after_length = put(out, at, 1, Edition::JOB_LENGTH as u64);
+    let after_length = put(out, at, 1, Layout::JOB_LENGTH as u64);
     let after_name = put(out, after_length, Edition::NAME_BYTES, name.0);
     let after_grade = put(out, after_name, 1, job.grade as u64);
     let after_release = put(out, after_grade, 4, release.0 as u64);
@@ -45,7 +47,7 @@ fn put_row(out: &mut [u8], at: usize, name: u64, interval: usize, units: u32) ->
     requires { ⌜ (at + (1 + rowLength) ≤ length (now out)) × (interval < 256 ^ 2) ⌝ }
     ensures { λ r. ⌜ (r ≡ at + (1 + rowLength)) × (now (out .exit) ≡ sets (now (out .entry)) at (rowBytes name interval units)) ⌝ }
 {
-    let after_length = put(out, at, 1, Edition::ROW_LENGTH as u64);
+    let after_length = put(out, at, 1, Layout::ROW_LENGTH as u64);
     let after_name = put(out, after_length, Edition::NAME_BYTES, name);
     let after_interval = put(out, after_name, 2, interval as u64);
     put(out, after_interval, 4, units as u64)

@@ -9,6 +9,7 @@ use plan::refusal::BUFFER_TOO_SHORT;
 use plan::refusal::UNSOUND;
 use plan::rules::names_of;
 use plan::table::sound_of;
+use planfields::layout::Layout;
 ghost use mathlib.Core.Path.{_≡_};
 ghost use mathlib.Core.Bool.{true, cond};
 ghost use mathlib.Core.List.{[], _∷_};
@@ -16,7 +17,8 @@ ghost use Prim.Native.Nat.{ℕ, _+_, _*_, _≤_, _<_, _^_};
 ghost use lib.Dec.{eqb};
 ghost use lib.ListN.{length};
 ghost use lib.Seq.{sets};
-ghost use Rattle.plan.specs.Edition.{mostJobs, mostIntervals, places, jobLength};
+ghost use Rattle.plan.specs.Edition.{mostJobs, mostIntervals, places};
+ghost use Rattle.planfields.specs.Layout.{jobLength};
 ghost use Rattle.plan.specs.Rules.{size};
 ghost use Rattle.plan.specs.Boundaries.{intervals};
 ghost use Rattle.plan.specs.Table.{noStray};
@@ -25,7 +27,7 @@ ghost use Rattle.planwriter.specs.Answers.{Writes};
 ghost use Rattle.planwriter.specs.inner.Writable.{Writable};
 
 // The number of bytes of both rates and the job count.
-const BODY_HEAD_BYTES: usize = Edition::HEADER_BYTES - Edition::OPENING_BYTES;
+const BODY_HEAD_BYTES: usize = Layout::HEADER_BYTES - Layout::OPENING_BYTES;
 
 // The file's length, or the refusal number.
 pub enum Written {
@@ -119,7 +121,7 @@ fn put_file(out: &mut [u8], p: Plan, table: &[u32], rows: usize, follows: usize,
     requires { ⌜ (length (written p (now table)) ≤ length (now out)) × Writable p (now table) × (rows ≡ rowCount (now table)) × (follows ≡ length (body p (now table))) × (spans ≡ intervals p) ⌝ }
     ensures { λ r. ⌜ now (out .exit) ≡ sets (now (out .entry)) 0 (written p (now (table .entry))) ⌝ }
 {
-    let after_version = put(out, 0, 1, Edition::VERSION as u64);
+    let after_version = put(out, 0, 1, Layout::VERSION as u64);
     let after_length = put(out, after_version, 4, follows as u64);
     put_body(out, after_length, p, table, rows, spans);
 }
@@ -136,12 +138,12 @@ pub fn write(p: Plan, table: &[u32], out: &mut [u8]) -> Written
         return Written::Refused(UNSOUND);
     }
     let rows = rows_in(&table[..Edition::PLACES]);
-    let jobs = p.count * (1 + Edition::JOB_LENGTH);
+    let jobs = p.count * (1 + Layout::JOB_LENGTH);
     let follows = BODY_HEAD_BYTES
         + jobs
-        + Edition::ROW_COUNT_BYTES
-        + rows * (1 + Edition::ROW_LENGTH);
-    let length = Edition::OPENING_BYTES + follows;
+        + Layout::ROW_COUNT_BYTES
+        + rows * (1 + Layout::ROW_LENGTH);
+    let length = Layout::OPENING_BYTES + follows;
     if out.len() < length {
         return Written::Refused(BUFFER_TOO_SHORT);
     }

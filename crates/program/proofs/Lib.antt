@@ -1,4 +1,3 @@
 pub mod OutcomeLines
 pub mod SlotTurn
-pub mod FileSize
 pub mod TurnsOutput

@@ -19,7 +19,8 @@ use Rattle.dispatch.specs.Step.{started, noRun}
 use Rattle.dispatch.specs.declared.Run.{Run}
 use Rattle.lines.specs.Lines.{slotHeader, outcomeHeader, strayLine, refusedLine}
 use Rattle.program.specs.declared.Phase.the-variants.{Slots, Job, Over}
-use Rattle.program.specs.Output.{speed, slotOf, slotText, jobText, jobsText, closing, slotsText, fileBytes, planFault, planText, printedBy, output}
+use Rattle.program.specs.Output.{speed, slotOf, slotText, jobText, jobsText, closing, slotsText, planFault, planText, printedBy, output}
+use Rattle.planfields.specs.Layout.{fileBytes}
 use Rattle.program.specs.Turns.{progress, openedBy, opened, jobTurn, slotTurn, played}
 
 -- A progress that is over prints nothing.

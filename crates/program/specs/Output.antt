@@ -5,7 +5,8 @@ use Prim.Native.Nat.{ℕ, zero, suc, _+_, _*_, min}
 use lib.Dec.{ltb}
 use lib.ListN.{length, getD, take, drop, replicate}
 use Rattle.plan.specs.Kinds.{Amount, Bytes, Position, Speed, Table}
-use Rattle.plan.specs.Edition.{mostJobs, mostRows, places, headerBytes, jobLength, rowLength}
+use Rattle.plan.specs.Edition.{mostJobs, mostRows, places}
+use Rattle.planfields.specs.Layout.{headerBytes, jobLength, rowLength}
 use Rattle.plan.specs.Rules.{counted, name}
 use Rattle.plan.specs.declared.kinds.Plan.{Plan}
 use Rattle.planfile.specs.Reader.{ReadEffect, reader}
@@ -15,23 +16,6 @@ use Rattle.dispatch.specs.Dues.{carriedOf}
 use Rattle.dispatch.specs.Step.{SlotEffect, Ending, endingReport, started, stepped, outcome}
 use Rattle.dispatch.specs.declared.Run.{Run}
 use Rattle.lines.specs.Lines.{slotHeader, outcomeHeader, strayLine, refusedLine, slotLine, refusedSlotLine, outcomeLine, endingWord}
-
--- The length of version and length field, which decide a file's size.
-abbrev pub headBytes : ℕ
-headBytes = 1 + 4
-
--- The size of the largest plan file.
-abbrev pub largestFile : ℕ
-largestFile = headerBytes + mostJobs * (1 + jobLength) + 2 + mostRows * (1 + rowLength)
-
--- The value of the length field, highest byte first.
-abbrev pub lengthSaid : List ℕ → ℕ
-lengthSaid l = ((getD l 1 0 * 256 + getD l 2 0) * 256 + getD l 3 0) * 256 + getD l 4 0
-
--- The number of input bytes that are the plan file: version and length field, and as many more as the
--- length field says, but at most the largest file; all bytes if there are too few for these fields.
-unfoldable pub fileBytes : List ℕ → ℕ
-fileBytes l = cond (ltb (length l) headBytes) (length l) (min (headBytes + lengthSaid l) largestFile)
 
 -- The refusal of a plan: the reader's, otherwise the judge's.
 abbrev pub planFault : ReadEffect → Report

@@ -1,11 +1,9 @@
 // The program as turns: progress and bytes in, progress and a line out. What all turns print
 // together is one definition, `output` in specs/Output.
-mod file;
 mod opening;
 mod turns;
 
 use dispatch::Run;
-pub use file::file_bytes;
 use lines::Printed;
 pub use opening::open;
 use plan::kinds::Plan;

@@ -10,7 +10,8 @@ use borrow.Author.Tests.{eq-eqb, eqb-true, ltb-true, leb-true}
 use lib.Dec.{leb, ltb, eqb, lit<}
 use lib.ListN.{length, getD, take, List·getD-append}
 use lib.Seq.{take-suc, getD-at}
-use Rattle.plan.specs.Edition.{mostDeadline, mostSize, jobLength}
+use Rattle.plan.specs.Edition.{mostDeadline, mostSize}
+use Rattle.planfields.specs.Layout.{jobLength}
 use Rattle.plan.specs.Refusal.{wrongGrade}
 use Rattle.plan.specs.Rules.{nameAllowed, isAbsent, gradeAllowed, windowAllowed, sizeAllowed, noJob, jobOf}
 use Rattle.plan.specs.declared.kinds.Job.{Job}

@@ -5,7 +5,8 @@ use Prim.Native.Nat.{ℕ, suc, _+_, _*_, _-_, _<_}
 use native.Mathlib.Omega.{arith}
 use lib.ListN.{length, take}
 use lib.Seq.{take-at}
-use Rattle.plan.specs.Edition.{mostJobs, jobLength}
+use Rattle.plan.specs.Edition.{mostJobs}
+use Rattle.planfields.specs.Layout.{jobLength}
 use Rattle.plan.specs.Rules.{noJob, jobOf, name}
 use Rattle.plan.specs.declared.kinds.Plan.{Plan}
 use Rattle.planfields.specs.Bytes.{bytes}

@@ -11,7 +11,8 @@ use lib.Arith.{digits-div, digits-mod}
 use lib.Dec.{leb, ltb, eqb, lit<}
 use lib.ListN.{length, getD, set, replicate, length-append, length-replicate, replicate-append-replicate}
 use lib.Seq.{set-at}
-use Rattle.plan.specs.Edition.{mostIntervals, rowLength}
+use Rattle.plan.specs.Edition.{mostIntervals}
+use Rattle.planfields.specs.Layout.{rowLength}
 use Rattle.plan.specs.Refusal.{rowWithoutJob, rowWithoutInterval, rowWithoutUnits, rowOutOfOrder}
 use Rattle.plan.specs.Table.{place, noStray}
 use Rattle.base.proofs.Logic.{both}

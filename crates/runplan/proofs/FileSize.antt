@@ -4,10 +4,10 @@ use mathlib.Core.List.{List}
 use Prim.Native.Nat.{ℕ, _≤_}
 use native.Mathlib.Omega.{arith}
 use lib.ListN.{length}
-use Rattle.program.specs.Output.{headBytes, largestFile, fileBytes}
-use Rattle.program.proofs.FileSize.{file-fits}
+use Rattle.planfields.specs.Layout.{openingBytes, largestFile, fileBytes}
+use Rattle.planfile.proofs.FileSize.{file-fits}
 
-pub size-fits : (l : List ℕ) (first size : ℕ) → first ≡ length l → first ≤ headBytes → size ≡ fileBytes l
+pub size-fits : (l : List ℕ) (first size : ℕ) → first ≡ length l → first ≤ openingBytes → size ≡ fileBytes l
     → (first ≤ size) × (size ≤ largestFile)
 size-fits l first size e h s =
     let f = file-fits l (omega arith) in

@@ -5,9 +5,10 @@ use libc::STDOUT_FILENO;
 use lines::LONGEST_LINE;
 use lines::Printed;
 use plan::edition::Edition;
+use planfields::layout::Layout;
+use planfile::extent::file_bytes;
 use program::Progress;
 use program::advance;
-use program::file_bytes;
 use program::is_over;
 use program::is_reading;
 use program::open;
@@ -15,7 +16,7 @@ ghost use mathlib.Core.Path.{_≡_};
 ghost use Prim.Native.Nat.{_+_, _≤_};
 ghost use lib.ListN.{length};
 ghost use Rattle.io.specs.Counts.{Counts};
-ghost use Rattle.program.specs.Output.{largestFile};
+ghost use Rattle.planfields.specs.Layout.{largestFile};
 
 // The number of bytes of the line to print.
 fn shown(printed: Printed, line: &[u8]) -> usize
@@ -40,7 +41,7 @@ fn read_file(file: &mut [u8]) -> usize
     requires { ⌜ length (now file) ≡ largestFile ⌝ }
     ensures { λ r. ⌜ Counts r (now (file .exit)) ⌝ }
 {
-    let first = read_part(file, 0, Edition::OPENING_BYTES);
+    let first = read_part(file, 0, Layout::OPENING_BYTES);
     let size = file_bytes(&file[..first]);
     let rest = read_part(file, first, size);
     first + rest
@@ -78,7 +79,7 @@ fn play(begun: Progress, table: &[u32]) {
 }
 
 fn main() {
-    let mut file = [0u8; Edition::LARGEST_FILE];
+    let mut file = [0u8; Layout::LARGEST_FILE];
     let mut table = [0u32; Edition::PLACES];
     let mut line = [0u8; LONGEST_LINE];
     let size = read_file(&mut file);

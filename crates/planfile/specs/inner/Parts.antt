@@ -3,7 +3,8 @@
 use mathlib.Core.Path.{_≡_}
 use mathlib.Core.List.{List, _++_}
 use Prim.Native.Nat.{ℕ, _<_}
-use lib.ListN.{length, getD, drop}
+use lib.ListN.{length, getD, drop, replicate}
+use Rattle.plan.specs.Edition.{places}
 use Rattle.plan.specs.declared.kinds.Job.{Job}
 use Rattle.planfields.specs.declared.field.Field.the-variants as field
 use Rattle.planfields.specs.declared.field.Passed.{Passed}
@@ -51,10 +52,12 @@ abbrev pub RowsAnswer : Parsed (List ℕ) → Passed → List ℕ → Type 0
 RowsAnswer (got table next) r left = (r ≡ passed.Next next) × (left ≡ table)
 RowsAnswer (no number) r left = r ≡ passed.Refused number
 
--- The contract of `fill`: the plan and the table; after a refusal, only its number.
-abbrev pub FillAnswer : Parsed rule.Contents → PlanRead → List ℕ → Type 0
-FillAnswer (got contents next) r left = (r .answer ≡ answer.Read) × (r .plan ≡ contents .plan) × (left ≡ contents .table)
-FillAnswer (no number) r left = r .answer ≡ answer.Refused number
+-- The contract of `fill`: the plan and, if the table was all zeros, the table; after a refusal,
+-- only its number.
+abbrev pub FillAnswer : Parsed rule.Contents → (table : List ℕ) (r : PlanRead) (left : List ℕ) → Type 0
+FillAnswer (got contents next) table r left =
+    (r .answer ≡ answer.Read) × (r .plan ≡ contents .plan) × (table ≡ replicate places 0 → left ≡ contents .table)
+FillAnswer (no number) table r left = r .answer ≡ answer.Refused number
 
 -- The job count of a file's contents, or 0 for a refused file.
 abbrev pub countOf : Parsed rule.Contents → ℕ

@@ -1,21 +1,35 @@
--- `planfile::lookup::name_of` meets its contract: below the job count a name lies inside the file.
-use mathlib.Core.Path.{_≡_, sym, _∙_, ap}
-use Prim.Native.Nat.{_+_, _-_, _≤_}
+-- `planfile::lookup::name_of` meets its contract: a name that is found lies inside the file.
+use mathlib.Core.Path.{_≡_, sym, _∙_, ap₂}
+use Prim.Native.Nat.{_+_, _-_, _≤_, _<_}
 use native.Mathlib.Omega.{arith}
 use borrow.Author.Needs.{needs}
 use lib.ListN.{length, take, drop}
-use Rattle.planfile.specs.Reader.{readFile, nameAt, nameShown}
-use Rattle.planfile.proofs.WholeFile.{shown-none, shown-part}
+use Rattle.planfields.specs.Layout.{nameAt}
+use Rattle.planfile.specs.Reader.{readFile, nameFound, nameShown}
+use Rattle.planfile.specs.inner.Parts.{countOf}
+use Rattle.planfile.proofs.WholeFile.{found-name, found-above, found-below, shown-none, shown-part}
 use Rattle.planfile.proofs.Offsets.{shown-inside}
 use Rattle.planfile.proofs.lookup.name_of.Statement.{statement}
 use Rattle.planfile.proofs.lookup.name_of.Tie as tie
 
-inside : (c : tie.Else1) → nameAt (c .before .before .before .args .position) + 8 ≤ length (c .before .before .before .args .file .now)
-inside c =
-    shown-inside (c .before .before .before .args .file .now) (c .before .before .before .args .position) (rw (c .before .count-in .ensures) at (c .if1 .left))
+-- After the test the file has such a job.
+below : (c : tie.Else1) → c .before .before .before .args .position < countOf (readFile (c .before .before .before .args .file .now))
+unfolding nameFound
+below c =
+    let a = c .before .before .before .args in
+    found-below (readFile (a .file .now)) (a .position) (λ e. c .if1 .left (c .before .name-at .ensures ∙ e))
 
-count-in-requires : tie.Need-count-in-requires
-count-in-requires c κs = search needs
+from-is : (c : tie.Else1) → c .before .name-at .result ≡ nameAt (c .before .before .before .args .position)
+unfolding nameFound
+from-is c =
+    let a = c .before .before .before .args in
+    c .before .name-at .ensures ∙ found-name (readFile (a .file .now)) (a .position) (below c)
+
+inside : (c : tie.Else1) → nameAt (c .before .before .before .args .position) + 8 ≤ length (c .before .before .before .args .file .now)
+inside c = let a = c .before .before .before .args in shown-inside (a .file .now) (a .position) (below c)
+
+name-at-requires : tie.Need-name-at-requires
+name-at-requires c κs = search needs
 
 sub-result : tie.Need-sub-result
 sub-result c = search needs
@@ -27,25 +41,14 @@ part-result-end : tie.Need-part-result-end
 part-result-end c = search needs
 
 returns : tie.Need-returns
-unfolding nameShown
+unfolding nameFound nameShown
 returns c =
     let a = c .before .before .before .before .args in
-    sym (shown-none (readFile (a .file .now)) (a .file .now) (a .position) (rw (c .before .before .count-in .ensures) at (c .before .if1 .taken)))
+    let none = found-above (readFile (a .file .now)) (a .position) (sym (c .before .before .name-at .ensures) ∙ c .before .if1 .taken) in
+    sym (shown-none (readFile (a .file .now)) (a .file .now) (a .position) none)
 
-add-from : tie.Need-add-from
-add-from c = search needs
-
-mul-from : tie.Need-mul-from
-mul-from c = record { fits = omega (arith, inside c) }
-
-add-from-2 : tie.Need-add-from-2
-add-from-2 c = record { fits = omega (arith, inside c) }
-
-add-from-3 : tie.Need-add-from-3
-add-from-3 c = record { fits = omega (arith, inside c) }
-
-add-to : tie.Need-add-to
-add-to c = record { fits = omega (arith, inside c) }
+add-result : tie.Need-add-result
+add-result c = record { fits = omega (arith, inside c, from-is c) }
 
 sub-result-2 : tie.Need-sub-result-2
 sub-result-2 c = search needs
@@ -54,30 +57,27 @@ part-result-start-2 : tie.Need-part-result-start-2
 part-result-start-2 c = search needs
 
 part-result-end-2 : tie.Need-part-result-end-2
-part-result-end-2 c = inside c
+part-result-end-2 c = omega (arith, inside c, from-is c)
 
 returns-2 : tie.Need-returns-2
 unfolding nameShown
 returns-2 c =
     let a = c .before .before .before .before .args in
-    let eight : nameAt (a .position) + 8 - nameAt (a .position) ≡ 8 = omega arith in
-    ap (λ n. take n (drop (nameAt (a .position)) (a .file .now))) eight
-    ∙ sym (shown-part (readFile (a .file .now)) (a .file .now) (a .position) (rw (c .before .before .count-in .ensures) at (c .before .if1 .left)))
+    let from = c .before .before .name-at .result in
+    let eight : from + 8 - from ≡ 8 = omega arith in
+    ap₂ (λ n at. take n (drop at (a .file .now))) eight (from-is (c .before))
+    ∙ sym (shown-part (readFile (a .file .now)) (a .file .now) (a .position) (below (c .before)))
 
 pub name-of-spec : {M : Type 1} → statement M
 name-of-spec =
     tie.close
     (tie.spec
-    count-in-requires
+    name-at-requires
     sub-result
     part-result-start
     part-result-end
     returns
-    add-from
-    mul-from
-    add-from-2
-    add-from-3
-    add-to
+    add-result
     sub-result-2
     part-result-start-2
     part-result-end-2

@@ -1,18 +1,19 @@
 -- `planfile::reader::fill` meets its contract: preamble, rows and end are read in this order,
 -- and a refusal ends the reading.
-use mathlib.Core.Path.{_≡_, refl, sym}
+use mathlib.Core.Path.{_≡_, refl, sym, _∙_, ap}
 use mathlib.Core.List.{_++_}
 use borrow.Author.Needs.{needs}
 use lib.ListN.{drop, replicate}
 use Rattle.plan.specs.Edition.{mostJobs, mostIntervals, places}
 use Rattle.plan.specs.Boundaries.{intervals}
 use Rattle.planfields.specs.Fields.{got}
-use Rattle.planfile.specs.Reader.{Preamble, preamble, allRows}
+use Rattle.planfile.specs.Reader.{Preamble, preamble}
 use Rattle.planfields.specs.Answers.{passedView, passedRefusal}
 use Rattle.planfile.specs.inner.Parts.{RowsAnswer}
 use Rattle.planfields.proofs.ParserLaws.{so, refused, passed-number, field-number}
+use Rattle.planfile.proofs.Rows.{onlyPassed, rows-only}
 use Rattle.planfile.proofs.PreambleLaws.{preamble-refused, preamble-got}
-use Rattle.planfile.proofs.WholeFile.{rows-refused, rows-got, no-preamble, no-rows, no-end, file-whole, taken-length, count-within, rows-asked, rows-same}
+use Rattle.planfile.proofs.WholeFile.{rowsOf, rows-passed, rows-left, only-refused, only-got, no-preamble, no-rows, no-end, file-whole, taken-length, count-within, rows-asked, rows-same}
 use Rattle.planfile.proofs.reader.fill.Statement.{statement}
 use Rattle.planfile.proofs.reader.fill.Tie as tie
 
@@ -25,20 +26,28 @@ preamble-here c =
     preamble-got (replicate mostJobs 0) (c .before .before .before .before .before .read-preamble .result) (c .before .before .before .before .before .read-preamble .last .1 .0)
     (preamble (c .before .before .before .before .before .before .before .before .before .args .file .now) 0) (c .before .before .before .before .before .read-preamble .ensures) (c .before .counted .given .1)
 
--- The rows are those of the preamble, read into a table of zeros.
+-- `store_rows` reads the rows of the preamble, into the table that is lent.
 rows-here : (c : tie.After-store-rows)
-    → RowsAnswer (allRows (preamble-here (c .before .before .before .before) .0 .rows) mostIntervals (preamble-here (c .before .before .before .before) .0 .names) (intervals (preamble-here (c .before .before .before .before) .0 .plan)) 0 (replicate places 0)
+    → RowsAnswer (rowsOf (preamble-here (c .before .before .before .before) .0) (c .before .before .before .before .before .before .before .before .before .before .before .before .before .args .table .now)
     (c .before .before .before .before .before .before .before .before .before .before .before .before .before .args .file .now) (c .before .before .before .before .before .counted .given .0 .1 .0)) (c .store-rows .result) (c .store-rows .last .1 .1 .1 .1 .1 .0)
 rows-here c =
-    let g = preamble-here (c .before .before .before .before) in
-    let same = rows-same (c .before .before .before .before .before .before .before .before .before .before .before .before .before .args .file .now) (g .1) (g .2) (g .3) (replicate mostJobs 0) (g .4) (c .before .before .before .intervals-of .result) (c .before .before .before .intervals-of .ensures) (replicate places 0) in
-    rw (c .before .before .before .before .before .before .before .before .before .before .before .before .before .pre, same) at (c .store-rows .ensures)
+    let at-intervals-of = c .before .before .before in
+    let g = preamble-here (at-intervals-of .before) in
+    let entry = at-intervals-of .before .before .before .before .before .before .before .before .before .before in
+    rw (rows-same (entry .args .file .now) (g .1) (g .2) (g .3) (replicate mostJobs 0) (g .4) (at-intervals-of .intervals-of .result) (at-intervals-of .intervals-of .ensures) (entry .args .table .now)) at (c .store-rows .ensures)
 
-stored : (c : tie.After-known-told2)
-    → allRows (preamble-here (c .before .before .before .before .before .before .before .before .before) .0 .rows) mostIntervals (preamble-here (c .before .before .before .before .before .before .before .before .before) .0 .names) (intervals (preamble-here (c .before .before .before .before .before .before .before .before .before) .0 .plan)) 0 (replicate places 0)
-    (c .before .before .before .before .before .before .before .before .before .before .before .before .before .before .before .before .before .before .args .file .now) (c .before .before .before .before .before .before .before .before .before .before .counted .given .0 .1 .0) ≡ got (c .before .before .before .before .before .store-rows .last .1 .1 .1 .1 .1 .0) (c .before .stored .given .0 .0)
-stored c =
-    rows-got (c .before .before .before .before .before .store-rows .result) (c .before .before .before .before .before .store-rows .last .1 .1 .1 .1 .1 .0) _ (rows-here (c .before .before .before .before .before)) (c .before .stored .given .1)
+-- Whether they are refused does not depend on that table.
+passed-here : (c : tie.After-store-rows)
+    → passedView (c .store-rows .result) ≡ onlyPassed
+    (rowsOf (preamble-here (c .before .before .before .before) .0) (replicate places 0)
+    (c .before .before .before .before .before .before .before .before .before .before .before .before .before .args .file .now) (c .before .before .before .before .before .counted .given .0 .1 .0))
+passed-here c =
+    let told = c .before .before .before .before in
+    let entry = told .before .before .before .before .before .before .before .before .before in
+    let f = preamble-here told .0 in
+    let at = told .before .counted .given .0 .1 .0 in
+    rows-passed (c .store-rows .result) (c .store-rows .last .1 .1 .1 .1 .1 .0) (rowsOf f (entry .args .table .now) (entry .args .file .now) at) (rows-here c)
+    ∙ rows-only (f .rows) mostIntervals (f .names) (intervals (f .plan)) 0 (entry .args .table .now) (replicate places 0) (entry .args .file .now) at
 
 slice-aggregate-read-preamble : tie.Need-slice-aggregate-read-preamble
 slice-aggregate-read-preamble c = search needs
@@ -94,10 +103,11 @@ same-length c = search needs
 
 returns-2 : tie.Need-returns-2
 returns-2 c =
-    let g = preamble-here (c .before .before .before .before .before .before .before .before .before) in
-    let s = c .before .before .before .before .before .store-rows in
-    rw (no-rows (c .before .before .before .before .before .before .before .before .before .before .before .before .before .before .before .before .before .before .args .file .now) (g .1)
-    (rows-refused (s .result) (s .last .1 .1 .1 .1 .1 .0) _ (rows-here (c .before .before .before .before .before)) (passed-number (c .before .enum-told2 .given .1) (c .passed-refusal .ensures)))) refl
+    let at-store-rows = c .before .before .before .before .before in
+    let told = at-store-rows .before .before .before .before in
+    let file = told .before .before .before .before .before .before .before .before .before .args .file .now in
+    rw (no-rows file (preamble-here told .1)
+    (only-refused _ (passed-here at-store-rows) (passed-number (c .before .enum-told2 .given .1) (c .passed-refusal .ensures)))) refl
 
 read-end-requires : tie.Need-read-end-requires
 read-end-requires c κs = search needs
@@ -116,18 +126,31 @@ same-length-2 c = search needs
 
 returns-3 : tie.Need-returns-3
 returns-3 c =
-    let g = preamble-here (c .before .before .before .before .before .before .before .before .before .before .before .before .before) in
-    rw (no-end (c .before .before .before .before .before .before .before .before .before .before .before .before .before .before .before .before .before .before .before .before .before .before .args .file .now) (g .1) (stored (c .before .before .before .before))
-    (refused passedView passedRefusal (c .before .before .before .read-end .ensures) (c .before .enum-told4 .given .1) refl refl (c .passed-refusal2 .ensures))) refl
+    let at-read-end = c .before .before .before in
+    let next = at-read-end .before in
+    let at-store-rows = next .before .before .before .before .before in
+    let told = at-store-rows .before .before .before .before in
+    let file = told .before .before .before .before .before .before .before .before .before .args .file .now in
+    let rows = only-got _ (passed-here at-store-rows) (next .before .stored .given .1) in
+    rw (no-end file (preamble-here told .1) (rows .1)
+    (refused passedView passedRefusal (at-read-end .read-end .ensures) (c .before .enum-told4 .given .1) refl refl (c .passed-refusal2 .ensures))) refl
 
 same-length-3 : tie.Need-same-length-3
 same-length-3 c = search needs
 
 returns-4 : tie.Need-returns-4
 returns-4 c =
-    let g = preamble-here (c .before .before .before .before .before .before .before .before .before .before .before .before) in
-    rw (file-whole (c .before .before .before .before .before .before .before .before .before .before .before .before .before .before .before .before .before .before .before .before .before .args .file .now) (g .1) (stored (c .before .before .before)) (so passedView (c .before .before .read-end .ensures) (c .enum-told3 .given .1)))
-    (refl, g .3, refl)
+    let at-read-end = c .before .before in
+    let next = at-read-end .before in
+    let at-store-rows = next .before .before .before .before .before in
+    let told = at-store-rows .before .before .before .before in
+    let entry = told .before .before .before .before .before .before .before .before .before in
+    let file = entry .args .file .now in
+    let g = preamble-here told in
+    let rows = only-got _ (passed-here at-store-rows) (next .before .stored .given .1) in
+    let at = told .before .counted .given .0 .1 .0 in
+    rw (file-whole file (g .1) (rows .1) (so passedView (at-read-end .read-end .ensures) (c .enum-told3 .given .1)))
+    (refl, g .3, λ zeros. rows-left _ _ (rowsOf (g .0) (entry .args .table .now) file at) (rows-here at-store-rows) (ap (λ l. rowsOf (g .0) l file at) zeros ∙ rows .1))
 
 pub fill-spec : {M : Type 1} → statement M
 fill-spec =

@@ -11,8 +11,7 @@ clear-requires : tie.Need-clear-requires
 clear-requires c κs = search needs
 
 fill-requires : tie.Need-fill-requires
-fill-requires c κs =
-    c .before .before .before .clear .ensures ∙ ap (λ n. replicate n 0) (c .before .before .before .before .before .before .before .pre)
+fill-requires c κs = search needs
 
 enum-told : tie.Need-enum-told
 enum-told c = search needs
@@ -31,17 +30,24 @@ same-length c = search needs
 
 returns : tie.Need-returns
 returns c =
-    let f = c .before .before .before .before .before .before .before .before .before .fill in
-    whole-refused (readFile (c .before .before .before .before .before .before .before .before .before .before .before .before .before .before .before .before .before .args .file .now)) (f .result) (f .last .1 .0) (f .ensures) (c .before .before .before .before .before .enum-told2 .given .1) (c .no-plan .ensures)
-    (c .before .before .before .clear2 .ensures ∙ ap (λ n. replicate n 0) (f .kept .1 .0 ∙ c .before .before .before .before .before .before .before .before .before .before .before .before .before .clear .kept .0 ∙ c .before .before .before .before .before .before .before .before .before .before .before .before .before .before .before .before .before .pre))
+    let at-clear2 = c .before .before .before in
+    let f = at-clear2 .before .before .before .before .before .before .fill in
+    let at-clear = at-clear2 .before .before .before .before .before .before .before .before .before .before in
+    let entry = at-clear .before .before .before .before in
+    whole-refused (readFile (entry .args .file .now)) (at-clear .clear .last .0) (f .result) (f .last .1 .0) (f .ensures) (at-clear2 .before .before .enum-told2 .given .1) (c .no-plan .ensures)
+    (at-clear2 .clear2 .ensures ∙ ap (λ n. replicate n 0) (f .kept .1 .0 ∙ at-clear .clear .kept .0 ∙ entry .pre))
 
 same-length-2 : tie.Need-same-length-2
 same-length-2 c = search needs
 
 returns-2 : tie.Need-returns-2
 returns-2 c =
-    let f = c .before .before .before .before .fill in
-    whole-read (readFile (c .before .before .before .before .before .before .before .before .before .before .before .before .args .file .now)) (f .result) (f .last .1 .0) (f .ensures) (c .enum-told .given .1)
+    let at-fill = c .before .before .before .before in
+    let at-clear = at-fill .before .before .before .before in
+    let entry = at-clear .before .before .before .before in
+    let f = at-fill .fill in
+    whole-read (readFile (entry .args .file .now)) (at-clear .clear .last .0) (f .result) (f .last .1 .0) (f .ensures)
+    (at-clear .clear .ensures ∙ ap (λ n. replicate n 0) (entry .pre)) (c .enum-told .given .1)
 
 pub read-whole-spec : {M : Type 1} → statement M
 read-whole-spec =

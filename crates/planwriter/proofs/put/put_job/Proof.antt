@@ -2,7 +2,7 @@
 use mathlib.Core.Path.{refl, _∙_}
 use native.Mathlib.Omega.{arith}
 use borrow.Author.Needs.{needs}
-use Rattle.plan.specs.Edition.{jobLength}
+use Rattle.planfields.specs.Layout.{jobLength}
 use Rattle.planwriter.proofs.Sets.{put-start}
 use Rattle.planwriter.proofs.JobAndRowBytes.{put-field, job-long}
 use Rattle.planwriter.proofs.put.put_job.Statement.{statement}

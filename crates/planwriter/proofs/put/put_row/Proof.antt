@@ -1,7 +1,7 @@
 -- `planwriter::put::put_row` meets its contract: each field is written after the one before.
 use mathlib.Core.Path.{refl, _∙_}
 use borrow.Author.Needs.{needs}
-use Rattle.plan.specs.Edition.{rowLength}
+use Rattle.planfields.specs.Layout.{rowLength}
 use Rattle.planwriter.proofs.Sets.{put-start}
 use Rattle.planwriter.proofs.JobAndRowBytes.{put-field, row-long}
 use Rattle.planwriter.proofs.put.put_row.Statement.{statement}

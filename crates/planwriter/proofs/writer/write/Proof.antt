@@ -6,7 +6,8 @@ use native.Mathlib.Omega.{arith}
 use borrow.Author.Needs.{needs}
 use lib.ListN.{length, take}
 use lib.Seq.{length-take-le}
-use Rattle.plan.specs.Edition.{places, jobLength, rowLength}
+use Rattle.plan.specs.Edition.{places}
+use Rattle.planfields.specs.Layout.{jobLength, rowLength}
 use Rattle.plan.specs.Table.{sound}
 use Rattle.plan.proofs.Stray.{sound-told}
 use Rattle.planwriter.specs.Writing.{body, written}

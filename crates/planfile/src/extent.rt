@@ -1,8 +1,8 @@
 // How many bytes of the input are the plan file.
-use plan::edition::Edition;
+use planfields::layout::Layout;
 ghost use mathlib.Core.Path.{_≡_};
 ghost use Prim.Native.Nat.{_<_};
-ghost use Rattle.program.specs.Output.{fileBytes};
+ghost use Rattle.planfields.specs.Layout.{fileBytes};
 
 fn wide(byte: u8) -> usize
     ensures { λ r. ⌜ (r ≡ byte) × (r < 256) ⌝ }
@@ -14,16 +14,16 @@ fn wide(byte: u8) -> usize
 pub fn file_bytes(head: &[u8]) -> usize
     ensures { λ r. ⌜ r ≡ fileBytes (now (head .entry)) ⌝ }
 {
-    if head.len() < Edition::OPENING_BYTES {
+    if head.len() < Layout::OPENING_BYTES {
         return head.len();
     }
     let mut said = wide(head[1]);
     said = said * 256 + wide(head[2]);
     said = said * 256 + wide(head[3]);
     said = said * 256 + wide(head[4]);
-    if said < Edition::LARGEST_FILE - Edition::OPENING_BYTES {
-        Edition::OPENING_BYTES + said
+    if said < Layout::LARGEST_FILE - Layout::OPENING_BYTES {
+        Layout::OPENING_BYTES + said
     } else {
-        Edition::LARGEST_FILE
+        Layout::LARGEST_FILE
     }
 }

@@ -1,12 +1,12 @@
--- `program::file::file_bytes` meets its contract, test by test.
+-- `planfile::extent::file_bytes` meets its contract, test by test.
 use mathlib.Core.Path.{refl}
 use native.Mathlib.Omega.{arith}
 use borrow.Author.Tests.{lt-ltb, le-ltb}
 use borrow.Author.Needs.{needs}
 use lib.ListN.{length}
-use Rattle.program.specs.Output.{fileBytes}
-use Rattle.program.proofs.file.file_bytes.Statement.{statement}
-use Rattle.program.proofs.file.file_bytes.Tie as tie
+use Rattle.planfields.specs.Layout.{fileBytes}
+use Rattle.planfile.proofs.extent.file_bytes.Statement.{statement}
+use Rattle.planfile.proofs.extent.file_bytes.Tie as tie
 
 returns : tie.Need-returns
 unfolding fileBytes
