@@ -1,14 +1,13 @@
 -- All that the program prints, as a function of all that it reads.
 use mathlib.Core.Bool.{Bool, cond, not}
 use mathlib.Core.List.{List, [], _∷_, _++_}
-use Prim.Native.Nat.{ℕ, zero, suc, _+_, _*_, min}
-use lib.Dec.{ltb}
-use lib.ListN.{length, getD, take, drop, replicate}
+use Prim.Native.Nat.{ℕ, zero, suc, _+_, _*_}
+use lib.ListN.{take, drop, replicate}
 use Rattle.plan.specs.Kinds.{Amount, Bytes, Position, Speed, Table}
-use Rattle.plan.specs.Edition.{mostJobs, mostRows, places}
-use Rattle.planfields.specs.Layout.{headerBytes, jobLength, rowLength}
+use Rattle.plan.specs.Edition.{mostJobs, places}
 use Rattle.plan.specs.Rules.{counted, name}
 use Rattle.plan.specs.declared.kinds.Plan.{Plan}
+use Rattle.planfields.specs.Layout.{fileBytes}
 use Rattle.planfile.specs.Reader.{ReadEffect, reader}
 use Rattle.judge.specs.Verdict.{judged}
 use Rattle.plan.specs.Report.{Report, orElse, isNone}

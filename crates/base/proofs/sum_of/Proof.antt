@@ -84,11 +84,14 @@ loop-again c =
 
 returns : tie.Need-returns Inv-loop μ-loop
 returns c =
-    let a = c .before .before .before .before .args in
-    let h = c .before .before .count-inside .ensures in
-    let end : c .before .loop .k ≡ c .before .before .count-inside .result = omega arith in
-    c .before .loop .inv .1 ∙ ap (sum (strided (a .s .now) (a .start) (a .stride))) end
-    ∙ inside-is-all (a .s .now) (a .start) (a .stride) (c .before .before .count-inside .result) (a .count) (h .0) (h .1 .1)
+    let at-loop = c .before in
+    let at-count-inside = at-loop .before in
+    let entry = at-count-inside .before .before in
+    let a = entry .args in
+    let h = at-count-inside .count-inside .ensures in
+    let end : at-loop .loop .k ≡ at-count-inside .count-inside .result = omega arith in
+    at-loop .loop .inv .1 ∙ ap (sum (strided (a .s .now) (a .start) (a .stride))) end
+    ∙ inside-is-all (a .s .now) (a .start) (a .stride) (at-count-inside .count-inside .result) (a .count) (h .0) (h .1 .1)
 
 pub sum-of-spec : {M : Type 1} → statement M
 sum-of-spec =

@@ -26,9 +26,12 @@ is-accepted-requires c κs = search needs
 returns : tie.Need-returns
 unfolding judged
 returns c =
-    let p = c .before .before .before .before .before .args .p in
-    let table = c .before .before .before .before .before .args .table .now in
-    stops _ _ (floorFault p table) _ (c .before .before .refusal-of .ensures) (c .before .is-accepted .ensures) (c .if1 .taken)
+    let at-is-accepted = c .before in
+    let at-refusal-of = at-is-accepted .before in
+    let entry = at-refusal-of .before .before .before in
+    let p = entry .args .p in
+    let table = entry .args .table .now in
+    stops _ _ (floorFault p table) _ (at-refusal-of .refusal-of .ensures) (at-is-accepted .is-accepted .ensures) (c .if1 .taken)
     ∙ or-assoc (handFault p table) (constraintFault p table) (floorFault p table)
 
 -- The branch in which nothing has been refused so far.
@@ -56,9 +59,11 @@ below-floor-requires c κs =
 returns-2 : tie.Need-returns-2
 unfolding judged
 returns-2 c =
-    let p = c .before .before .before .before .before .before .args .p in
-    let table = c .before .before .before .before .before .before .args .table .now in
-    c .below-floor .ensures ∙ sym (or-none _ _ (none (c .before))) ∙ or-assoc (handFault p table) (constraintFault p table) (floorFault p table)
+    let c-1 = c .before in
+    let entry = c-1 .before .before .before .before .before in
+    let p = entry .args .p in
+    let table = entry .args .table .now in
+    c .below-floor .ensures ∙ sym (or-none _ _ (none (c-1))) ∙ or-assoc (handFault p table) (constraintFault p table) (floorFault p table)
 
 pub judge-at-spec : {M : Type 1} → statement M
 judge-at-spec =

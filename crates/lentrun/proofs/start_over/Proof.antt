@@ -17,19 +17,25 @@ is-accepted-requires c κs = search needs
 returns : tie.Need-returns
 unfolding startIn
 returns c =
-    let a = c .before .before .before .before .before .args in
-    let none = ap isNone (sym (c .before .before .before .start .ensures .0)) ∙ sym (c .before .is-accepted .ensures) ∙ c .if1 .taken in (
-      c .before .before .before .start .ensures .0,
-      c .before .before .before .start .ensures .1 ∙ starts (judged (a .p) (a .table .now)) (started (a .p)) noRun none
+    let at-is-accepted = c .before in
+    let at-start = at-is-accepted .before .before in
+    let entry = at-start .before .before in
+    let a = entry .args in
+    let none = ap isNone (sym (at-start .start .ensures .0)) ∙ sym (at-is-accepted .is-accepted .ensures) ∙ c .if1 .taken in (
+      at-start .start .ensures .0,
+      at-start .start .ensures .1 ∙ starts (judged (a .p) (a .table .now)) (started (a .p)) noRun none
           ∙ sym (starts (judged (a .p) (a .table .now)) (started (a .p)) (a .was) none),
     )
 
 returns-2 : tie.Need-returns-2
 unfolding startIn
 returns-2 c =
-    let a = c .before .before .before .before .before .args in
-    let some = ap isNone (sym (c .before .before .before .start .ensures .0)) ∙ sym (c .before .is-accepted .ensures) ∙ c .if1 .left in
-    (c .before .before .before .start .ensures .0, sym (stays (judged (a .p) (a .table .now)) (started (a .p)) (a .was) some))
+    let at-is-accepted = c .before in
+    let at-start = at-is-accepted .before .before in
+    let entry = at-start .before .before in
+    let a = entry .args in
+    let some = ap isNone (sym (at-start .start .ensures .0)) ∙ sym (at-is-accepted .is-accepted .ensures) ∙ c .if1 .left in
+    (at-start .start .ensures .0, sym (stays (judged (a .p) (a .table .now)) (started (a .p)) (a .was) some))
 
 pub start-over-spec : {M : Type 1} → statement M
 start-over-spec = tie.close (tie.spec start-requires is-accepted-requires returns returns-2)

@@ -55,7 +55,13 @@ same-length c = search needs
 returns : tie.Need-returns
 unfolding refusedSlotLine
 returns c =
-    c .before .before .print .ensures ∙ ap (λ l. printed l (c .before .before .before .before .before .before .before .before .before .before .before .before .before .before .before .before .before .before .before .before .args .out .now)) (grown-twice (grown-twice (grown-twice (c .before .before .before .before .before .before .before .before .before .before .before .before .before .before .before .before .before .add-times .ensures .0) (c .before .before .before .before .before .before .before .before .before .before .before .before .before .add .ensures)) (c .before .before .before .before .before .before .before .before .before .before .add-number .ensures .0)) (c .before .before .before .before .before .before .add2 .ensures) .bytes)
+    let at-print = c .before .before in
+    let at-add2 = at-print .before .before .before .before in
+    let at-add-number = at-add2 .before .before .before .before in
+    let at-add = at-add-number .before .before .before in
+    let at-add-times = at-add .before .before .before .before in
+    let entry = at-add-times .before .before .before in
+    at-print .print .ensures ∙ ap (λ l. printed l (entry .args .out .now)) (grown-twice (grown-twice (grown-twice (at-add-times .add-times .ensures .0) (at-add .add .ensures)) (at-add-number .add-number .ensures .0)) (at-add2 .add2 .ensures) .bytes)
 
 pub refused-slot-line-spec : {M : Type 1} → statement M
 refused-slot-line-spec =

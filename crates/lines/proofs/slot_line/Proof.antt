@@ -58,7 +58,14 @@ same-length c = search needs
 returns : tie.Need-returns
 unfolding slotLine
 returns c =
-    c .before .before .print .ensures ∙ ap (λ l. printed l (c .before .before .before .before .before .before .before .before .before .before .before .before .before .before .before .before .before .before .before .before .before .before .args .out .now)) (grown-twice (grown-twice (grown-twice (c .before .before .before .before .before .before .before .before .before .before .before .before .before .before .before .before .before .before .add-times .ensures .0) (grown-same (c .before .before .before .before .before .before .before .before .before .before .before .before .before .before .before .before .mode-of .ensures) (c .before .before .before .before .before .before .before .before .before .before .before .before .before .add .ensures))) (c .before .before .before .before .before .before .before .before .before .before .add-grants .ensures .0)) (c .before .before .before .before .before .before .add2 .ensures) .bytes)
+    let at-print = c .before .before in
+    let at-add2 = at-print .before .before .before .before in
+    let at-add-grants = at-add2 .before .before .before .before in
+    let at-add = at-add-grants .before .before .before in
+    let at-mode-of = at-add .before .before .before in
+    let at-add-times = at-mode-of .before .before in
+    let entry = at-add-times .before .before .before .before in
+    at-print .print .ensures ∙ ap (λ l. printed l (entry .args .out .now)) (grown-twice (grown-twice (grown-twice (at-add-times .add-times .ensures .0) (grown-same (at-mode-of .mode-of .ensures) (at-add .add .ensures))) (at-add-grants .add-grants .ensures .0)) (at-add2 .add2 .ensures) .bytes)
 
 pub slot-line-spec : {M : Type 1} → statement M
 slot-line-spec =

@@ -70,7 +70,15 @@ same-length c = search needs
 returns : tie.Need-returns
 unfolding outcomeLine
 returns c =
-    c .before .before .print .ensures ∙ ap (λ l. printed l (c .before .before .before .before .before .before .before .before .before .before .before .before .before .before .before .before .before .before .before .before .before .before .before .before .before .before .before .before .args .out .now)) (grown-twice (grown-twice (grown-twice (grown-twice (grown-twice (c .before .before .before .before .before .before .before .before .before .before .before .before .before .before .before .before .before .before .before .before .before .before .before .before .add-name .ensures) (c .before .before .before .before .before .before .before .before .before .before .before .before .before .before .before .before .before .before .before .before .add .ensures)) (c .before .before .before .before .before .before .before .before .before .before .before .before .before .before .before .before .before .add2 .ensures)) (c .before .before .before .before .before .before .before .before .before .before .before .before .before .add3 .ensures)) (c .before .before .before .before .before .before .before .before .before .before .add-number .ensures .0)) (c .before .before .before .before .before .before .add4 .ensures) .bytes)
+    let at-print = c .before .before in
+    let at-add4 = at-print .before .before .before .before in
+    let at-add-number = at-add4 .before .before .before .before in
+    let at-add3 = at-add-number .before .before .before in
+    let at-add2 = at-add3 .before .before .before .before in
+    let at-add = at-add2 .before .before .before in
+    let at-add-name = at-add .before .before .before .before in
+    let entry = at-add-name .before .before .before .before in
+    at-print .print .ensures ∙ ap (λ l. printed l (entry .args .out .now)) (grown-twice (grown-twice (grown-twice (grown-twice (grown-twice (at-add-name .add-name .ensures) (at-add .add .ensures)) (at-add2 .add2 .ensures)) (at-add3 .add3 .ensures)) (at-add-number .add-number .ensures .0)) (at-add4 .add4 .ensures) .bytes)
 
 pub word-line-spec : {M : Type 1} → statement M
 word-line-spec =

@@ -34,9 +34,13 @@ same-length c = search needs
 
 returns : tie.Need-returns
 returns c =
-    let r = c .before .before .before .before .before .before .before .before .read-part in
-    let s = c .before .before .read-part2 in
-    let f = size-fits _ _ _ (slice-aggregate-file-bytes (c .before .before .before .before .before)) (omega arith) (c .before .before .before .before .file-bytes .ensures) in
+    let at-read-part2 = c .before .before in
+    let at-file-bytes = at-read-part2 .before .before in
+    let c-5 = at-file-bytes .before in
+    let at-read-part = c-5 .before .before .before in
+    let r = at-read-part .read-part in
+    let s = at-read-part2 .read-part2 in
+    let f = size-fits _ _ _ (slice-aggregate-file-bytes (c-5)) (omega arith) (at-file-bytes .file-bytes .ensures) in
     (omega (arith, f .1), sym (length-take-le (r .result + s .result) (s .last .0) (omega (arith, f .1))))
 
 pub read-file-spec : {M : Type 1} → statement M

@@ -51,26 +51,43 @@ cast-t22 c = search needs
 returns-3 : tie.Need-returns-3
 unfolding Step.outcome
 returns-3 c =
-    let a = c .before .before .before .before .before .before .before .before .before .before .before .args in
-    rw (sound (c .before .before .before .before .before .before .before .before .before), lt-ltb (a .position) (a .t1 .count) (c .before .before .before .before .before .before .before .before .if2 .left), eq-eqb _ _ (c .if3 .taken)) refl
+    let at-if2 = c .before .before .before .before .before .before .before .before in
+    let c-9 = at-if2 .before in
+    let entry = c-9 .before .before in
+    let a = entry .args in
+    rw (sound (c-9), lt-ltb (a .position) (a .t1 .count) (at-if2 .if2 .left), eq-eqb _ _ (c .if3 .taken)) refl
 
 returns-4 : tie.Need-returns-4
 unfolding Step.outcome
 returns-4 c =
-    let a = c .before .before .before .before .before .before .before .before .before .before .before .before .before .args in
-    rw (sound (c .before .before .before .before .before .before .before .before .before .before .before), lt-ltb (a .position) (a .t1 .count) (c .before .before .before .before .before .before .before .before .before .before .if2 .left), ne-eqb _ _ (c .before .before .if3 .left), c .if4 .taken) refl
+    let at-if3 = c .before .before in
+    let at-if2 = at-if3 .before .before .before .before .before .before .before .before in
+    let c-11 = at-if2 .before in
+    let entry = c-11 .before .before in
+    let a = entry .args in
+    rw (sound (c-11), lt-ltb (a .position) (a .t1 .count) (at-if2 .if2 .left), ne-eqb _ _ (at-if3 .if3 .left), c .if4 .taken) refl
 
 returns-5 : tie.Need-returns-5
 unfolding Step.outcome
 returns-5 c =
-    let a = c .before .before .before .before .before .before .before .before .before .before .before .before .before .before .before .before .args in
-    rw (sound (c .before .before .before .before .before .before .before .before .before .before .before .before .before .before), lt-ltb (a .position) (a .t1 .count) (c .before .before .before .before .before .before .before .before .before .before .before .before .before .if2 .left), ne-eqb _ _ (c .before .before .before .before .before .if3 .left), c .before .before .before .if4 .left, le-leb _ _ (c .if5 .taken)) refl
+    let at-if4 = c .before .before .before in
+    let at-if3 = at-if4 .before .before in
+    let at-if2 = at-if3 .before .before .before .before .before .before .before .before in
+    let c-14 = at-if2 .before in
+    let entry = c-14 .before .before in
+    let a = entry .args in
+    rw (sound (c-14), lt-ltb (a .position) (a .t1 .count) (at-if2 .if2 .left), ne-eqb _ _ (at-if3 .if3 .left), at-if4 .if4 .left, le-leb _ _ (c .if5 .taken)) refl
 
 returns-6 : tie.Need-returns-6
 unfolding Step.outcome
 returns-6 c =
-    let a = c .before .before .before .before .before .before .before .before .before .before .before .before .before .before .before .before .args in
-    rw (sound (c .before .before .before .before .before .before .before .before .before .before .before .before .before .before), lt-ltb (a .position) (a .t1 .count) (c .before .before .before .before .before .before .before .before .before .before .before .before .before .if2 .left), ne-eqb _ _ (c .before .before .before .before .before .if3 .left), c .before .before .before .if4 .left, lt-leb _ _ (c .if5 .left)) refl
+    let at-if4 = c .before .before .before in
+    let at-if3 = at-if4 .before .before in
+    let at-if2 = at-if3 .before .before .before .before .before .before .before .before in
+    let c-14 = at-if2 .before in
+    let entry = c-14 .before .before in
+    let a = entry .args in
+    rw (sound (c-14), lt-ltb (a .position) (a .t1 .count) (at-if2 .if2 .left), ne-eqb _ _ (at-if3 .if3 .left), at-if4 .if4 .left, lt-leb _ _ (c .if5 .left)) refl
 
 pub outcome-spec : {M : Type 1} → statement M
 outcome-spec =

@@ -36,8 +36,10 @@ mul-grants c = omega arith
 
 slice-write-grants : tie.Need-slice-write-grants Inv-loop μ-loop
 slice-write-grants c =
-    let a = c .before .before .before .before .args in
-    let long = ap length (c .before .before .loop .inv .1) ∙ filled-length (rowShare (a .ranks .now) (a .claims .now) (a .jobs) (a .v)) (c .before .before .loop .i) (a .grants .now) in
+    let at-loop = c .before .before in
+    let entry = at-loop .before .before in
+    let a = entry .args in
+    let long = ap length (at-loop .loop .inv .1) ∙ filled-length (rowShare (a .ranks .now) (a .claims .now) (a .jobs) (a .v)) (at-loop .loop .i) (a .grants .now) in
     omega arith
 
 mul-carried : tie.Need-mul-carried Inv-loop μ-loop
@@ -48,9 +50,13 @@ element-copy-out-carried c = omega arith
 
 add-carried : tie.Need-add-carried Inv-loop μ-loop
 add-carried c =
-    let i = c .before .before .before .loop .i in
-    let here = same-here (c .before .before) in
-    omega (arith, here, c .before .before .before .before .before .pre .2 i (omega arith), c .before .before .before .before .before .pre .3 i (omega arith), c .before .share-of .ensures)
+    let at-share-of = c .before in
+    let c-2 = at-share-of .before in
+    let at-loop = c-2 .before in
+    let entry = at-loop .before .before in
+    let i = at-loop .loop .i in
+    let here = same-here (c-2) in
+    omega (arith, here, entry .pre .2 i (omega arith), entry .pre .3 i (omega arith), at-share-of .share-of .ensures)
 
 mul-carried-2 : tie.Need-mul-carried-2 Inv-loop μ-loop
 mul-carried-2 c = omega arith
@@ -66,12 +72,16 @@ loop-less c = search needs
 
 loop-again : tie.Need-loop-again Inv-loop μ-loop
 loop-again c =
-    let a = c .before .before .before .before .before .args in
-    let here = c .before .before .before .loop in (
+    let at-share-of = c .before in
+    let c-2 = at-share-of .before in
+    let at-loop = c-2 .before in
+    let entry = at-loop .before .before in
+    let a = entry .args in
+    let here = at-loop .loop in (
       omega arith,
-      filled-next (rowShare (a .ranks .now) (a .claims .now) (a .jobs) (a .v)) (here .i) (a .grants .now) (here .inv .1) (c .before .share-of .ensures),
+      filled-next (rowShare (a .ranks .now) (a .claims .now) (a .jobs) (a .v)) (here .i) (a .grants .now) (here .inv .1) (at-share-of .share-of .ensures),
       filled-next (λ k. getD (a .carried .now) k 0 + rowShare (a .ranks .now) (a .claims .now) (a .jobs) (a .v) k) (here .i) (a .carried .now) (here .inv .2)
-          (ap₂ _+_ (same-here (c .before .before)) (c .before .share-of .ensures)),
+          (ap₂ _+_ (same-here (c-2)) (at-share-of .share-of .ensures)),
     )
 
 same-length : tie.Need-same-length Inv-loop μ-loop

@@ -53,11 +53,13 @@ loop-less c = search needs
 
 loop-again : tie.Need-loop-again Inv-loop μ-loop
 loop-again c =
-    let a = c .before .before .before .before .before .before .args in
-    let here = c .before .before .before .before .loop in (
+    let at-loop = c .before .before .before .before in
+    let entry = at-loop .before .before in
+    let a = entry .args in
+    let here = at-loop .loop in (
       omega arith,
       ap₂ _+_ (here .inv .1) (c .pick .ensures .0) ∙ sym (sum-step (λ m. on (ltb (getD (a .ranks .now) m 0) (getD (a .ranks .now) (a .i) 0)) (getD (a .claims .now) m 0)) (here .k)),
-      omega (arith, c .before .before .before .before .before .before .pre .2 (here .k) (omega arith)),
+      omega (arith, entry .pre .2 (here .k) (omega arith)),
     )
 
 mul-rest-of : tie.Need-mul-rest-of Inv-loop μ-loop
@@ -71,9 +73,11 @@ rest-of-requires c κs = search needs
 
 returns : tie.Need-returns Inv-loop μ-loop
 returns c =
-    let a = c .before .before .before .before .before .args in
-    let whole : c .before .before .before .loop .k ≡ a .jobs = omega arith in
-    c .rest-of .ensures ∙ ap (λ s. min (getD (a .claims .now) (a .i) 0) (a .v - s)) (c .before .before .before .loop .inv .1 ∙ ap (sum (λ m. on (ltb (getD (a .ranks .now) m 0) (getD (a .ranks .now) (a .i) 0)) (getD (a .claims .now) m 0))) whole)
+    let at-loop = c .before .before .before in
+    let entry = at-loop .before .before in
+    let a = entry .args in
+    let whole : at-loop .loop .k ≡ a .jobs = omega arith in
+    c .rest-of .ensures ∙ ap (λ s. min (getD (a .claims .now) (a .i) 0) (a .v - s)) (at-loop .loop .inv .1 ∙ ap (sum (λ m. on (ltb (getD (a .ranks .now) m 0) (getD (a .ranks .now) (a .i) 0)) (getD (a .claims .now) m 0))) whole)
 
 pub share-of-spec : {M : Type 1} → statement M
 share-of-spec =

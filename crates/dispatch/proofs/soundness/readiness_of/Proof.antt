@@ -30,29 +30,44 @@ carried-within-requires c κs = search needs
 
 returns : tie.Need-returns
 returns c =
+    let at-carried-within = c .before in
+    let at-bounds-hold = at-carried-within .before .before .before .before .before in
+    let at-grades-hold = at-bounds-hold .before in
+    let at-count-allowed = at-grades-hold .before in
+    let at-rates-allowed = at-count-allowed .before in
+    let at-last-deadline = at-rates-allowed .before in
+    let at-first-release = at-last-deadline .before in
     let sound = rw (
-      c .before .carried-within .ensures,
-      c .before .before .before .before .before .before .bounds-hold .ensures,
-      c .before .before .before .before .before .before .before .grades-hold .ensures,
-      c .before .before .before .before .before .before .before .before .count-allowed .ensures,
-      c .before .before .before .before .before .before .before .before .before .rates-allowed .ensures,
-      c .before .before .before .before .before .before .before .before .before .before .last-deadline .ensures,
-      c .before .before .before .before .before .before .before .before .before .before .before .first-release .ensures,
+      at-carried-within .carried-within .ensures,
+      at-bounds-hold .bounds-hold .ensures,
+      at-grades-hold .grades-hold .ensures,
+      at-count-allowed .count-allowed .ensures,
+      at-rates-allowed .rates-allowed .ensures,
+      at-last-deadline .last-deadline .ensures,
+      at-first-release .first-release .ensures,
     ) at (c .if1 .taken) in
     rw sound refl
 
 returns-2 : tie.Need-returns-2
 returns-2 c =
+    let at-if1 = c .before .before .before in
+    let at-carried-within = at-if1 .before in
+    let at-bounds-hold = at-carried-within .before .before .before .before .before in
+    let at-grades-hold = at-bounds-hold .before in
+    let at-count-allowed = at-grades-hold .before in
+    let at-rates-allowed = at-count-allowed .before in
+    let at-last-deadline = at-rates-allowed .before in
+    let at-first-release = at-last-deadline .before in
     let sound = rw (
-      c .before .before .before .before .carried-within .ensures,
-      c .before .before .before .before .before .before .before .before .before .bounds-hold .ensures,
-      c .before .before .before .before .before .before .before .before .before .before .grades-hold .ensures,
-      c .before .before .before .before .before .before .before .before .before .before .before .count-allowed .ensures,
-      c .before .before .before .before .before .before .before .before .before .before .before .before .rates-allowed .ensures,
-      c .before .before .before .before .before .before .before .before .before .before .before .before .before .last-deadline .ensures,
-      c .before .before .before .before .before .before .before .before .before .before .before .before .before .before .first-release .ensures,
-    ) at (c .before .before .before .if1 .left) in
-    let ended = eq-eqb _ _ (c .if2 .taken ∙ ap (λ (s : Slots). s .0) (c .before .before .before .before .before .before .before .before .before .before .before .before .before .last-deadline .ensures)) in
+      at-carried-within .carried-within .ensures,
+      at-bounds-hold .bounds-hold .ensures,
+      at-grades-hold .grades-hold .ensures,
+      at-count-allowed .count-allowed .ensures,
+      at-rates-allowed .rates-allowed .ensures,
+      at-last-deadline .last-deadline .ensures,
+      at-first-release .first-release .ensures,
+    ) at (at-if1 .if1 .left) in
+    let ended = eq-eqb _ _ (c .if2 .taken ∙ ap (λ (s : Slots). s .0) (at-last-deadline .last-deadline .ensures)) in
     rw (sound, ended) refl
 
 spans-by-requires : tie.Need-spans-by-requires
@@ -60,16 +75,25 @@ spans-by-requires c κs = search needs
 
 returns-3 : tie.Need-returns-3
 returns-3 c =
+    let at-if2 = c .before in
+    let at-if1 = at-if2 .before .before .before in
+    let at-carried-within = at-if1 .before in
+    let at-bounds-hold = at-carried-within .before .before .before .before .before in
+    let at-grades-hold = at-bounds-hold .before in
+    let at-count-allowed = at-grades-hold .before in
+    let at-rates-allowed = at-count-allowed .before in
+    let at-last-deadline = at-rates-allowed .before in
+    let at-first-release = at-last-deadline .before in
     let sound = rw (
-      c .before .before .before .before .before .carried-within .ensures,
-      c .before .before .before .before .before .before .before .before .before .before .bounds-hold .ensures,
-      c .before .before .before .before .before .before .before .before .before .before .before .grades-hold .ensures,
-      c .before .before .before .before .before .before .before .before .before .before .before .before .count-allowed .ensures,
-      c .before .before .before .before .before .before .before .before .before .before .before .before .before .rates-allowed .ensures,
-      c .before .before .before .before .before .before .before .before .before .before .before .before .before .before .last-deadline .ensures,
-      c .before .before .before .before .before .before .before .before .before .before .before .before .before .before .before .first-release .ensures,
-    ) at (c .before .before .before .before .if1 .left) in
-    let running = ne-eqb _ _ (λ e. c .before .if2 .left (e ∙ sym (ap (λ (s : Slots). s .0) (c .before .before .before .before .before .before .before .before .before .before .before .before .before .before .last-deadline .ensures)))) in
+      at-carried-within .carried-within .ensures,
+      at-bounds-hold .bounds-hold .ensures,
+      at-grades-hold .grades-hold .ensures,
+      at-count-allowed .count-allowed .ensures,
+      at-rates-allowed .rates-allowed .ensures,
+      at-last-deadline .last-deadline .ensures,
+      at-first-release .first-release .ensures,
+    ) at (at-if1 .if1 .left) in
+    let running = ne-eqb _ _ (λ e. at-if2 .if2 .left (e ∙ sym (ap (λ (s : Slots). s .0) (at-last-deadline .last-deadline .ensures)))) in
     rw (sound, running, c .spans-by .ensures) refl
 
 pub readiness-of-spec : {M : Type 1} → statement M

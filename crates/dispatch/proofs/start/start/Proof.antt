@@ -31,9 +31,13 @@ no-run-requires c κs = search needs
 
 returns : tie.Need-returns
 returns c =
-    let a = c .before .before .before .before .before .args in
-    let refused = ap isNone (sym (c .before .before .before .judge .ensures)) ∙ sym (c .before .before .is-accepted .ensures) ∙ not-true (c .before .before .is-accepted .result) (c .before .if1 .taken) in
-    (c .before .before .before .judge .ensures, c .no-run .ensures ∙ sym (stays (judged (a .p) (a .table .now)) (started (a .p)) noRun refused))
+    let at-if1 = c .before in
+    let at-is-accepted = at-if1 .before in
+    let at-judge = at-is-accepted .before in
+    let entry = at-judge .before .before in
+    let a = entry .args in
+    let refused = ap isNone (sym (at-judge .judge .ensures)) ∙ sym (at-is-accepted .is-accepted .ensures) ∙ not-true (at-is-accepted .is-accepted .result) (at-if1 .if1 .taken) in
+    (at-judge .judge .ensures, c .no-run .ensures ∙ sym (stays (judged (a .p) (a .table .now)) (started (a .p)) noRun refused))
 
 first-release-requires : tie.Need-first-release-requires
 first-release-requires c κs = search needs
@@ -44,10 +48,15 @@ fresh-requires c κs = search needs
 returns-2 : tie.Need-returns-2
 unfolding started
 returns-2 c =
-    let a = c .before .before .before .before .before .before .args in
-    let none = passes (verdictView (c .before .before .before .before .judge .result)) (judged (a .p) (a .table .now)) (c .before .before .before .is-accepted .result) (c .before .before .before .before .judge .ensures) (c .before .before .before .is-accepted .ensures) (c .before .before .if1 .left) in (
-      c .before .before .before .before .judge .ensures,
-      c .fresh .ensures ∙ ap fresh (c .before .first-release .ensures) ∙ ap (λ r. startFrom r (started (a .p)) noRun) (sym none),
+    let at-first-release = c .before in
+    let at-if1 = at-first-release .before in
+    let at-is-accepted = at-if1 .before in
+    let at-judge = at-is-accepted .before in
+    let entry = at-judge .before .before in
+    let a = entry .args in
+    let none = passes (verdictView (at-judge .judge .result)) (judged (a .p) (a .table .now)) (at-is-accepted .is-accepted .result) (at-judge .judge .ensures) (at-is-accepted .is-accepted .ensures) (at-if1 .if1 .left) in (
+      at-judge .judge .ensures,
+      c .fresh .ensures ∙ ap fresh (at-first-release .first-release .ensures) ∙ ap (λ r. startFrom r (started (a .p)) noRun) (sym none),
     )
 
 pub start-spec : {M : Type 1} → statement M

@@ -31,11 +31,17 @@ returns-3 c = rw (sound (c .before .before .before), c .before .before .if2 .lef
 
 returns-4 : tie.Need-returns-4
 returns-4 c =
-    rw (sound (c .before .before .before .before .before), c .before .before .before .before .if2 .left, running (c .before .before), lt-ltb _ _ (c .if4 .taken)) refl
+    let c-2 = c .before .before in
+    let at-if2 = c-2 .before .before in
+    let c-5 = at-if2 .before in
+    rw (sound (c-5), at-if2 .if2 .left, running (c-2), lt-ltb _ _ (c .if4 .taken)) refl
 
 returns-5 : tie.Need-returns-5
 returns-5 c =
-    rw (sound (c .before .before .before .before .before), c .before .before .before .before .if2 .left, running (c .before .before), le-ltb _ _ (c .if4 .left)) refl
+    let c-2 = c .before .before in
+    let at-if2 = c-2 .before .before in
+    let c-5 = at-if2 .before in
+    rw (sound (c-5), at-if2 .if2 .left, running (c-2), le-ltb _ _ (c .if4 .left)) refl
 
 pub answer-to-spec : {M : Type 1} → statement M
 answer-to-spec = tie.close (tie.spec is-sound-requires returns returns-2 is-ended-requires returns-3 returns-4 returns-5)

@@ -197,13 +197,20 @@ loop-less c = search needs
 
 loop-again : tie.Need-loop-again Inv-loop μ-loop
 loop-again c =
-    let at = here (c .before .before .before .before .before .before .before .before .before .before .before .before) in
-    let loop = c .before .before .before .before .before .before .loop in (
+    let at-units = c .before in
+    let at-sum-of = at-units .before in
+    let at-rank-of = at-sum-of .before in
+    let at-loop = at-rank-of .before .before .before in
+    let c-7 = at-loop .before in
+    let at-mark-after = c-7 .before .before .before in
+    let c-12 = at-mark-after .before .before in
+    let at = here (c-12) in
+    let loop = at-loop .loop in (
       omega arith,
-      filled-next (rank (p at)) (loop .i) (replicate mostJobs 0) (loop .inv .1) (c .before .before .before .rank-of .ensures),
-      filled-next (capped (p at) (table at) (run at) (c .before .before .before .before .before .before .before .before .before .before .mark-after .result) (v at)) (loop .i) (replicate mostJobs 0) (loop .inv .2)
-          (one-claim (p at) (table at) (run at) (c .before .before .before .before .before .before .before .before .before .before .mark-after .result) (v at) (loop .i)
-          (c .claim-of .ensures) (c .before .units .ensures) (c .before .before .sum-of .ensures) (spans (c .before .before .before .before .before .before .before))),
+      filled-next (rank (p at)) (loop .i) (replicate mostJobs 0) (loop .inv .1) (at-rank-of .rank-of .ensures),
+      filled-next (capped (p at) (table at) (run at) (at-mark-after .mark-after .result) (v at)) (loop .i) (replicate mostJobs 0) (loop .inv .2)
+          (one-claim (p at) (table at) (run at) (at-mark-after .mark-after .result) (v at) (loop .i)
+          (c .claim-of .ensures) (at-units .units .ensures) (at-sum-of .sum-of .ensures) (spans (c-7))),
     )
 
 -- After the loop both rows are complete.
@@ -244,12 +251,18 @@ same-length c = search needs
 returns-2 : tie.Need-returns-2 Inv-loop μ-loop
 unfolding stepped advanced
 returns-2 c =
-    let rows = c .before .before .before .before .before .before .before .before in
-    let was = c .before .before .before .before .before .before .before .before .before .before .before .before .before .before .before in
+    let at-grant-all = c .before .before .before in
+    let c-8 = at-grant-all .before .before .before .before .before in
+    let at-mark-after2 = c-8 .before .before .before in
+    let at-mark-after = at-mark-after2 .before .before in
+    let c-15 = at-mark-after .before .before in
+    let at-counted-of = c-15 .before .before .before .before .before .before in
+    let rows = c-8 in
+    let was = c-15 in
     let at = here was in
     let empty = none-empty (answerView (at .answer-to .result)) (none was) in
-    let jobs = c .before .before .before .before .before .before .before .before .before .before .before .before .before .before .before .before .before .before .before .before .before .counted-of .ensures in
-    let stored = c .before .before .before .grant-all .ensures in
+    let jobs = at-counted-of .counted-of .ensures in
+    let stored = at-grant-all .grant-all .ensures in
     let carried = stored-carried (p at) (table at) (run at) (v at) (grants at) (parts was .rules) (room was) (rank-row rows) (claim-row rows) jobs (stored .0) in
     let granted = stored-grants (p at) (table at) (run at) (v at) (grants at) (parts was .rules) (room was) (rank-row rows) (claim-row rows) jobs (stored .1) in
     rw (sym (told at) ∙ empty)
@@ -257,8 +270,8 @@ returns-2 c =
       answer = empty t;
       run = record {
         clock = record { 0 = run at .clock .0 + 1 };
-        slow = (c .before .before .before .before .before .before .before .before .before .before .before .before .before .mark-after .ensures) t;
-        below = (c .before .before .before .before .before .before .before .before .before .before .before .mark-after2 .ensures) t;
+        slow = (at-mark-after .mark-after .ensures) t;
+        below = (at-mark-after2 .mark-after2 .ensures) t;
         carried = carried t;
       };
       grants = granted t;

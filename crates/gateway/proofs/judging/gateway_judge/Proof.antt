@@ -12,7 +12,9 @@ use Rattle.gateway.proofs.judging.gateway_judge.Tie as tie
 
 -- After the first test both buffers are long enough.
 long : (c : tie.Else1) → (planWords ≤ length (c .before .before .before .before .args .plan .now)) × (locationWords ≤ length (c .before .before .before .before .args .location .now))
-long c = both-long (c .before .before .before .before .args .plan .now) (c .before .before .before .before .args .location .now) planWords locationWords (c .if1 .left)
+long c =
+    let entry = c .before .before .before .before in
+    both-long (entry .args .plan .now) (entry .args .location .now) planWords locationWords (c .if1 .left)
 
 cast-result : tie.Need-cast-result
 cast-result c = search needs
@@ -48,7 +50,12 @@ same-length c = search needs
 returns-2 : tie.Need-returns-2
 unfolding judgeCall
 returns-2 c =
-    rw (c .before .before .before .before .before .if1 .left, ← (c .before .before .before .before .plan-of .ensures), ← (c .before .before .before .judge .ensures), ← (c .verdict-number .ensures), ← (c .before .second-of .ensures), ← (c .before .before .first-of .ensures)) refl
+    let at-second-of = c .before in
+    let at-first-of = at-second-of .before in
+    let at-judge = at-first-of .before in
+    let at-plan-of = at-judge .before in
+    let at-if1 = at-plan-of .before in
+    rw (at-if1 .if1 .left, ← (at-plan-of .plan-of .ensures), ← (at-judge .judge .ensures), ← (c .verdict-number .ensures), ← (at-second-of .second-of .ensures), ← (at-first-of .first-of .ensures)) refl
 
 pub gateway-judge-spec : {M : Type 1} → statement M
 gateway-judge-spec =

@@ -14,7 +14,9 @@ use Rattle.gateway.proofs.judging.gateway_slack.Tie as tie
 
 -- After the first test both buffers are long enough.
 long : (c : tie.Else1) → (planWords ≤ length (c .before .before .before .before .args .plan .now)) × (locationWords ≤ length (c .before .before .before .before .args .location .now))
-long c = both-long (c .before .before .before .before .args .plan .now) (c .before .before .before .before .args .location .now) planWords locationWords (c .if1 .left)
+long c =
+    let entry = c .before .before .before .before in
+    both-long (entry .args .plan .now) (entry .args .location .now) planWords locationWords (c .if1 .left)
 
 cast-result : tie.Need-cast-result
 cast-result c = search needs
@@ -53,8 +55,14 @@ same-length c = search needs
 returns-2 : tie.Need-returns-2
 unfolding slackCall
 returns-2 c =
-    rw (c .before .before .before .before .before .before .if1 .left, ← (c .before .before .before .before .before .plan-of .ensures), ← (c .before .before .before .before .slack .ensures), ← (c .slack-number .ensures), ← (c .before .slack-second .ensures), ← (c .before .before .slack-first .ensures), ← (c .before .before .before .slack-figure .ensures))
-    (rw (toZ-ofZ (sfits-of {w = w64} {z = c .before .before .before .slack-figure .result} (c .before .before .before .slack-figure .ok))) refl)
+    let at-slack-second = c .before in
+    let at-slack-first = at-slack-second .before in
+    let at-slack-figure = at-slack-first .before in
+    let at-slack = at-slack-figure .before in
+    let at-plan-of = at-slack .before in
+    let at-if1 = at-plan-of .before in
+    rw (at-if1 .if1 .left, ← (at-plan-of .plan-of .ensures), ← (at-slack .slack .ensures), ← (c .slack-number .ensures), ← (at-slack-second .slack-second .ensures), ← (at-slack-first .slack-first .ensures), ← (at-slack-figure .slack-figure .ensures))
+    (rw (toZ-ofZ (sfits-of {w = w64} {z = at-slack-figure .slack-figure .result} (at-slack-figure .slack-figure .ok))) refl)
 
 pub gateway-slack-spec : {M : Type 1} → statement M
 gateway-slack-spec =

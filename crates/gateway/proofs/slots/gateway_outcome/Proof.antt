@@ -39,7 +39,13 @@ outcome-number-requires c κs = search needs
 returns-3 : tie.Need-returns-3
 unfolding outcomeCall
 returns-3 c =
-    rw (c .before .before .before .before .before .before .if1 .left, sym (c .before .before .before .before .before .marks-hold .ensures) ∙ not-false _ (c .before .before .before .before .if2 .left), ← (c .before .before .before .plan-of .ensures), ← (c .before .before .run-of .ensures), ← (c .before .outcome .ensures))
+    let at-outcome = c .before in
+    let at-run-of = at-outcome .before in
+    let at-plan-of = at-run-of .before in
+    let at-if2 = at-plan-of .before in
+    let at-marks-hold = at-if2 .before in
+    let at-if1 = at-marks-hold .before in
+    rw (at-if1 .if1 .left, sym (at-marks-hold .marks-hold .ensures) ∙ not-false _ (at-if2 .if2 .left), ← (at-plan-of .plan-of .ensures), ← (at-run-of .run-of .ensures), ← (at-outcome .outcome .ensures))
     (c .outcome-number .ensures)
 
 pub gateway-outcome-spec : {M : Type 1} → statement M

@@ -15,7 +15,8 @@ use Rattle.gateway.proofs.slots.gateway_start.Tie as tie
 long : (c : tie.Else1)
     → (planWords ≤ length (c .before .before .before .before .before .args .plan .now)) × (runWords ≤ length (c .before .before .before .before .before .args .run .now)) × (locationWords ≤ length (c .before .before .before .before .before .args .location .now))
 long c =
-    all-long (c .before .before .before .before .before .args .plan .now) (c .before .before .before .before .before .args .run .now) (c .before .before .before .before .before .args .location .now) planWords runWords locationWords (c .if1 .left)
+    let entry = c .before .before .before .before .before in
+    all-long (entry .args .plan .now) (entry .args .run .now) (entry .args .location .now) planWords runWords locationWords (c .if1 .left)
 
 cast-result : tie.Need-cast-result
 cast-result c = search needs
@@ -54,7 +55,12 @@ same-length-2 c = search needs
 returns-2 : tie.Need-returns-2
 unfolding startCall
 returns-2 c =
-    rw (c .before .before .before .before .before .before .before .before .if1 .left, ← (c .before .before .before .before .before .before .plan-of .ensures), ← (c .before .before .before .before .before .start-in .ensures .1), ← (c .before .before .before .before .before .start-in .ensures .0), ← (c .verdict-number .ensures), ← (c .before .second-of .ensures), ← (c .before .before .first-of .ensures)) refl
+    let at-second-of = c .before in
+    let at-first-of = at-second-of .before in
+    let at-start-in = at-first-of .before .before .before in
+    let at-plan-of = at-start-in .before in
+    let at-if1 = at-plan-of .before .before in
+    rw (at-if1 .if1 .left, ← (at-plan-of .plan-of .ensures), ← (at-start-in .start-in .ensures .1), ← (at-start-in .start-in .ensures .0), ← (c .verdict-number .ensures), ← (at-second-of .second-of .ensures), ← (at-first-of .first-of .ensures)) refl
 
 pub gateway-start-spec : {M : Type 1} → statement M
 gateway-start-spec =

@@ -51,7 +51,14 @@ same-length-3 c = search needs
 returns-3 : tie.Need-returns-3
 unfolding stepCall
 returns-3 c =
-    rw (c .before .before .before .before .before .before .before .before .before .before .before .before .before .before .before .before .if1 .left, sym (c .before .before .before .before .before .before .before .before .before .before .before .before .before .before .marks-hold .ensures) ∙ not-false _ (c .before .before .before .before .before .before .before .before .before .before .before .before .before .if2 .left), ← (c .before .before .before .before .before .before .before .before .before .before .before .before .plan-of .ensures), ← (c .before .before .before .before .before .before .before .before .before .before .run-of .ensures), ← (c .before .before .before .before .before .before .before .before .step .ensures), ← (c .answer-number .ensures), ← (c .before .before .before .put-run .ensures)) refl
+    let at-put-run = c .before .before .before in
+    let at-step = at-put-run .before .before .before .before .before in
+    let at-run-of = at-step .before .before in
+    let at-plan-of = at-run-of .before .before in
+    let at-if2 = at-plan-of .before in
+    let at-marks-hold = at-if2 .before in
+    let at-if1 = at-marks-hold .before .before in
+    rw (at-if1 .if1 .left, sym (at-marks-hold .marks-hold .ensures) ∙ not-false _ (at-if2 .if2 .left), ← (at-plan-of .plan-of .ensures), ← (at-run-of .run-of .ensures), ← (at-step .step .ensures), ← (c .answer-number .ensures), ← (at-put-run .put-run .ensures)) refl
 
 pub gateway-step-spec : {M : Type 1} → statement M
 gateway-step-spec =

@@ -25,12 +25,17 @@ same-length c = search needs
 
 returns : tie.Need-returns
 returns c =
-    let a = c .before .before .before .before .before .before .before .before .before .before .args in
-    let told = c .before .before .before .before .before .before .before .start .ensures in
-    let none = ap isNone (sym (told .0)) ∙ sym (c .before .before .before .before .before .is-accepted .ensures) ∙ c .before .before .before .before .if1 .taken in
+    let at-put-run = c .before .before in
+    let at-if1 = at-put-run .before .before in
+    let at-is-accepted = at-if1 .before in
+    let at-start = at-is-accepted .before .before in
+    let entry = at-start .before .before .before in
+    let a = entry .args in
+    let told = at-start .start .ensures in
+    let none = ap isNone (sym (told .0)) ∙ sym (at-is-accepted .is-accepted .ensures) ∙ at-if1 .if1 .taken in
     let verdict = judged (a .p) (a .table .now) in (
       told .0,
-      c .before .before .put-run .ensures ∙ ap (runPut (a .run .now)) (told .1 ∙ fresh.starts verdict (started (a .p)) noRun none)
+      at-put-run .put-run .ensures ∙ ap (runPut (a .run .now)) (told .1 ∙ fresh.starts verdict (started (a .p)) noRun none)
           ∙ sym (starts verdict (a .p) (a .run .now) none),
     )
 

@@ -51,9 +51,12 @@ loop-less c = omega arith
 
 loop-again : tie.Need-loop-again Inv-loop μ-loop
 loop-again c =
-    let l = c .before .before .before .before .before .before .loop in
-    let a = c .before .before .before .before .before .before .before .before .args in
-    (omega arith, rw (add-one, ← (jobs-next (a .t2) (a .words .now) (l .i)), ← (l .inv .1)) (c .before .before .put-job .ensures))
+    let at-put-job = c .before .before in
+    let at-loop = at-put-job .before .before .before .before in
+    let entry = at-loop .before .before in
+    let l = at-loop .loop in
+    let a = entry .args in
+    (omega arith, rw (add-one, ← (jobs-next (a .t2) (a .words .now) (l .i)), ← (l .inv .1)) (at-put-job .put-job .ensures))
 
 same-length : tie.Need-same-length Inv-loop μ-loop
 same-length c = long (c .before)

@@ -26,9 +26,15 @@ is-accepted-requires-2 c κs = search needs
 
 returns-2 : tie.Need-returns-2
 returns-2 c =
-    let a = c .before .before .before .before .before .before .before .before .args in
-    stops _ _ (capacityFault (a .p) (a .table .now)) _ (c .before .before .wrong-total .ensures) (c .before .is-accepted2 .ensures) (c .if2 .taken)
-    ∙ sym (or-none _ _ (passes _ _ _ (c .before .before .before .before .before .outside-window .ensures) (c .before .before .before .before .is-accepted .ensures) (c .before .before .before .if1 .left)))
+    let at-is-accepted2 = c .before in
+    let at-wrong-total = at-is-accepted2 .before in
+    let at-if1 = at-wrong-total .before in
+    let at-is-accepted = at-if1 .before in
+    let at-outside-window = at-is-accepted .before in
+    let entry = at-outside-window .before .before .before in
+    let a = entry .args in
+    stops _ _ (capacityFault (a .p) (a .table .now)) _ (at-wrong-total .wrong-total .ensures) (at-is-accepted2 .is-accepted2 .ensures) (c .if2 .taken)
+    ∙ sym (or-none _ _ (passes _ _ _ (at-outside-window .outside-window .ensures) (at-is-accepted .is-accepted .ensures) (at-if1 .if1 .left)))
 
 counted-of-requires : tie.Need-counted-of-requires
 counted-of-requires c κs = search needs
@@ -40,10 +46,18 @@ over-capacity-requires c κs =
 returns-3 : tie.Need-returns-3
 unfolding capacityFault
 returns-3 c =
-    let a = c .before .before .before .before .before .before .before .before .before .before .args in
-    c .over-capacity .ensures ∙ rw (c .before .counted-of .ensures, c .before .before .before .before .before .before .before .before .before .before .pre .0, c .before .before .before .before .before .before .before .before .before .before .pre .1) refl
-    ∙ sym (or-none _ _ (passes _ _ _ (c .before .before .before .before .before .before .before .outside-window .ensures) (c .before .before .before .before .before .before .is-accepted .ensures) (c .before .before .before .before .before .if1 .left))
-    ∙ or-none _ _ (passes _ _ _ (c .before .before .before .before .wrong-total .ensures) (c .before .before .before .is-accepted2 .ensures) (c .before .before .if2 .left)))
+    let at-counted-of = c .before in
+    let at-if2 = at-counted-of .before in
+    let at-is-accepted2 = at-if2 .before in
+    let at-wrong-total = at-is-accepted2 .before in
+    let at-if1 = at-wrong-total .before in
+    let at-is-accepted = at-if1 .before in
+    let at-outside-window = at-is-accepted .before in
+    let entry = at-outside-window .before .before .before in
+    let a = entry .args in
+    c .over-capacity .ensures ∙ rw (at-counted-of .counted-of .ensures, entry .pre .0, entry .pre .1) refl
+    ∙ sym (or-none _ _ (passes _ _ _ (at-outside-window .outside-window .ensures) (at-is-accepted .is-accepted .ensures) (at-if1 .if1 .left))
+    ∙ or-none _ _ (passes _ _ _ (at-wrong-total .wrong-total .ensures) (at-is-accepted2 .is-accepted2 .ensures) (at-if2 .if2 .left)))
 
 pub constraints-spec : {M : Type 1} → statement M
 constraints-spec =

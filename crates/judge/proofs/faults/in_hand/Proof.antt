@@ -34,8 +34,9 @@ sound-of-requires c κs = search needs
 -- The result of `sound_of` is whether the plan is sound.
 tested : (c : tie.After-sound-of) → c .sound-of .result ≡ sound (c .before .before .before .before .args .p) (c .before .before .before .before .args .table .now)
 tested c =
-    let a = c .before .before .before .before .args in
-    c .sound-of .ensures ∙ sound-told (a .p) (a .table .now) (a .count - 1) (ap (λ n. n - 1) (c .before .before .before .before .pre))
+    let entry = c .before .before .before .before in
+    let a = entry .args in
+    c .sound-of .ensures ∙ sound-told (a .p) (a .table .now) (a .count - 1) (ap (λ n. n - 1) (entry .pre))
 
 returns-3 : tie.Need-returns-3
 returns-3 c =

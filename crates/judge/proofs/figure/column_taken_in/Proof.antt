@@ -60,7 +60,9 @@ shared-slice-read-t23 c = omega (arith, c .before .loop-test .taken, c .before .
 -- The sum stays below 2^62 with one more interval.
 small : (c : tie.In-loop Inv-loop μ-loop) → c .before .loop .asked .0 + getD (c .before .before .before .before .before .before .args .sums .now) (c .before .loop .l - 1) 0 < mostSide
 small c =
-    omega (arith, c .before .before .before .before .before .before .pre .3 (c .before .loop .l - 1) (omega (arith, c .loop-test .taken, c .before .loop .inv .0)), mul-le-mul-right {m = c .before .before .before .before .before .before .args .m - c .before .loop .l} {n = mostIntervals} (mostJobs * mostAtPlace) (omega (arith, c .before .before .before .before .before .before .pre .2)), c .before .loop .inv .2)
+    let at-loop = c .before in
+    let entry = at-loop .before .before .before .before .before in
+    omega (arith, entry .pre .3 (at-loop .loop .l - 1) (omega (arith, c .loop-test .taken, at-loop .loop .inv .0)), mul-le-mul-right {m = entry .args .m - at-loop .loop .l} {n = mostIntervals} (mostJobs * mostAtPlace) (omega (arith, entry .pre .2)), at-loop .loop .inv .2)
 
 add-t24 : tie.Need-add-t24 Inv-loop μ-loop
 add-t24 c = omega (arith, small (c .before .before))
@@ -88,29 +90,35 @@ loop-less c = omega (arith, c .before .before .before .before .before .before .b
 
 loop-again : tie.Need-loop-again Inv-loop μ-loop
 loop-again c =
-    let start = c .before .before .before .before .before .before .before .before .before .before .before .before .before in
+    let at-pick = c .before in
+    let at-slack-from = at-pick .before in
+    let at-capacity = at-slack-from .before in
+    let at-loop-test = at-capacity .before .before .before .before in
+    let at-loop = at-loop-test .before in
+    let c-13 = at-loop .before .before .before .before .before in
+    let start = c-13 in
     let a = start .args in
-    let here = c .before .before .before .before .before .before .before .before .loop in
-    let some = c .before .before .before .before .before .before .before .loop-test .taken in
+    let here = at-loop .loop in
+    let some = at-loop-test .loop-test .taken in
     let l = here .l in
     let asked = here .asked .0 in
     let best = toZ w64 (here .best) in
-    let slack = toZ w64 (ofZ w64 (c .before .before .slack-from .result)) in
+    let slack = toZ w64 (ofZ w64 (at-slack-from .slack-from .result)) in
     let time = getD (a .times .now) (a .m) 0 in
-    let carries = c .before .before .before .capacity in
-    let more = small (c .before .before .before .before .before .before .before) in
-    let is : slack ≡ subℕ (carries .result .0) (asked + getD (a .sums .now) (l - 1) 0) = kept-difference _ _ _ (carries .ensures .1) more (c .before .before .slack-from .ensures) in
+    let carries = at-capacity .capacity in
+    let more = small (at-loop-test) in
+    let is : slack ≡ subℕ (carries .result .0) (asked + getD (a .sums .now) (l - 1) 0) = kept-difference _ _ _ (carries .ensures .1) more (at-slack-from .slack-from .ensures) in
     let fits : SFits w64 slack = rw is (difference-fits _ _ (carries .ensures .1) more) in
     let kept = kept-choice (leZ slack best) slack best (c .lesser-of .result) fits (here .inv .5) (c .lesser-of .ensures) in
-    let turn = taken-next (a .d .0) (a .sums .now) (a .times .now) (a .m) l asked slack (sooner (slackView (a .known)) best (here .at) time) (sooner (slackView (a .known)) (toZ w64 (ofZ w64 (c .lesser-of .result))) (c .before .pick .result) time) some (here .inv .0) (here .inv .1)
+    let turn = taken-next (a .d .0) (a .sums .now) (a .times .now) (a .m) l asked slack (sooner (slackView (a .known)) best (here .at) time) (sooner (slackView (a .known)) (toZ w64 (ofZ w64 (c .lesser-of .result))) (at-pick .pick .result) time) some (here .inv .0) (here .inv .1)
     (is ∙ ap (λ n. subℕ n (asked + getD (a .sums .now) (l - 1) 0)) (carries .ensures .0))
-    (ap₂ (λ s n. sooner (slackView (a .known)) s n time) (kept .0) (c .before .pick .ensures) ∙ sym (sooner-two (slackView (a .known)) best slack (here .at) (l - 1) time (omega (arith, some, here .inv .4)))) in
+    (ap₂ (λ s n. sooner (slackView (a .known)) s n time) (kept .0) (at-pick .pick .ensures) ∙ sym (sooner-two (slackView (a .known)) best slack (here .at) (l - 1) time (omega (arith, some, here .inv .4)))) in
     let one-more : a .m - (l - 1) ≡ a .m - l + 1 = omega (arith, some, here .inv .0) in (
       omega (arith, here .inv .0),
       turn .0,
       omega (arith, start .pre .3 (l - 1) (omega (arith, some, here .inv .0)), ap (λ n. n * (mostJobs * mostAtPlace)) one-more, here .inv .2),
       turn .1 ∙ here .inv .3,
-      rw (c .before .pick .ensures) (choice-from (leZ slack best) (l - 1) (here .at) (l - 1) (omega arith) (omega (arith, here .inv .4))),
+      rw (at-pick .pick .ensures) (choice-from (leZ slack best) (l - 1) (here .at) (l - 1) (omega arith) (omega (arith, here .inv .4))),
       kept .1,
     )
 
@@ -120,10 +128,14 @@ sooner-of-requires c κs = search needs
 returns-2 : tie.Need-returns-2 Inv-loop μ-loop
 unfolding columnTaken
 returns-2 c =
-    let a = c .before .before .before .before .before .before .before .args in
-    let end : c .before .before .loop .l ≡ 0 = omega (arith, c .before .loop-test .left) in
-    c .sooner-of .ensures ∙ (rw end at (c .before .before .loop .inv .3))
-    ∙ sym (ap (λ b. cond b (columnTaken (a .d .0) (a .sums .now) (a .times .now) (a .m) (a .m) (slackView (a .known))) (slackView (a .known))) (taken-some (a .due) (a .m) (c .before .before .before .before .if1 .left) .0))
+    let at-loop-test = c .before in
+    let at-loop = at-loop-test .before in
+    let at-if1 = at-loop .before .before in
+    let entry = at-if1 .before .before .before in
+    let a = entry .args in
+    let end : at-loop .loop .l ≡ 0 = omega (arith, at-loop-test .loop-test .left) in
+    c .sooner-of .ensures ∙ (rw end at (at-loop .loop .inv .3))
+    ∙ sym (ap (λ b. cond b (columnTaken (a .d .0) (a .sums .now) (a .times .now) (a .m) (a .m) (slackView (a .known))) (slackView (a .known))) (taken-some (a .due) (a .m) (at-if1 .if1 .left) .0))
 
 pub column-taken-in-spec : {M : Type 1} → statement M
 column-taken-in-spec =

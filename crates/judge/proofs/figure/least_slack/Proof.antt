@@ -53,42 +53,69 @@ most : (c : tie.After-shared-slice-known Inv-loop μ-loop) → (q : ℕ) → get
 most c q = omega (arith, c .shared-slice-known .given q)
 
 add-rows-requires : tie.Need-add-rows-requires Inv-loop μ-loop
-add-rows-requires c κs = rows-fit (ready (c .before .before .before .before .before)) (most (c .before .before .before .before .before .before .before)) (c .before .before .before .loop-test .taken) (c .before .before .before .before .loop .inv .1)
+add-rows-requires c κs =
+    let at-loop-test = c .before .before .before in
+    let at-loop = at-loop-test .before in
+    let c-5 = at-loop .before in
+    let c-7 = c-5 .before .before in
+    rows-fit (ready (c-5)) (most (c-7)) (at-loop-test .loop-test .taken) (at-loop .loop .inv .1)
 
 -- After the rows of boundary m are added, the column sums include the jobs due there.
 summed : (c : tie.After-add-rows Inv-loop μ-loop) → Summed (c .before .before .before .before .before .before .before .before .before .args .p) (c .before .before .before .before .before .before .before .before .before .args .table .now) (suc (c .before .before .before .before .before .loop .m)) (c .add-rows .last .0)
 summed c =
-    summed-next (ready (c .before .before .before .before .before .before)) (most (c .before .before .before .before .before .before .before .before)) (c .before .before .before .before .loop-test .taken) (c .add-rows .last .0) (c .before .before .before .before .before .loop .inv .1) (c .add-rows .ensures .1) (c .add-rows .ensures .2)
+    let at-loop-test = c .before .before .before .before in
+    let at-loop = at-loop-test .before in
+    let c-6 = at-loop .before in
+    let c-8 = c-6 .before .before in
+    summed-next (ready (c-6)) (most (c-8)) (at-loop-test .loop-test .taken) (c .add-rows .last .0) (at-loop .loop .inv .1) (c .add-rows .ensures .1) (c .add-rows .ensures .2)
 
 due : (c : tie.After-add-rows Inv-loop μ-loop) → c .add-rows .result ≡ isHiDeadline (c .before .before .before .before .before .before .before .before .before .args .p) (boundary (c .before .before .before .before .before .before .before .before .before .args .p) (c .before .before .before .before .before .loop .m))
-due c = due-is (ready (c .before .before .before .before .before .before)) (most (c .before .before .before .before .before .before .before .before)) (c .before .before .before .before .loop-test .taken) (c .add-rows .ensures .0)
+due c =
+    let at-loop-test = c .before .before .before .before in
+    let c-6 = at-loop-test .before .before in
+    let c-8 = c-6 .before .before in
+    due-is (ready (c-6)) (most (c-8)) (at-loop-test .loop-test .taken) (c .add-rows .ensures .0)
 
 slice-aggregate-column-taken-in : tie.Need-slice-aggregate-column-taken-in Inv-loop μ-loop
 slice-aggregate-column-taken-in c = sym (summed (c .before .before .before) .room)
 
 column-taken-in-requires : tie.Need-column-taken-in-requires Inv-loop μ-loop
-column-taken-in-requires c κs = column-fits (ready (c .before .before .before .before .before .before .before .before .before)) (most (c .before .before .before .before .before .before .before .before .before .before .before)) (c .before .before .before .before .before .before .before .loop-test .taken) (summed (c .before .before .before))
+column-taken-in-requires c κs =
+    let c-3 = c .before .before .before in
+    let at-loop-test = c-3 .before .before .before .before in
+    let c-9 = at-loop-test .before .before in
+    let c-11 = c-9 .before .before in
+    column-fits (ready (c-9)) (most (c-11)) (at-loop-test .loop-test .taken) (summed (c-3))
 
 add-m : tie.Need-add-m Inv-loop μ-loop
-add-m c = omega (arith, c .before .before .before .before .before .before .before .before .before .before .before .before .before .pre .1, few-intervals (c .before .before .before .before .before .before .before .before .before .before .before .before .before .args .p), c .before .before .before .before .before .before .before .before .loop-test .taken)
+add-m c =
+    let at-loop-test = c .before .before .before .before .before .before .before .before in
+    let entry = at-loop-test .before .before .before .before .before in
+    omega (arith, entry .pre .1, few-intervals (entry .args .p), at-loop-test .loop-test .taken)
 
 loop-less : tie.Need-loop-less Inv-loop μ-loop
 loop-less c = omega (arith, c .before .before .before .before .before .before .before .before .loop-test .taken)
 
 loop-again : tie.Need-loop-again Inv-loop μ-loop
 loop-again c =
-    let a = c .before .before .before .before .before .before .before .before .before .before .before .before .before .args in
-    let m = c .before .before .before .before .before .before .before .before .before .loop .m in
-    let in-time : m ≤ intervals (a .p) = omega (arith, c .before .before .before .before .before .before .before .before .loop-test .taken, c .before .before .before .before .before .before .before .before .before .before .before .before .before .pre .1) in (
-      omega (arith, c .before .before .before .before .before .before .before .before .loop-test .taken),
-      rw (add-one m) (summed (c .before .before .before .before)),
-      tightest-next (a .p) (a .table .now) (c .before .before .before .before .add-rows .last .0) (a .times .now) m (c .before .before .before .before .before .before .before .before .before .before .before .before .before .pre .0) in-time (summed (c .before .before .before .before)) (c .before .before .before .before .add-rows .result) (slackView (c .before .before .before .before .before .before .before .before .before .loop .best)) (slackView (c .column-taken-in .result)) (due (c .before .before .before .before)) (c .column-taken-in .ensures) (c .before .before .before .before .before .before .before .before .before .loop .inv .2),
+    let at-add-rows = c .before .before .before .before in
+    let at-loop-test = at-add-rows .before .before .before .before in
+    let at-loop = at-loop-test .before in
+    let entry = at-loop .before .before .before .before in
+    let a = entry .args in
+    let m = at-loop .loop .m in
+    let in-time : m ≤ intervals (a .p) = omega (arith, at-loop-test .loop-test .taken, entry .pre .1) in (
+      omega (arith, at-loop-test .loop-test .taken),
+      rw (add-one m) (summed (at-add-rows)),
+      tightest-next (a .p) (a .table .now) (at-add-rows .add-rows .last .0) (a .times .now) m (entry .pre .0) in-time (summed (at-add-rows)) (at-add-rows .add-rows .result) (slackView (at-loop .loop .best)) (slackView (c .column-taken-in .result)) (due (at-add-rows)) (c .column-taken-in .ensures) (at-loop .loop .inv .2),
     )
 
 returns : tie.Need-returns Inv-loop μ-loop
 returns c =
-    let a = c .before .before .before .before .before .args in
-    tightest-end (a .p) (a .table .now) (c .before .loop .m) (slackView (c .before .loop .best)) (omega (arith, c .before .before .before .before .before .pre .1, c .loop-test .left, c .before .loop .inv .0)) (c .before .loop .inv .2)
+    let at-loop = c .before in
+    let entry = at-loop .before .before .before .before in
+    let a = entry .args in
+    tightest-end (a .p) (a .table .now) (at-loop .loop .m) (slackView (at-loop .loop .best)) (omega (arith, entry .pre .1, c .loop-test .left, at-loop .loop .inv .0)) (at-loop .loop .inv .2)
 
 pub least-slack-spec : {M : Type 1} → statement M
 least-slack-spec =

@@ -29,21 +29,27 @@ returns c =
 
 returns-2 : tie.Need-returns-2
 returns-2 c =
-    let a = c .before .before .before .before .args in
-    let best = c .before .before .known .given .0 .0 in
-    let fits : SFits w64 best = record { sfits = c .before .known-told .given .0 .1 } in
-    let at = c .before .before .known .given .0 .1 .0 in
-    let test : (ltZ (a .slack) best || leZ (a .slack) best && ltb (a .l) at) ≡ true = sym (ap₂ (λ s b. ltZ s b || leZ s b && ltb (a .l) at) (toZ-ofZ (c .before .before .before .before .fits .slack)) (toZ-ofZ fits)) ∙ c .if1 .taken in
-    ap (λ s. least s (a .l) (a .time .0)) (toZ-ofZ (c .before .before .before .before .fits .slack)) ∙ rw (c .before .before .known .given .1, test) refl
+    let at-known-told = c .before in
+    let at-known = at-known-told .before in
+    let entry = at-known .before .before in
+    let a = entry .args in
+    let best = at-known .known .given .0 .0 in
+    let fits : SFits w64 best = record { sfits = at-known-told .known-told .given .0 .1 } in
+    let at = at-known .known .given .0 .1 .0 in
+    let test : (ltZ (a .slack) best || leZ (a .slack) best && ltb (a .l) at) ≡ true = sym (ap₂ (λ s b. ltZ s b || leZ s b && ltb (a .l) at) (toZ-ofZ (entry .fits .slack)) (toZ-ofZ fits)) ∙ c .if1 .taken in
+    ap (λ s. least s (a .l) (a .time .0)) (toZ-ofZ (entry .fits .slack)) ∙ rw (at-known .known .given .1, test) refl
 
 returns-3 : tie.Need-returns-3
 returns-3 c =
-    let a = c .before .before .before .before .args in
-    let best = c .before .before .known .given .0 .0 in
-    let fits : SFits w64 best = record { sfits = c .before .known-told .given .0 .1 } in
-    let at = c .before .before .known .given .0 .1 .0 in
-    let test : (ltZ (a .slack) best || leZ (a .slack) best && ltb (a .l) at) ≡ false = sym (ap₂ (λ s b. ltZ s b || leZ s b && ltb (a .l) at) (toZ-ofZ (c .before .before .before .before .fits .slack)) (toZ-ofZ fits)) ∙ c .if1 .left in
-    rw (c .before .before .known .given .1, test) refl
+    let at-known-told = c .before in
+    let at-known = at-known-told .before in
+    let entry = at-known .before .before in
+    let a = entry .args in
+    let best = at-known .known .given .0 .0 in
+    let fits : SFits w64 best = record { sfits = at-known-told .known-told .given .0 .1 } in
+    let at = at-known .known .given .0 .1 .0 in
+    let test : (ltZ (a .slack) best || leZ (a .slack) best && ltb (a .l) at) ≡ false = sym (ap₂ (λ s b. ltZ s b || leZ s b && ltb (a .l) at) (toZ-ofZ (entry .fits .slack)) (toZ-ofZ fits)) ∙ c .if1 .left in
+    rw (at-known .known .given .1, test) refl
 
 returns-4 : tie.Need-returns-4
 returns-4 c = search needs

@@ -38,7 +38,8 @@ shared-slice-read-time c = search needs
 
 loop-holds : tie.Need-loop-holds Inv-loop μ-loop
 loop-holds c =
-    (omega arith, sym (let e : c .before .before .before .before .args .m - c .before .before .before .before .args .m ≡ 0 = omega arith in ap (sum _) e ∙ sum-start _), omega arith, lowest-end _ _ _)
+    let entry = c .before .before .before .before in
+    (omega arith, sym (let e : entry .args .m - entry .args .m ≡ 0 = omega arith in ap (sum _) e ∙ sum-start _), omega arith, lowest-end _ _ _)
 
 sub-l : tie.Need-sub-l Inv-loop μ-loop
 sub-l c = omega (arith, c .loop-test .taken)
@@ -51,7 +52,10 @@ shared-slice-read-t19 c = omega (arith, c .before .loop-test .taken, c .before .
 
 add-t20 : tie.Need-add-t20 Inv-loop μ-loop
 add-t20 c =
-    omega (arith, c .before .before .before .before .before .before .before .before .pre .3 (c .before .before .before .loop .l - 1) (omega (arith, c .before .before .loop-test .taken, c .before .before .before .loop .inv .0)), mul-le-mul-right {m = c .before .before .before .before .before .before .before .before .args .m - c .before .before .before .loop .l} {n = mostIntervals} (mostJobs * mostAtPlace) (omega (arith, c .before .before .before .before .before .before .before .before .pre .2)), c .before .before .before .loop .inv .2)
+    let at-loop-test = c .before .before in
+    let at-loop = at-loop-test .before in
+    let entry = at-loop .before .before .before .before .before in
+    omega (arith, entry .pre .3 (at-loop .loop .l - 1) (omega (arith, at-loop-test .loop-test .taken, at-loop .loop .inv .0)), mul-le-mul-right {m = entry .args .m - at-loop .loop .l} {n = mostIntervals} (mostJobs * mostAtPlace) (omega (arith, entry .pre .2)), at-loop .loop .inv .2)
 
 mul-capacity : tie.Need-mul-capacity Inv-loop μ-loop
 mul-capacity c = omega (arith, c .before .before .before .loop .inv .0, c .before .before .before .before .before .before .before .before .pre .2)
@@ -70,16 +74,20 @@ loop-less c = omega (arith, c .before .before .before .before .before .before .b
 
 loop-again : tie.Need-loop-again Inv-loop μ-loop
 loop-again c =
-    let a = c .before .before .before .before .before .before .before .before .before .before .before .before .before .args in
-    let l = c .before .before .before .before .before .before .before .before .loop .l in
-    let asked = c .before .before .before .before .before .before .before .before .loop .asked .0 in
-    let low = c .before .before .before .before .before .before .before .before .loop .low in
-    let turn = column-next (a .d .0) (a .sums .now) (a .times .now) (a .m) (a .other) l asked low (c .pick .result) (c .before .before .before .before .before .before .before .loop-test .taken) (c .before .before .before .before .before .before .before .before .loop .inv .0) (c .before .before .before .before .before .before .before .before .loop .inv .1) (c .before .before .before .before .before .before .before .before .loop .inv .3)
-    (c .pick .ensures ∙ ap (λ n. cond (ltb n (asked + getD (a .sums .now) (l - 1) 0)) (l - 1) low) (c .before .before .before .capacity .ensures .0)) in
-    let one-more : a .m - (l - 1) ≡ a .m - l + 1 = omega (arith, c .before .before .before .before .before .before .before .loop-test .taken, c .before .before .before .before .before .before .before .before .loop .inv .0) in (
-      omega (arith, c .before .before .before .before .before .before .before .before .loop .inv .0),
+    let at-capacity = c .before .before .before in
+    let at-loop-test = at-capacity .before .before .before .before in
+    let at-loop = at-loop-test .before in
+    let entry = at-loop .before .before .before .before .before in
+    let a = entry .args in
+    let l = at-loop .loop .l in
+    let asked = at-loop .loop .asked .0 in
+    let low = at-loop .loop .low in
+    let turn = column-next (a .d .0) (a .sums .now) (a .times .now) (a .m) (a .other) l asked low (c .pick .result) (at-loop-test .loop-test .taken) (at-loop .loop .inv .0) (at-loop .loop .inv .1) (at-loop .loop .inv .3)
+    (c .pick .ensures ∙ ap (λ n. cond (ltb n (asked + getD (a .sums .now) (l - 1) 0)) (l - 1) low) (at-capacity .capacity .ensures .0)) in
+    let one-more : a .m - (l - 1) ≡ a .m - l + 1 = omega (arith, at-loop-test .loop-test .taken, at-loop .loop .inv .0) in (
+      omega (arith, at-loop .loop .inv .0),
       turn .0,
-      omega (arith, c .before .before .before .before .before .before .before .before .before .before .before .before .before .pre .3 (l - 1) (omega (arith, c .before .before .before .before .before .before .before .loop-test .taken, c .before .before .before .before .before .before .before .before .loop .inv .0)), ap (λ n. n * (mostJobs * mostAtPlace)) one-more, c .before .before .before .before .before .before .before .before .loop .inv .2),
+      omega (arith, entry .pre .3 (l - 1) (omega (arith, at-loop-test .loop-test .taken, at-loop .loop .inv .0)), ap (λ n. n * (mostJobs * mostAtPlace)) one-more, at-loop .loop .inv .2),
       turn .1,
     )
 
@@ -88,12 +96,16 @@ pick-requires-2 c κs = search needs
 
 returns-2 : tie.Need-returns-2 Inv-loop μ-loop
 returns-2 c =
-    let a = c .before .before .before .before .before .before .before .args in
-    let end : c .before .before .loop .l ≡ 0 = omega (arith, c .before .loop-test .left) in
+    let at-loop-test = c .before in
+    let at-loop = at-loop-test .before in
+    let at-if1 = at-loop .before .before in
+    let entry = at-if1 .before .before .before in
+    let a = entry .args in
+    let end : at-loop .loop .l ≡ 0 = omega (arith, at-loop-test .loop-test .left) in
     let all : a .m - 0 ≡ a .m = omega arith in
-    c .pick2 .ensures ∙ lesser-is (c .before .before .loop .low) (a .other)
-    ∙ ap (min (a .other)) (rw (end, all) at (c .before .before .loop .inv .3))
-    ∙ sym (ap (λ b. cond b (min (a .other) (lowest (asksMore (a .d .0) (a .sums .now) (a .times .now) (a .m)) (a .other) 0 (a .m))) (a .other)) (not-false (a .due) (c .before .before .before .before .if1 .left)))
+    c .pick2 .ensures ∙ lesser-is (at-loop .loop .low) (a .other)
+    ∙ ap (min (a .other)) (rw (end, all) at (at-loop .loop .inv .3))
+    ∙ sym (ap (λ b. cond b (min (a .other) (lowest (asksMore (a .d .0) (a .sums .now) (a .times .now) (a .m)) (a .other) 0 (a .m))) (a .other)) (not-false (a .due) (at-if1 .if1 .left)))
 
 pub lowered-spec : {M : Type 1} → statement M
 lowered-spec =

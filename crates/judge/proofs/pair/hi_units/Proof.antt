@@ -38,13 +38,22 @@ mul-wanted-sum : tie.Need-mul-wanted-sum Inv-loop μ-loop
 mul-wanted-sum c = omega (arith, c .before .before .before .before .loop-test .taken, c .before .before .before .before .before .before .counted-of .ensures)
 
 add-wanted-sum : tie.Need-add-wanted-sum Inv-loop μ-loop
-add-wanted-sum c = omega (arith, c .before .before .before .before .loop-test .taken, c .before .before .before .before .before .before .counted-of .ensures, c .before .before .before .before .before .before .before .before .pre .0)
+add-wanted-sum c =
+    let at-loop-test = c .before .before .before .before in
+    let at-counted-of = at-loop-test .before .before in
+    let entry = at-counted-of .before .before in
+    omega (arith, at-loop-test .loop-test .taken, at-counted-of .counted-of .ensures, entry .pre .0)
 
 wanted-sum-requires : tie.Need-wanted-sum-requires Inv-loop μ-loop
 wanted-sum-requires c κs = c .before .before .before .before .before .before .before .before .pre .1
 
 add-t22 : tie.Need-add-t22 Inv-loop μ-loop
-add-t22 c = omega (arith, c .before .before .wanted-sum .ensures .1, c .before .before .before .before .before .before .before .before .loop .inv .2, c .before .before .before .before .before .before .before .loop-test .taken, c .before .before .before .before .before .before .before .before .before .counted-of .ensures)
+add-t22 c =
+    let at-wanted-sum = c .before .before in
+    let at-loop-test = at-wanted-sum .before .before .before .before .before in
+    let at-loop = at-loop-test .before in
+    let at-counted-of = at-loop .before in
+    omega (arith, at-wanted-sum .wanted-sum .ensures .1, at-loop .loop .inv .2, at-loop-test .loop-test .taken, at-counted-of .counted-of .ensures)
 
 add-i : tie.Need-add-i Inv-loop μ-loop
 add-i c = search needs
@@ -54,12 +63,18 @@ loop-less c = omega (arith, c .before .before .before .before .before .before .b
 
 loop-again : tie.Need-loop-again Inv-loop μ-loop
 loop-again c =
-    (omega (arith, c .before .before .before .before .before .before .before .loop-test .taken), sum-next _ (c .before .before .before .before .before .before .before .before .loop .i) (c .before .before .before .before .before .before .before .before .loop .inv .1) (c .before .before .wanted-sum .ensures .0), omega (arith, c .before .before .wanted-sum .ensures .1, c .before .before .before .before .before .before .before .before .loop .inv .2))
+    let at-wanted-sum = c .before .before in
+    let at-loop-test = at-wanted-sum .before .before .before .before .before in
+    let at-loop = at-loop-test .before in
+    (omega (arith, at-loop-test .loop-test .taken), sum-next _ (at-loop .loop .i) (at-loop .loop .inv .1) (at-wanted-sum .wanted-sum .ensures .0), omega (arith, at-wanted-sum .wanted-sum .ensures .1, at-loop .loop .inv .2))
 
 returns : tie.Need-returns Inv-loop μ-loop
 returns c =
-    let end : c .before .loop .i ≡ counted (c .before .before .before .before .args .t1) = omega (arith, c .loop-test .left, c .before .loop .inv .0, c .before .before .counted-of .ensures) in
-    (c .before .loop .inv .1 ∙ ap (sum _) end, rw end at (c .before .loop .inv .2))
+    let at-loop = c .before in
+    let at-counted-of = at-loop .before in
+    let entry = at-counted-of .before .before in
+    let end : at-loop .loop .i ≡ counted (entry .args .t1) = omega (arith, c .loop-test .left, at-loop .loop .inv .0, at-counted-of .counted-of .ensures) in
+    (at-loop .loop .inv .1 ∙ ap (sum _) end, rw end at (at-loop .loop .inv .2))
 
 pub hi-units-spec : {M : Type 1} → statement M
 hi-units-spec =

@@ -45,13 +45,21 @@ cast-sums c = omega (arith, c .shared-slice-known .given (c .before .before .bef
 
 add-sums-2 : tie.Need-add-sums-2 Inv-loop μ-loop
 add-sums-2 c =
-    omega (arith, c .before .shared-slice-known .given (c .before .before .before .before .before .before .args .start + c .before .before .before .before .loop .j), c .before .before .before .before .loop .inv .1 .rest (c .before .before .before .before .loop .j) (omega arith), c .before .before .before .before .before .before .pre .2 (c .before .before .before .before .loop .j) (c .before .before .before .loop-test .taken))
+    let at-shared-slice-known = c .before in
+    let at-loop-test = at-shared-slice-known .before .before in
+    let at-loop = at-loop-test .before in
+    let entry = at-loop .before .before in
+    omega (arith, at-shared-slice-known .shared-slice-known .given (entry .args .start + at-loop .loop .j), at-loop .loop .inv .1 .rest (at-loop .loop .j) (omega arith), entry .pre .2 (at-loop .loop .j) (at-loop-test .loop-test .taken))
 
 mul-sums-3 : tie.Need-mul-sums-3 Inv-loop μ-loop
 mul-sums-3 c = omega (arith, c .before .before .before .before .loop .inv .1 .long)
 
 slice-write-sums : tie.Need-slice-write-sums Inv-loop μ-loop
-slice-write-sums c = omega (arith, c .before .before .before .before .loop .inv .1 .long, c .before .before .before .loop-test .taken, c .before .before .before .before .before .before .pre .0)
+slice-write-sums c =
+    let at-loop-test = c .before .before .before in
+    let at-loop = at-loop-test .before in
+    let entry = at-loop .before .before in
+    omega (arith, at-loop .loop .inv .1 .long, at-loop-test .loop-test .taken, entry .pre .0)
 
 add-j : tie.Need-add-j Inv-loop μ-loop
 add-j c = search needs
@@ -61,7 +69,10 @@ loop-less c = omega (arith, c .before .before .before .loop-test .taken)
 
 loop-again : tie.Need-loop-again Inv-loop μ-loop
 loop-again c =
-    (omega (arith, c .before .before .before .loop-test .taken), added-next _ _ _ (c .before .before .before .before .loop .j) _ (omega (arith, c .before .before .before .before .loop .inv .1 .long, c .before .before .before .loop-test .taken, c .before .before .before .before .before .before .pre .0)) (c .before .before .before .before .loop .inv .1) refl)
+    let at-loop-test = c .before .before .before in
+    let at-loop = at-loop-test .before in
+    let entry = at-loop .before .before in
+    (omega (arith, at-loop-test .loop-test .taken), added-next _ _ _ (at-loop .loop .j) _ (omega (arith, at-loop .loop .inv .1 .long, at-loop-test .loop-test .taken, entry .pre .0)) (at-loop .loop .inv .1) refl)
 
 same-length : tie.Need-same-length Inv-loop μ-loop
 same-length c = c .before .loop .inv .1 .long

@@ -57,18 +57,22 @@ mul-add-row c = omega (arith, c .before .before .loop-test .taken, c .before .be
 
 add-row-requires : tie.Need-add-row-requires Inv-loop μ-loop
 add-row-requires c κs =
-    let a = c .before .before .before .before .before .before .before .before .before .args in
-    let i = c .before .before .before .loop .i in (
-      omega (arith, c .before .before .before .loop .inv .1, c .before .before .before .before .before .before .before .before .before .pre .0),
-      omega (arith, c .before .before .loop-test .taken, c .before .before .before .before .before .before .before .before .before .pre .1, c .before .before .before .before .before .before .before .before .before .pre .2, c .before .before .before .before .before .before .before .before .before .pre .3),
+    let at-loop-test = c .before .before in
+    let at-loop = at-loop-test .before in
+    let at-shared-slice-known = at-loop .before .before .before .before in
+    let entry = at-shared-slice-known .before .before in
+    let a = entry .args in
+    let i = at-loop .loop .i in (
+      omega (arith, at-loop .loop .inv .1, entry .pre .0),
+      omega (arith, at-loop-test .loop-test .taken, entry .pre .1, entry .pre .2, entry .pre .3),
       λ j l. omega (
         arith,
-        c .before .before .before .loop .inv .2 j l,
-        c .before .before .before .before .before .before .before .before .before .pre .4 j l,
-        c .before .before .loop-test .taken,
-        c .before .before .before .before .before .before .before .before .before .pre .1,
+        at-loop .loop .inv .2 j l,
+        entry .pre .4 j l,
+        at-loop-test .loop-test .taken,
+        entry .pre .1,
         sum-bound (dueOf (a .table .now) (a .deadlines .now) (a .time) j) mostAtPlace i
-            (λ k b. on-at-most (eqb (getD (a .deadlines .now) k 0) (a .time)) (units (a .table .now) k j) mostAtPlace (omega (arith, c .before .before .before .before .before .before .before .shared-slice-known .given (mostIntervals * k + j)))),
+            (λ k b. on-at-most (eqb (getD (a .deadlines .now) k 0) (a .time)) (units (a .table .now) k j) mostAtPlace (omega (arith, at-shared-slice-known .shared-slice-known .given (mostIntervals * k + j)))),
       ),
     )
 
@@ -80,10 +84,14 @@ loop-less c = omega (arith, c .before .before .before .before .before .loop-test
 
 loop-again : tie.Need-loop-again Inv-loop μ-loop
 loop-again c =
-    let a = c .before .before .before .before .before .before .before .before .before .before .before .before .args in (
-      omega (arith, c .before .before .before .before .before .loop-test .taken),
-      c .before .before .add-row .ensures .0 ∙ c .before .before .before .before .before .before .loop .inv .1,
-      λ j l. omega (arith, c .before .before .add-row .ensures .1 j l, c .before .before .before .before .before .before .loop .inv .2 j l, sum-step (dueOf (a .table .now) (a .deadlines .now) (a .time) j) (c .before .before .before .before .before .before .loop .i)),
+    let at-add-row = c .before .before in
+    let at-loop-test = at-add-row .before .before .before in
+    let at-loop = at-loop-test .before in
+    let entry = at-loop .before .before .before .before .before .before in
+    let a = entry .args in (
+      omega (arith, at-loop-test .loop-test .taken),
+      at-add-row .add-row .ensures .0 ∙ at-loop .loop .inv .1,
+      λ j l. omega (arith, at-add-row .add-row .ensures .1 j l, at-loop .loop .inv .2 j l, sum-step (dueOf (a .table .now) (a .deadlines .now) (a .time) j) (at-loop .loop .i)),
     )
 
 same-length : tie.Need-same-length Inv-loop μ-loop
@@ -91,11 +99,15 @@ same-length c = c .before .loop .inv .1
 
 returns-2 : tie.Need-returns-2 Inv-loop μ-loop
 returns-2 c =
-    let a = c .before .before .before .before .before .before .before .args in
-    let end : c .before .loop .i ≡ length (a .deadlines .now) = omega (arith, c .loop-test .left, c .before .loop .inv .0) in (
-      sym (ap not (sym (c .before .before .before .is-absent-time .ensures) ∙ c .before .before .if1 .left)),
-      c .before .loop .inv .1,
-      λ j l. c .before .loop .inv .2 j l ∙ ap (λ n. getD (a .sums .now) j 0 + sum (dueOf (a .table .now) (a .deadlines .now) (a .time) j) n) end,
+    let at-loop = c .before in
+    let at-if1 = at-loop .before in
+    let at-is-absent-time = at-if1 .before in
+    let entry = at-is-absent-time .before .before .before .before in
+    let a = entry .args in
+    let end : at-loop .loop .i ≡ length (a .deadlines .now) = omega (arith, c .loop-test .left, at-loop .loop .inv .0) in (
+      sym (ap not (sym (at-is-absent-time .is-absent-time .ensures) ∙ at-if1 .if1 .left)),
+      at-loop .loop .inv .1,
+      λ j l. at-loop .loop .inv .2 j l ∙ ap (λ n. getD (a .sums .now) j 0 + sum (dueOf (a .table .now) (a .deadlines .now) (a .time) j) n) end,
     )
 
 pub add-rows-spec : {M : Type 1} → statement M

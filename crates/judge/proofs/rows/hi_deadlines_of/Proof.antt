@@ -50,12 +50,16 @@ loop-less c = omega (arith, c .before .before .before .before .loop-test .taken)
 
 loop-again : tie.Need-loop-again Inv-loop μ-loop
 loop-again c =
-    let p = c .before .before .before .before .before .before .before .args .t1 in
-    let i = c .before .before .before .before .before .loop .i in (
-      omega (arith, c .before .before .before .before .loop-test .taken),
-      length-set (c .before .before .before .before .before .loop .row) i _ ∙ c .before .before .before .before .before .loop .inv .1,
-      stands-next (hiDeadline p) (c .before .before .before .before .before .loop .row) i _ (omega (arith, c .before .before .before .before .before .loop .inv .1, c .before .before .before .before .loop-test .taken)) (c .before .before .before .before .before .loop .inv .2)
-          (c .deadline-if .ensures ∙ ap (λ n. cond (ltb i n && isHi p i) (deadline p i) never) (c .before .before .before .before .before .before .counted-of .ensures)),
+    let at-loop-test = c .before .before .before .before in
+    let at-loop = at-loop-test .before in
+    let at-counted-of = at-loop .before in
+    let entry = at-counted-of .before in
+    let p = entry .args .t1 in
+    let i = at-loop .loop .i in (
+      omega (arith, at-loop-test .loop-test .taken),
+      length-set (at-loop .loop .row) i _ ∙ at-loop .loop .inv .1,
+      stands-next (hiDeadline p) (at-loop .loop .row) i _ (omega (arith, at-loop .loop .inv .1, at-loop-test .loop-test .taken)) (at-loop .loop .inv .2)
+          (c .deadline-if .ensures ∙ ap (λ n. cond (ltb i n && isHi p i) (deadline p i) never) (at-counted-of .counted-of .ensures)),
     )
 
 returns : tie.Need-returns Inv-loop μ-loop

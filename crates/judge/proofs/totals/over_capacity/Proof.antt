@@ -46,8 +46,11 @@ is-over-requires c κs = search needs
 
 returns : tie.Need-returns Inv-loop μ-loop
 returns c =
-    found-here _ _ _ _ _ (c .before .before .before .before .before .loop .inv .1) (c .before .before .before .before .loop-test .taken)
-    (ap (λ b. fault b (overCapacity ∷ c .before .before .before .before .before .loop .j ∷ [])) (sym (rw add-one at (c .before .is-over .ensures)) ∙ c .if1 .taken))
+    let at-is-over = c .before in
+    let at-loop-test = at-is-over .before .before .before in
+    let at-loop = at-loop-test .before in
+    found-here _ _ _ _ _ (at-loop .loop .inv .1) (at-loop-test .loop-test .taken)
+    (ap (λ b. fault b (overCapacity ∷ at-loop .loop .j ∷ [])) (sym (rw add-one at (at-is-over .is-over .ensures)) ∙ c .if1 .taken))
 
 add-j : tie.Need-add-j Inv-loop μ-loop
 add-j c = search needs
@@ -56,10 +59,14 @@ loop-less : tie.Need-loop-less Inv-loop μ-loop
 loop-less c = omega (arith, c .before .before .before .before .loop-test .taken)
 
 loop-again : tie.Need-loop-again Inv-loop μ-loop
-loop-again c = (
-  omega (arith, c .before .before .before .before .loop-test .taken),
-  first-next _ (c .before .before .before .before .before .loop .j) (c .before .before .before .before .before .loop .inv .1)
-      (ap (λ b. fault b (overCapacity ∷ c .before .before .before .before .before .loop .j ∷ [])) (sym (rw add-one at (c .before .is-over .ensures)) ∙ c .if1 .left)),
+loop-again c =
+    let at-is-over = c .before in
+    let at-loop-test = at-is-over .before .before .before in
+    let at-loop = at-loop-test .before in
+ (
+  omega (arith, at-loop-test .loop-test .taken),
+  first-next _ (at-loop .loop .j) (at-loop .loop .inv .1)
+      (ap (λ b. fault b (overCapacity ∷ at-loop .loop .j ∷ [])) (sym (rw add-one at (at-is-over .is-over .ensures)) ∙ c .if1 .left)),
 )
 
 returns-2 : tie.Need-returns-2 Inv-loop μ-loop

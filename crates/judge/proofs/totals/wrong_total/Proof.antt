@@ -46,7 +46,8 @@ mul-sum-of c = search needs
 
 cast-sum-of : tie.Need-cast-sum-of Inv-loop μ-loop
 cast-sum-of c =
-    omega (arith, boundaries-few (c .before .before .before .before .before .before .args .t1) (counted (c .before .before .before .before .before .before .args .t1)), c .before .before .before .before .before .before .pre)
+    let entry = c .before .before .before .before .before .before in
+    omega (arith, boundaries-few (entry .args .t1) (counted (entry .args .t1)), entry .pre)
 
 sum-of-requires : tie.Need-sum-of-requires Inv-loop μ-loop
 sum-of-requires c κs = search needs
@@ -64,8 +65,12 @@ summed c =
 returns : tie.Need-returns Inv-loop μ-loop
 unfolding totalFault
 returns c =
-    found-here _ _ _ _ _ (c .before .before .before .before .before .before .before .loop .inv .1) (omega (arith, c .before .before .before .before .before .before .loop-test .taken, c .before .before .before .before .before .before .before .before .counted-of .ensures))
-    (ap (λ b. fault (not b) (wrongTotal ∷ c .before .before .before .before .before .before .before .loop .i ∷ [])) (ne-eqb _ _ (λ e. c .if1 .taken (summed (c .before .before .before) ∙ e))))
+    let c-3 = c .before .before .before in
+    let at-loop-test = c-3 .before .before .before in
+    let at-loop = at-loop-test .before in
+    let at-counted-of = at-loop .before in
+    found-here _ _ _ _ _ (at-loop .loop .inv .1) (omega (arith, at-loop-test .loop-test .taken, at-counted-of .counted-of .ensures))
+    (ap (λ b. fault (not b) (wrongTotal ∷ at-loop .loop .i ∷ [])) (ne-eqb _ _ (λ e. c .if1 .taken (summed (c-3) ∙ e))))
 
 add-i : tie.Need-add-i Inv-loop μ-loop
 add-i c = search needs
@@ -74,17 +79,24 @@ loop-less : tie.Need-loop-less Inv-loop μ-loop
 loop-less c = omega (arith, c .before .before .before .before .before .before .loop-test .taken)
 
 loop-again : tie.Need-loop-again Inv-loop μ-loop
-loop-again c = (
-  omega (arith, c .before .before .before .before .before .before .loop-test .taken),
-  first-next _ (c .before .before .before .before .before .before .before .loop .i) (c .before .before .before .before .before .before .before .loop .inv .1)
-      (ap (λ b. fault (not b) (wrongTotal ∷ c .before .before .before .before .before .before .before .loop .i ∷ [])) (eq-eqb _ _ (sym (summed (c .before .before .before)) ∙ c .if1 .left))),
+loop-again c =
+    let c-3 = c .before .before .before in
+    let at-loop-test = c-3 .before .before .before in
+    let at-loop = at-loop-test .before in
+ (
+  omega (arith, at-loop-test .loop-test .taken),
+  first-next _ (at-loop .loop .i) (at-loop .loop .inv .1)
+      (ap (λ b. fault (not b) (wrongTotal ∷ at-loop .loop .i ∷ [])) (eq-eqb _ _ (sym (summed (c-3)) ∙ c .if1 .left))),
 )
 
 returns-2 : tie.Need-returns-2 Inv-loop μ-loop
 unfolding totalFault
 returns-2 c =
-    let end : c .before .loop .i ≡ counted (c .before .before .before .before .args .t1) = omega (arith, c .loop-test .left, c .before .loop .inv .0, c .before .before .counted-of .ensures) in
-    sym (rw end at (c .before .loop .inv .1))
+    let at-loop = c .before in
+    let at-counted-of = at-loop .before in
+    let entry = at-counted-of .before .before in
+    let end : at-loop .loop .i ≡ counted (entry .args .t1) = omega (arith, c .loop-test .left, at-loop .loop .inv .0, at-counted-of .counted-of .ensures) in
+    sym (rw end at (at-loop .loop .inv .1))
 
 pub wrong-total-spec : {M : Type 1} → statement M
 wrong-total-spec =

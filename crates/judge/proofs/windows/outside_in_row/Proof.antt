@@ -32,14 +32,20 @@ add-row-inside : tie.Need-add-row-inside Inv-loop μ-loop
 add-row-inside c = search needs
 
 row-inside-requires : tie.Need-row-inside-requires Inv-loop μ-loop
-row-inside-requires c κs = (omega (arith, c .loop-test .taken, c .before .before .before .before .pre .0), omega (arith, c .loop-test .taken, c .before .before .before .before .pre .1))
+row-inside-requires c κs =
+    let entry = c .before .before .before .before in
+    (omega (arith, c .loop-test .taken, entry .pre .0), omega (arith, c .loop-test .taken, entry .pre .1))
 
 returns : tie.Need-returns Inv-loop μ-loop
 returns c =
-    let a = c .before .before .before .before .before .before .args in
-    let j = c .before .before .before .loop .j in
-    found-here _ _ _ _ _ (faults-none _ outsideWindow (λ k. a .i ∷ k ∷ []) j (c .before .before .before .loop .inv .1)) (c .before .before .loop-test .taken)
-    (ap (λ b. fault (not b) (outsideWindow ∷ a .i ∷ j ∷ [])) (last-fails _ j (c .before .before .before .loop .inv .1) (sym (c .before .row-inside .ensures) ∙ not-true _ (c .if1 .taken))))
+    let at-row-inside = c .before in
+    let at-loop-test = at-row-inside .before in
+    let at-loop = at-loop-test .before in
+    let entry = at-loop .before .before .before in
+    let a = entry .args in
+    let j = at-loop .loop .j in
+    found-here _ _ _ _ _ (faults-none _ outsideWindow (λ k. a .i ∷ k ∷ []) j (at-loop .loop .inv .1)) (at-loop-test .loop-test .taken)
+    (ap (λ b. fault (not b) (outsideWindow ∷ a .i ∷ j ∷ [])) (last-fails _ j (at-loop .loop .inv .1) (sym (at-row-inside .row-inside .ensures) ∙ not-true _ (c .if1 .taken))))
 
 add-j : tie.Need-add-j Inv-loop μ-loop
 add-j c = search needs
@@ -52,8 +58,10 @@ loop-again c = (omega (arith, c .before .before .loop-test .taken), sym (c .befo
 
 returns-2 : tie.Need-returns-2 Inv-loop μ-loop
 returns-2 c =
-    let end : c .before .loop .j ≡ c .before .before .before .before .args .spans = omega (arith, c .loop-test .left, c .before .loop .inv .0) in
-    sym (faults-none _ outsideWindow (λ k. c .before .before .before .before .args .i ∷ k ∷ []) (c .before .before .before .before .args .spans) (rw end at (c .before .loop .inv .1)))
+    let at-loop = c .before in
+    let entry = at-loop .before .before .before in
+    let end : at-loop .loop .j ≡ entry .args .spans = omega (arith, c .loop-test .left, at-loop .loop .inv .0) in
+    sym (faults-none _ outsideWindow (λ k. entry .args .i ∷ k ∷ []) (entry .args .spans) (rw end at (at-loop .loop .inv .1)))
 
 pub outside-in-row-spec : {M : Type 1} → statement M
 outside-in-row-spec =

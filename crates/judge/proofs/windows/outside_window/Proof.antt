@@ -52,22 +52,34 @@ mul-start c = search needs
 
 row-inside-requires : tie.Need-row-inside-requires Inv-loop μ-loop
 row-inside-requires c κs =
-    (c .before .before .before .before .before .before .before .before .pre .2, omega (arith, boundaries-few (c .before .before .before .before .before .before .before .before .args .t1) (counted (c .before .before .before .before .before .before .before .before .args .t1)), c .before .before .before .before .before .before .before .before .pre .1, c .before .before .before .before .before .before .before .before .pre .3, c .before .before .before .loop-test .taken, c .before .before .before .before .before .counted-of .ensures))
+    let at-loop-test = c .before .before .before in
+    let at-counted-of = at-loop-test .before .before in
+    let entry = at-counted-of .before .before .before in
+    (entry .pre .2, omega (arith, boundaries-few (entry .args .t1) (counted (entry .args .t1)), entry .pre .1, entry .pre .3, at-loop-test .loop-test .taken, at-counted-of .counted-of .ensures))
 
 outside-in-row-requires : tie.Need-outside-in-row-requires Inv-loop μ-loop
 outside-in-row-requires c κs =
-    (c .before .before .before .before .before .before .before .before .before .before .pre .2, omega (arith, boundaries-few (c .before .before .before .before .before .before .before .before .before .before .args .t1) (counted (c .before .before .before .before .before .before .before .before .before .before .args .t1)), c .before .before .before .before .before .before .before .before .before .before .pre .1, c .before .before .before .before .before .before .before .before .before .before .pre .3, c .before .before .before .before .before .loop-test .taken, c .before .before .before .before .before .before .before .counted-of .ensures))
+    let at-loop-test = c .before .before .before .before .before in
+    let at-counted-of = at-loop-test .before .before in
+    let entry = at-counted-of .before .before .before in
+    (entry .pre .2, omega (arith, boundaries-few (entry .args .t1) (counted (entry .args .t1)), entry .pre .1, entry .pre .3, at-loop-test .loop-test .taken, at-counted-of .counted-of .ensures))
 
 returns : tie.Need-returns Inv-loop μ-loop
 unfolding outsideFault
 returns c =
-    let a = c .before .before .before .before .before .before .before .before .before .before .before .args in
-    let i = c .before .before .before .before .before .before .before .loop .i in
-    let row = row-none (a .t1) (a .table .now) (a .times .now) (a .spans) i (c .before .before .before .before .before .before .before .before .before .before .before .pre .0) (c .before .before .before .before .before .before .before .before .before .before .before .pre .1) (c .before .before .row-inside .ensures) in
+    let at-if1 = c .before in
+    let at-row-inside = at-if1 .before in
+    let at-loop-test = at-row-inside .before .before .before .before in
+    let at-loop = at-loop-test .before in
+    let at-counted-of = at-loop .before in
+    let entry = at-counted-of .before .before .before in
+    let a = entry .args in
+    let i = at-loop .loop .i in
+    let row = row-none (a .t1) (a .table .now) (a .times .now) (a .spans) i (entry .pre .0) (entry .pre .1) (at-row-inside .row-inside .ensures) in
     c .outside-in-row .ensures
     ∙ ap₂ (λ t n. first (λ j. fault (not (within t (release (a .t1) i) (deadline (a .t1) i) j || eqb (units (a .table .now) i j) 0)) (outsideWindow ∷ i ∷ j ∷ [])) n)
-    (c .before .before .before .before .before .before .before .before .before .before .before .pre .0) (c .before .before .before .before .before .before .before .before .before .before .before .pre .1)
-    ∙ sym (first-found _ i _ (c .before .before .before .before .before .before .before .loop .inv .1) (omega (arith, c .before .before .before .before .before .before .loop-test .taken, c .before .before .before .before .before .before .before .before .counted-of .ensures)) (row ∙ not-true _ (c .before .if1 .taken)))
+    (entry .pre .0) (entry .pre .1)
+    ∙ sym (first-found _ i _ (at-loop .loop .inv .1) (omega (arith, at-loop-test .loop-test .taken, at-counted-of .counted-of .ensures)) (row ∙ not-true _ (at-if1 .if1 .taken)))
 
 add-i : tie.Need-add-i Inv-loop μ-loop
 add-i c = search needs
@@ -77,16 +89,23 @@ loop-less c = omega (arith, c .before .before .before .before .before .loop-test
 
 loop-again : tie.Need-loop-again Inv-loop μ-loop
 loop-again c =
-    let a = c .before .before .before .before .before .before .before .before .before .before .args in
-    let i = c .before .before .before .before .before .before .loop .i in
-    let row = row-none (a .t1) (a .table .now) (a .times .now) (a .spans) i (c .before .before .before .before .before .before .before .before .before .before .pre .0) (c .before .before .before .before .before .before .before .before .before .before .pre .1) (c .before .row-inside .ensures) in
-    (omega (arith, c .before .before .before .before .before .loop-test .taken), first-next _ i (c .before .before .before .before .before .before .loop .inv .1) (none-empty _ (row ∙ not-false _ (c .if1 .left))))
+    let at-row-inside = c .before in
+    let at-loop-test = at-row-inside .before .before .before .before in
+    let at-loop = at-loop-test .before in
+    let entry = at-loop .before .before .before .before in
+    let a = entry .args in
+    let i = at-loop .loop .i in
+    let row = row-none (a .t1) (a .table .now) (a .times .now) (a .spans) i (entry .pre .0) (entry .pre .1) (at-row-inside .row-inside .ensures) in
+    (omega (arith, at-loop-test .loop-test .taken), first-next _ i (at-loop .loop .inv .1) (none-empty _ (row ∙ not-false _ (c .if1 .left))))
 
 returns-2 : tie.Need-returns-2 Inv-loop μ-loop
 unfolding outsideFault
 returns-2 c =
-    let end : c .before .loop .i ≡ counted (c .before .before .before .before .before .args .t1) = omega (arith, c .loop-test .left, c .before .loop .inv .0, c .before .before .counted-of .ensures) in
-    sym (rw end at (c .before .loop .inv .1))
+    let at-loop = c .before in
+    let at-counted-of = at-loop .before in
+    let entry = at-counted-of .before .before .before in
+    let end : at-loop .loop .i ≡ counted (entry .args .t1) = omega (arith, c .loop-test .left, at-loop .loop .inv .0, at-counted-of .counted-of .ensures) in
+    sym (rw end at (at-loop .loop .inv .1))
 
 pub outside-window-spec : {M : Type 1} → statement M
 outside-window-spec =

@@ -60,7 +60,9 @@ loop-less c = omega (arith, c .before .before .before .before .loop-test .taken)
 
 loop-again : tie.Need-loop-again Inv-loop μ-loop
 loop-again c =
-    (omega (arith, c .before .before .before .before .loop-test .taken), every-next _ (c .before .before .before .before .before .loop .j) (c .before .before .before .before .before .loop .inv .1) (rw add-one at (c .place-inside .ensures)))
+    let at-loop-test = c .before .before .before .before in
+    let at-loop = at-loop-test .before in
+    (omega (arith, at-loop-test .loop-test .taken), every-next _ (at-loop .loop .j) (at-loop .loop .inv .1) (rw add-one at (c .place-inside .ensures)))
 
 returns : tie.Need-returns Inv-loop μ-loop
 returns c =

@@ -47,11 +47,15 @@ loop-less c = omega arith
 
 loop-again : tie.Need-loop-again Inv-loop μ-loop
 loop-again c =
-    let a = c .before .before .before .before .before .before .before .before .before .before .before .args in
-    let i = c .before .before .before .before .before .before .before .loop .i in
-    let h = c .before .before .add-grant .ensures .0 in
-    let e = ap (grantText (name (a .t3) i)) (c .before .before .before .before .grant-of .ensures) in
-    (omega arith, c .before .before .before .before .before .before .before .loop .inv .1, grown-same (grants-next (a .t3) (a .grants .now) i) (grown-twice (c .before .before .before .before .before .before .before .loop .inv .2) (grown-same e h)), omega arith)
+    let at-add-grant = c .before .before in
+    let at-grant-of = at-add-grant .before .before in
+    let at-loop = at-grant-of .before .before .before in
+    let entry = at-loop .before .before .before .before in
+    let a = entry .args in
+    let i = at-loop .loop .i in
+    let h = at-add-grant .add-grant .ensures .0 in
+    let e = ap (grantText (name (a .t3) i)) (at-grant-of .grant-of .ensures) in
+    (omega arith, at-loop .loop .inv .1, grown-same (grants-next (a .t3) (a .grants .now) i) (grown-twice (at-loop .loop .inv .2) (grown-same e h)), omega arith)
 
 same-length : tie.Need-same-length Inv-loop μ-loop
 same-length c = c .before .loop .inv .2 .room

@@ -34,9 +34,15 @@ same-length c = search needs
 
 returns-2 : tie.Need-returns-2
 returns-2 c =
-    let a = c .before .before .before .before .before .before .before .before .before .before .before .before .before .before .before .before .before .before .before .before .args in
-    rw (ne-eqb (a .units) 0 (c .before .before .before .before .before .before .before .before .before .before .before .before .before .before .before .before .before .before .if1 .left)) (
-      grown-twice (grown-twice (grown-twice (c .before .before .before .before .before .before .before .before .before .before .before .before .before .before .before .add .ensures) (c .before .before .before .before .before .before .before .before .before .before .before .add-name .ensures)) (c .before .before .before .before .before .before .add2 .ensures)) (c .before .before .add-number .ensures .0),
+    let at-add-number = c .before .before in
+    let at-add2 = at-add-number .before .before .before .before in
+    let at-add-name = at-add2 .before .before .before .before .before in
+    let at-add = at-add-name .before .before .before .before in
+    let at-if1 = at-add .before .before .before in
+    let entry = at-if1 .before .before in
+    let a = entry .args in
+    rw (ne-eqb (a .units) 0 (at-if1 .if1 .left)) (
+      grown-twice (grown-twice (grown-twice (at-add .add .ensures) (at-add-name .add-name .ensures)) (at-add2 .add2 .ensures)) (at-add-number .add-number .ensures .0),
       omega arith,
     )
 

@@ -21,8 +21,12 @@ same-length c = search needs
 
 returns : tie.Need-returns
 returns c =
-    let a = c .before .before .before .before .before .before .before .before .before .before .before .before .args in
-    (dash-for-none (grantsText (a .p) (a .grants .now) (counted (a .p))) (c .before .before .before .before .before .before .before .before .add-each-grant .ensures .0) (c .before .before .before .before .before .if1 .taken) (c .before .before .add .ensures), omega arith)
+    let at-add = c .before .before in
+    let at-if1 = at-add .before .before .before in
+    let at-add-each-grant = at-if1 .before .before .before in
+    let entry = at-add-each-grant .before .before .before .before in
+    let a = entry .args in
+    (dash-for-none (grantsText (a .p) (a .grants .now) (counted (a .p))) (at-add-each-grant .add-each-grant .ensures .0) (at-if1 .if1 .taken) (at-add .add .ensures), omega arith)
 
 same-length-2 : tie.Need-same-length-2
 same-length-2 c = search needs

@@ -28,7 +28,11 @@ same-length c = search needs
 
 returns : tie.Need-returns
 returns c =
-    (grown-twice (grown-twice (grown-twice (c .before .before .before .before .before .before .before .before .before .before .before .before .before .before .before .before .add-number .ensures .0) (c .before .before .before .before .before .before .before .before .before .before .before .add .ensures)) (c .before .before .before .before .before .before .before .add-number2 .ensures .0)) (c .before .before .add2 .ensures), omega arith)
+    let at-add2 = c .before .before in
+    let at-add-number2 = at-add2 .before .before .before .before .before in
+    let at-add = at-add-number2 .before .before .before .before in
+    let at-add-number = at-add .before .before .before .before .before in
+    (grown-twice (grown-twice (grown-twice (at-add-number .add-number .ensures .0) (at-add .add .ensures)) (at-add-number2 .add-number2 .ensures .0)) (at-add2 .add2 .ensures), omega arith)
 
 pub add-times-spec : {M : Type 1} → statement M
 add-times-spec =

@@ -31,7 +31,14 @@ low-byte-requires-8 c κs = search needs
 
 returns : tie.Need-returns
 returns c =
-    rw (c .before .before .before .before .before .before .before .low-byte .ensures, c .before .before .before .before .before .before .low-byte2 .ensures, c .before .before .before .before .before .low-byte3 .ensures, c .before .before .before .before .low-byte4 .ensures, c .before .before .before .low-byte5 .ensures, c .before .before .low-byte6 .ensures, c .before .low-byte7 .ensures, c .low-byte8 .ensures, div-one) refl
+    let at-low-byte7 = c .before in
+    let at-low-byte6 = at-low-byte7 .before in
+    let at-low-byte5 = at-low-byte6 .before in
+    let at-low-byte4 = at-low-byte5 .before in
+    let at-low-byte3 = at-low-byte4 .before in
+    let at-low-byte2 = at-low-byte3 .before in
+    let at-low-byte = at-low-byte2 .before in
+    rw (at-low-byte .low-byte .ensures, at-low-byte2 .low-byte2 .ensures, at-low-byte3 .low-byte3 .ensures, at-low-byte4 .low-byte4 .ensures, at-low-byte5 .low-byte5 .ensures, at-low-byte6 .low-byte6 .ensures, at-low-byte7 .low-byte7 .ensures, c .low-byte8 .ensures, div-one) refl
 
 pub name-text-spec : {M : Type 1} → statement M
 name-text-spec =

@@ -43,8 +43,10 @@ array-share-prefix-row c = search needs
 
 slice-aggregate-is-absent : tie.Need-slice-aggregate-is-absent Inv-loop μ-loop
 slice-aggregate-is-absent c =
-    let n : length (c .before .before .before .names-of .result) ≡ mostJobs = c .before .before .before .names-of .ok .1 .0 .1 in
-    sym (length-take-le (c .before .before .loop .i) (c .before .before .before .names-of .result) (omega arith))
+    let at-loop = c .before .before in
+    let at-names-of = at-loop .before in
+    let n : length (at-names-of .names-of .result) ≡ mostJobs = at-names-of .names-of .ok .1 .0 .1 in
+    sym (length-take-le (at-loop .loop .i) (at-names-of .names-of .result) (omega arith))
 
 is-absent-requires : tie.Need-is-absent-requires Inv-loop μ-loop
 is-absent-requires c κs = search needs
@@ -57,20 +59,25 @@ loop-less c = search needs
 
 loop-again : tie.Need-loop-again Inv-loop μ-loop
 loop-again c =
-    let row = c .before .before .before .before .names-of .result in
-    let n : length row ≡ mostJobs = c .before .before .before .before .names-of .ok .1 .0 .1 in
-    let i = c .before .before .before .loop .i in (
+    let at-loop = c .before .before .before in
+    let at-names-of = at-loop .before in
+    let row = at-names-of .names-of .result in
+    let n : length row ≡ mostJobs = at-names-of .names-of .ok .1 .0 .1 in
+    let i = at-loop .loop .i in (
       omega arith,
-      every-next _ i (c .before .before .before .loop .inv .1)
+      every-next _ i (at-loop .loop .inv .1)
           (c .is-absent .ensures ∙ absent-before row i (getD row i 0) (omega arith)),
     )
 
 returns : tie.Need-returns Inv-loop μ-loop
 unfolding namesDiffer
 returns c =
-    let p = c .before .before .before .before .args .p in
-    let whole : c .before .loop .i ≡ counted p = omega arith in
-    rw (c .before .before .names-of .ensures) at (c .before .loop .inv .1) ∙ ap (every _) whole
+    let at-loop = c .before in
+    let at-names-of = at-loop .before in
+    let entry = at-names-of .before .before in
+    let p = entry .args .p in
+    let whole : at-loop .loop .i ≡ counted p = omega arith in
+    rw (at-names-of .names-of .ensures) at (at-loop .loop .inv .1) ∙ ap (every _) whole
     ∙ every-ext _ _ (counted p)
     (λ j l. every-ext _ _ j (λ k l′. rw (name-at p k, name-at p j) refl))
 

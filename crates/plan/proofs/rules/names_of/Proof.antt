@@ -53,11 +53,13 @@ one-more p row i l m e =
 
 loop-again : tie.Need-loop-again Inv-loop μ-loop
 loop-again c =
-    let inv = c .before .before .before .loop .inv in
-    let p = c .before .before .before .before .args .t1 in
+    let at-loop = c .before .before .before in
+    let entry = at-loop .before in
+    let inv = at-loop .loop .inv in
+    let p = entry .args .t1 in
     let n : length (p .jobs) ≡ mostJobs
-    = sym (length-map (p .jobs) _) ∙ c .before .before .before .before .good .0 .1 .1 .1 .1 .1 .0 .1 .0 .1 in
-    (omega arith, simp length-set (inv .1), one-more p (c .before .before .before .loop .row) (c .before .before .before .loop .i) (omega arith) (omega arith) (inv .2))
+    = sym (length-map (p .jobs) _) ∙ entry .good .0 .1 .1 .1 .1 .1 .0 .1 .0 .1 in
+    (omega arith, simp length-set (inv .1), one-more p (at-loop .loop .row) (at-loop .loop .i) (omega arith) (omega arith) (inv .2))
 
 returns : tie.Need-returns Inv-loop μ-loop
 unfolding names

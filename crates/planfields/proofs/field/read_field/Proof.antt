@@ -62,9 +62,11 @@ sub-if2 : tie.Need-sub-if2 Inv-loop μ-loop
 sub-if2 c = search needs
 
 returns-2 : tie.Need-returns-2 Inv-loop μ-loop
-returns-2 c = (
-  field-cut (c .before .before .args .w) (c .before .before .args .file .now) (c .before .before .args .at) (omega arith),
-  one-le-pow (c .before .before .args .w) 256 (lit< tt),
+returns-2 c =
+    let entry = c .before .before in
+ (
+  field-cut (entry .args .w) (entry .args .file .now) (entry .args .at) (omega arith),
+  one-le-pow (entry .args .w) 256 (lit< tt),
 )
 
 loop-holds : tie.Need-loop-holds Inv-loop μ-loop

@@ -40,9 +40,14 @@ field-refusal-requires-2 c κs = search needs
 
 returns-2 : tie.Need-returns-2
 returns-2 c =
-    head-no-normal mostJobs (c .before .before .before .before .before .before .before .before .before .args .file .now) 0
-    (so fieldView (c .before .before .before .before .before .before .before .read-opening .ensures) (c .before .before .before .before .before .opening .given .1))
-    (refused fieldView fieldRefusal (c .before .before .before .read-field .ensures .0) (c .before .enum-told2 .given .1) refl refl (c .field-refusal2 .ensures))
+    let at-enum-told2 = c .before in
+    let at-read-field = at-enum-told2 .before .before in
+    let at-opening = at-read-field .before .before in
+    let at-read-opening = at-opening .before .before in
+    let entry = at-read-opening .before .before in
+    head-no-normal mostJobs (entry .args .file .now) 0
+    (so fieldView (at-read-opening .read-opening .ensures) (at-opening .opening .given .1))
+    (refused fieldView fieldRefusal (at-read-field .read-field .ensures .0) (at-enum-told2 .enum-told2 .given .1) refl refl (c .field-refusal2 .ensures))
 
 read-field-requires-2 : tie.Need-read-field-requires-2
 read-field-requires-2 c κs = search needs
@@ -58,10 +63,17 @@ field-refusal-requires-3 c κs = search needs
 
 returns-3 : tie.Need-returns-3
 returns-3 c =
-    head-no-floor mostJobs (c .before .before .before .before .before .before .before .before .before .before .before .before .before .args .file .now) 0
-    (so fieldView (c .before .before .before .before .before .before .before .before .before .before .before .read-opening .ensures) (c .before .before .before .before .before .before .before .before .before .opening .given .1))
-    (so fieldView (c .before .before .before .before .before .before .before .read-field .ensures .0) (c .before .before .before .before .before .normal .given .1))
-    (refused fieldView fieldRefusal (c .before .before .before .read-field2 .ensures .0) (c .before .enum-told3 .given .1) refl refl (c .field-refusal3 .ensures))
+    let at-enum-told3 = c .before in
+    let at-read-field2 = at-enum-told3 .before .before in
+    let at-normal = at-read-field2 .before .before in
+    let at-read-field = at-normal .before .before in
+    let at-opening = at-read-field .before .before in
+    let at-read-opening = at-opening .before .before in
+    let entry = at-read-opening .before .before in
+    head-no-floor mostJobs (entry .args .file .now) 0
+    (so fieldView (at-read-opening .read-opening .ensures) (at-opening .opening .given .1))
+    (so fieldView (at-read-field .read-field .ensures .0) (at-normal .normal .given .1))
+    (refused fieldView fieldRefusal (at-read-field2 .read-field2 .ensures .0) (at-enum-told3 .enum-told3 .given .1) refl refl (c .field-refusal3 .ensures))
 
 cast-t17 : tie.Need-cast-t17
 cast-t17 c =
@@ -76,11 +88,19 @@ rates-allowed-requires c κs = search needs
 
 returns-4 : tie.Need-returns-4
 returns-4 c =
-    head-rates mostJobs (c .before .before .before .before .before .before .before .before .before .before .before .before .before .before .before .args .file .now) 0
-    (so fieldView (c .before .before .before .before .before .before .before .before .before .before .before .before .before .read-opening .ensures) (c .before .before .before .before .before .before .before .before .before .before .before .opening .given .1))
-    (so fieldView (c .before .before .before .before .before .before .before .before .before .read-field .ensures .0) (c .before .before .before .before .before .before .before .normal .given .1))
-    (so fieldView (c .before .before .before .before .before .read-field2 .ensures .0) (c .before .before .before .floor .given .1))
-    (failed (c .before .rates-allowed .ensures) (c .if1 .taken))
+    let at-rates-allowed = c .before in
+    let at-floor = at-rates-allowed .before .before in
+    let at-read-field2 = at-floor .before .before in
+    let at-normal = at-read-field2 .before .before in
+    let at-read-field = at-normal .before .before in
+    let at-opening = at-read-field .before .before in
+    let at-read-opening = at-opening .before .before in
+    let entry = at-read-opening .before .before in
+    head-rates mostJobs (entry .args .file .now) 0
+    (so fieldView (at-read-opening .read-opening .ensures) (at-opening .opening .given .1))
+    (so fieldView (at-read-field .read-field .ensures .0) (at-normal .normal .given .1))
+    (so fieldView (at-read-field2 .read-field2 .ensures .0) (at-floor .floor .given .1))
+    (failed (at-rates-allowed .rates-allowed .ensures) (c .if1 .taken))
 
 read-field-requires-3 : tie.Need-read-field-requires-3
 read-field-requires-3 c κs = search needs
@@ -96,25 +116,48 @@ field-refusal-requires-4 c κs = search needs
 
 returns-5 : tie.Need-returns-5
 returns-5 c =
-    head-no-count mostJobs (c .before .before .before .before .before .before .before .before .before .before .before .before .before .before .before .before .before .before .before .args .file .now) 0
-    (so fieldView (c .before .before .before .before .before .before .before .before .before .before .before .before .before .before .before .before .before .read-opening .ensures) (c .before .before .before .before .before .before .before .before .before .before .before .before .before .before .before .opening .given .1))
-    (so fieldView (c .before .before .before .before .before .before .before .before .before .before .before .before .before .read-field .ensures .0) (c .before .before .before .before .before .before .before .before .before .before .before .normal .given .1))
-    (so fieldView (c .before .before .before .before .before .before .before .before .before .read-field2 .ensures .0) (c .before .before .before .before .before .before .before .floor .given .1))
-    (held (c .before .before .before .before .before .rates-allowed .ensures) (c .before .before .before .before .if1 .left))
-    (refused fieldView fieldRefusal (c .before .before .before .read-field3 .ensures .0) (c .before .enum-told4 .given .1) refl refl (c .field-refusal4 .ensures))
+    let at-enum-told4 = c .before in
+    let at-read-field3 = at-enum-told4 .before .before in
+    let at-if1 = at-read-field3 .before in
+    let at-rates-allowed = at-if1 .before in
+    let at-floor = at-rates-allowed .before .before in
+    let at-read-field2 = at-floor .before .before in
+    let at-normal = at-read-field2 .before .before in
+    let at-read-field = at-normal .before .before in
+    let at-opening = at-read-field .before .before in
+    let at-read-opening = at-opening .before .before in
+    let entry = at-read-opening .before .before in
+    head-no-count mostJobs (entry .args .file .now) 0
+    (so fieldView (at-read-opening .read-opening .ensures) (at-opening .opening .given .1))
+    (so fieldView (at-read-field .read-field .ensures .0) (at-normal .normal .given .1))
+    (so fieldView (at-read-field2 .read-field2 .ensures .0) (at-floor .floor .given .1))
+    (held (at-rates-allowed .rates-allowed .ensures) (at-if1 .if1 .left))
+    (refused fieldView fieldRefusal (at-read-field3 .read-field3 .ensures .0) (at-enum-told4 .enum-told4 .given .1) refl refl (c .field-refusal4 .ensures))
 
 count-allowed-requires : tie.Need-count-allowed-requires
 count-allowed-requires c κs = search needs
 
 returns-6 : tie.Need-returns-6
 returns-6 c =
-    head-count-refused mostJobs (c .before .before .before .before .before .before .before .before .before .before .before .before .before .before .before .before .before .before .before .before .before .args .file .now) 0
-    (so fieldView (c .before .before .before .before .before .before .before .before .before .before .before .before .before .before .before .before .before .before .before .read-opening .ensures) (c .before .before .before .before .before .before .before .before .before .before .before .before .before .before .before .before .before .opening .given .1))
-    (so fieldView (c .before .before .before .before .before .before .before .before .before .before .before .before .before .before .before .read-field .ensures .0) (c .before .before .before .before .before .before .before .before .before .before .before .before .before .normal .given .1))
-    (so fieldView (c .before .before .before .before .before .before .before .before .before .before .before .read-field2 .ensures .0) (c .before .before .before .before .before .before .before .before .before .floor .given .1))
-    (held (c .before .before .before .before .before .before .before .rates-allowed .ensures) (c .before .before .before .before .before .before .if1 .left))
-    (so fieldView (c .before .before .before .before .before .read-field3 .ensures .0) (c .before .before .before .jobs .given .1))
-    (failed (c .before .count-allowed .ensures) (c .if2 .taken))
+    let at-count-allowed = c .before in
+    let at-jobs = at-count-allowed .before .before in
+    let at-read-field3 = at-jobs .before .before in
+    let at-if1 = at-read-field3 .before in
+    let at-rates-allowed = at-if1 .before in
+    let at-floor = at-rates-allowed .before .before in
+    let at-read-field2 = at-floor .before .before in
+    let at-normal = at-read-field2 .before .before in
+    let at-read-field = at-normal .before .before in
+    let at-opening = at-read-field .before .before in
+    let at-read-opening = at-opening .before .before in
+    let entry = at-read-opening .before .before in
+    head-count-refused mostJobs (entry .args .file .now) 0
+    (so fieldView (at-read-opening .read-opening .ensures) (at-opening .opening .given .1))
+    (so fieldView (at-read-field .read-field .ensures .0) (at-normal .normal .given .1))
+    (so fieldView (at-read-field2 .read-field2 .ensures .0) (at-floor .floor .given .1))
+    (held (at-rates-allowed .rates-allowed .ensures) (at-if1 .if1 .left))
+    (so fieldView (at-read-field3 .read-field3 .ensures .0) (at-jobs .jobs .given .1))
+    (failed (at-count-allowed .count-allowed .ensures) (c .if2 .taken))
 
 cast-t17-2 : tie.Need-cast-t17-2
 cast-t17-2 c =
@@ -126,13 +169,25 @@ cast-t19-2 c =
 
 returns-7 : tie.Need-returns-7
 returns-7 c =
-    head-whole mostJobs (c .before .before .before .before .before .before .before .before .before .before .before .before .before .before .before .before .before .before .before .before .before .args .file .now) 0
-    (so fieldView (c .before .before .before .before .before .before .before .before .before .before .before .before .before .before .before .before .before .before .before .read-opening .ensures) (c .before .before .before .before .before .before .before .before .before .before .before .before .before .before .before .before .before .opening .given .1))
-    (so fieldView (c .before .before .before .before .before .before .before .before .before .before .before .before .before .before .before .read-field .ensures .0) (c .before .before .before .before .before .before .before .before .before .before .before .before .before .normal .given .1))
-    (so fieldView (c .before .before .before .before .before .before .before .before .before .before .before .read-field2 .ensures .0) (c .before .before .before .before .before .before .before .before .before .floor .given .1))
-    (held (c .before .before .before .before .before .before .before .rates-allowed .ensures) (c .before .before .before .before .before .before .if1 .left))
-    (so fieldView (c .before .before .before .before .before .read-field3 .ensures .0) (c .before .before .before .jobs .given .1))
-    (held (c .before .count-allowed .ensures) (c .if2 .left))
+    let at-count-allowed = c .before in
+    let at-jobs = at-count-allowed .before .before in
+    let at-read-field3 = at-jobs .before .before in
+    let at-if1 = at-read-field3 .before in
+    let at-rates-allowed = at-if1 .before in
+    let at-floor = at-rates-allowed .before .before in
+    let at-read-field2 = at-floor .before .before in
+    let at-normal = at-read-field2 .before .before in
+    let at-read-field = at-normal .before .before in
+    let at-opening = at-read-field .before .before in
+    let at-read-opening = at-opening .before .before in
+    let entry = at-read-opening .before .before in
+    head-whole mostJobs (entry .args .file .now) 0
+    (so fieldView (at-read-opening .read-opening .ensures) (at-opening .opening .given .1))
+    (so fieldView (at-read-field .read-field .ensures .0) (at-normal .normal .given .1))
+    (so fieldView (at-read-field2 .read-field2 .ensures .0) (at-floor .floor .given .1))
+    (held (at-rates-allowed .rates-allowed .ensures) (at-if1 .if1 .left))
+    (so fieldView (at-read-field3 .read-field3 .ensures .0) (at-jobs .jobs .given .1))
+    (held (at-count-allowed .count-allowed .ensures) (c .if2 .left))
 
 pub read-head-spec : {M : Type 1} → statement M
 read-head-spec =

@@ -36,24 +36,33 @@ returns-3 c =
 
 returns-4 : tie.Need-returns-4
 returns-4 c =
-    let file = c .before .before .before .before .before .before .before .before .before .args .file .now in
-    let f = c .before .before .before .before in
-    opening-wrong file (omega arith) (f .before .if2 .left) (so fieldView (c .before .before .before .before .read-field .ensures .0) (c .before .before .length .given .1)) (λ e. absurd (omega arith))
+    let at-length = c .before .before in
+    let at-read-field = at-length .before .before in
+    let entry = at-read-field .before .before .before .before .before in
+    let file = entry .args .file .now in
+    let f = at-read-field in
+    opening-wrong file (omega arith) (f .before .if2 .left) (so fieldView (at-read-field .read-field .ensures .0) (at-length .length .given .1)) (λ e. absurd (omega arith))
 
 sub-if4 : tie.Need-sub-if4
 sub-if4 c = search needs
 
 returns-5 : tie.Need-returns-5
 returns-5 c =
-    let file = c .before .before .before .before .before .before .before .before .before .before .args .file .now in
-    let f = c .before .before .before .before .before in
-    opening-wrong file (omega arith) (f .before .if2 .left) (so fieldView (c .before .before .before .before .before .read-field .ensures .0) (c .before .before .before .length .given .1)) (λ e. c .if4 .taken (omega arith))
+    let at-length = c .before .before .before in
+    let at-read-field = at-length .before .before in
+    let entry = at-read-field .before .before .before .before .before in
+    let file = entry .args .file .now in
+    let f = at-read-field in
+    opening-wrong file (omega arith) (f .before .if2 .left) (so fieldView (at-read-field .read-field .ensures .0) (at-length .length .given .1)) (λ e. c .if4 .taken (omega arith))
 
 returns-6 : tie.Need-returns-6
 returns-6 c =
-    let file = c .before .before .before .before .before .before .before .before .before .before .args .file .now in
-    let f = c .before .before .before .before .before in
-    opening-right file (omega arith) (f .before .if2 .left) (so fieldView (c .before .before .before .before .before .read-field .ensures .0) (c .before .before .before .length .given .1)) (omega arith)
+    let at-length = c .before .before .before in
+    let at-read-field = at-length .before .before in
+    let entry = at-read-field .before .before .before .before .before in
+    let file = entry .args .file .now in
+    let f = at-read-field in
+    opening-right file (omega arith) (f .before .if2 .left) (so fieldView (at-read-field .read-field .ensures .0) (at-length .length .given .1)) (omega arith)
 
 pub read-opening-spec : {M : Type 1} → statement M
 read-opening-spec =

@@ -33,7 +33,10 @@ returns-2 c =
 
 returns-3 : tie.Need-returns-3
 returns-3 c =
-    (simp (so fieldView (c .before .before .before .before .before .read-field .ensures .0) (c .before .before .before .byte .given .1), held (c .before .grade-allowed .ensures) (c .if1 .left)), small (c .before .before .before .before .before .read-field .ensures .1) (c .before .before .before .byte .given .1))
+    let at-grade-allowed = c .before in
+    let at-byte = at-grade-allowed .before .before in
+    let at-read-field = at-byte .before .before in
+    (simp (so fieldView (at-read-field .read-field .ensures .0) (at-byte .byte .given .1), held (at-grade-allowed .grade-allowed .ensures) (c .if1 .left)), small (at-read-field .read-field .ensures .1) (at-byte .byte .given .1))
 
 pub read-grade-spec : {M : Type 1} → statement M
 read-grade-spec =

@@ -42,7 +42,11 @@ field-refusal-requires-2 c κs = search needs
 returns-2 : tie.Need-returns-2
 unfolding oneJob
 returns-2 c =
-    simp (so fieldView (c .before .before .before .before .before .before .before .read-name .ensures) (c .before .before .before .before .before .named .given .1), refused fieldView fieldRefusal (c .before .before .before .read-grade .ensures .0) (c .before .enum-told2 .given .1) refl refl (c .field-refusal2 .ensures))
+    let at-enum-told2 = c .before in
+    let at-read-grade = at-enum-told2 .before .before in
+    let at-named = at-read-grade .before .before in
+    let at-read-name = at-named .before .before in
+    simp (so fieldView (at-read-name .read-name .ensures) (at-named .named .given .1), refused fieldView fieldRefusal (at-read-grade .read-grade .ensures .0) (at-enum-told2 .enum-told2 .given .1) refl refl (c .field-refusal2 .ensures))
 
 read-field-requires : tie.Need-read-field-requires
 read-field-requires c κs = search needs
@@ -59,7 +63,13 @@ field-refusal-requires-3 c κs = search needs
 returns-3 : tie.Need-returns-3
 unfolding oneJob
 returns-3 c =
-    simp (so fieldView (c .before .before .before .before .before .before .before .before .before .before .before .read-name .ensures) (c .before .before .before .before .before .before .before .before .before .named .given .1), so fieldView (c .before .before .before .before .before .before .before .read-grade .ensures .0) (c .before .before .before .before .before .graded .given .1), refused fieldView fieldRefusal (c .before .before .before .read-field .ensures .0) (c .before .enum-told3 .given .1) refl refl (c .field-refusal3 .ensures))
+    let at-enum-told3 = c .before in
+    let at-read-field = at-enum-told3 .before .before in
+    let at-graded = at-read-field .before .before in
+    let at-read-grade = at-graded .before .before in
+    let at-named = at-read-grade .before .before in
+    let at-read-name = at-named .before .before in
+    simp (so fieldView (at-read-name .read-name .ensures) (at-named .named .given .1), so fieldView (at-read-grade .read-grade .ensures .0) (at-graded .graded .given .1), refused fieldView fieldRefusal (at-read-field .read-field .ensures .0) (at-enum-told3 .enum-told3 .given .1) refl refl (c .field-refusal3 .ensures))
 
 read-field-requires-2 : tie.Need-read-field-requires-2
 read-field-requires-2 c κs = search needs
@@ -76,7 +86,15 @@ field-refusal-requires-4 c κs = search needs
 returns-4 : tie.Need-returns-4
 unfolding oneJob
 returns-4 c =
-    simp (so fieldView (c .before .before .before .before .before .before .before .before .before .before .before .before .before .before .before .read-name .ensures) (c .before .before .before .before .before .before .before .before .before .before .before .before .before .named .given .1), so fieldView (c .before .before .before .before .before .before .before .before .before .before .before .read-grade .ensures .0) (c .before .before .before .before .before .before .before .before .before .graded .given .1), so fieldView (c .before .before .before .before .before .before .before .read-field .ensures .0) (c .before .before .before .before .before .released .given .1), refused fieldView fieldRefusal (c .before .before .before .read-field2 .ensures .0) (c .before .enum-told4 .given .1) refl refl (c .field-refusal4 .ensures))
+    let at-enum-told4 = c .before in
+    let at-read-field2 = at-enum-told4 .before .before in
+    let at-released = at-read-field2 .before .before in
+    let at-read-field = at-released .before .before in
+    let at-graded = at-read-field .before .before in
+    let at-read-grade = at-graded .before .before in
+    let at-named = at-read-grade .before .before in
+    let at-read-name = at-named .before .before in
+    simp (so fieldView (at-read-name .read-name .ensures) (at-named .named .given .1), so fieldView (at-read-grade .read-grade .ensures .0) (at-graded .graded .given .1), so fieldView (at-read-field .read-field .ensures .0) (at-released .released .given .1), refused fieldView fieldRefusal (at-read-field2 .read-field2 .ensures .0) (at-enum-told4 .enum-told4 .given .1) refl refl (c .field-refusal4 .ensures))
 
 read-field-requires-3 : tie.Need-read-field-requires-3
 read-field-requires-3 c κs = search needs
@@ -93,7 +111,17 @@ field-refusal-requires-5 c κs = search needs
 returns-5 : tie.Need-returns-5
 unfolding oneJob
 returns-5 c =
-    simp (so fieldView (c .before .before .before .before .before .before .before .before .before .before .before .before .before .before .before .before .before .before .before .read-name .ensures) (c .before .before .before .before .before .before .before .before .before .before .before .before .before .before .before .before .before .named .given .1), so fieldView (c .before .before .before .before .before .before .before .before .before .before .before .before .before .before .before .read-grade .ensures .0) (c .before .before .before .before .before .before .before .before .before .before .before .before .before .graded .given .1), so fieldView (c .before .before .before .before .before .before .before .before .before .before .before .read-field .ensures .0) (c .before .before .before .before .before .before .before .before .before .released .given .1), so fieldView (c .before .before .before .before .before .before .before .read-field2 .ensures .0) (c .before .before .before .before .before .sized .given .1), refused fieldView fieldRefusal (c .before .before .before .read-field3 .ensures .0) (c .before .enum-told5 .given .1) refl refl (c .field-refusal5 .ensures))
+    let at-enum-told5 = c .before in
+    let at-read-field3 = at-enum-told5 .before .before in
+    let at-sized = at-read-field3 .before .before in
+    let at-read-field2 = at-sized .before .before in
+    let at-released = at-read-field2 .before .before in
+    let at-read-field = at-released .before .before in
+    let at-graded = at-read-field .before .before in
+    let at-read-grade = at-graded .before .before in
+    let at-named = at-read-grade .before .before in
+    let at-read-name = at-named .before .before in
+    simp (so fieldView (at-read-name .read-name .ensures) (at-named .named .given .1), so fieldView (at-read-grade .read-grade .ensures .0) (at-graded .graded .given .1), so fieldView (at-read-field .read-field .ensures .0) (at-released .released .given .1), so fieldView (at-read-field2 .read-field2 .ensures .0) (at-sized .sized .given .1), refused fieldView fieldRefusal (at-read-field3 .read-field3 .ensures .0) (at-enum-told5 .enum-told5 .given .1) refl refl (c .field-refusal5 .ensures))
 
 cast-t26 : tie.Need-cast-t26
 cast-t26 c =
@@ -115,25 +143,51 @@ size-allowed-requires c κs = search needs
 
 returns-6 : tie.Need-returns-6
 returns-6 c =
-    let a = c .before .before .before .before .before .before .before .before .before .before .before .before .before .before .before .before .before .before .before .before .before .before .before .before .before .args in
+    let at-size-allowed = c .before in
+    let at-window-allowed = at-size-allowed .before in
+    let at-dead = at-window-allowed .before .before in
+    let at-read-field3 = at-dead .before .before in
+    let at-sized = at-read-field3 .before .before in
+    let at-read-field2 = at-sized .before .before in
+    let at-released = at-read-field2 .before .before in
+    let at-read-field = at-released .before .before in
+    let at-graded = at-read-field .before .before in
+    let at-read-grade = at-graded .before .before in
+    let at-named = at-read-grade .before .before in
+    let at-read-name = at-named .before .before in
+    let entry = at-read-name .before .before .before in
+    let a = entry .args in
     job-bounds (a .earlier .now) (a .file .now) (a .at)
-    (so fieldView (c .before .before .before .before .before .before .before .before .before .before .before .before .before .before .before .before .before .before .before .before .before .before .read-name .ensures) (c .before .before .before .before .before .before .before .before .before .before .before .before .before .before .before .before .before .before .before .before .named .given .1))
-    (so fieldView (c .before .before .before .before .before .before .before .before .before .before .before .before .before .before .before .before .before .before .read-grade .ensures .0) (c .before .before .before .before .before .before .before .before .before .before .before .before .before .before .before .before .graded .given .1))
-    (so fieldView (c .before .before .before .before .before .before .before .before .before .before .before .before .before .before .read-field .ensures .0) (c .before .before .before .before .before .before .before .before .before .before .before .before .released .given .1))
-    (so fieldView (c .before .before .before .before .before .before .before .before .before .before .read-field2 .ensures .0) (c .before .before .before .before .before .before .before .before .sized .given .1))
-    (so fieldView (c .before .before .before .before .before .before .read-field3 .ensures .0) (c .before .before .before .before .dead .given .1))
-    (failed (ap₂ _&&_ (c .before .before .window-allowed .ensures) (c .before .size-allowed .ensures)) (c .if1 .taken))
+    (so fieldView (at-read-name .read-name .ensures) (at-named .named .given .1))
+    (so fieldView (at-read-grade .read-grade .ensures .0) (at-graded .graded .given .1))
+    (so fieldView (at-read-field .read-field .ensures .0) (at-released .released .given .1))
+    (so fieldView (at-read-field2 .read-field2 .ensures .0) (at-sized .sized .given .1))
+    (so fieldView (at-read-field3 .read-field3 .ensures .0) (at-dead .dead .given .1))
+    (failed (ap₂ _&&_ (at-window-allowed .window-allowed .ensures) (at-size-allowed .size-allowed .ensures)) (c .if1 .taken))
 
 returns-7 : tie.Need-returns-7
 returns-7 c =
-    let a = c .before .before .before .before .before .before .before .before .before .before .before .before .before .before .before .before .before .before .before .before .before .before .before .before .before .args in
+    let at-size-allowed = c .before in
+    let at-window-allowed = at-size-allowed .before in
+    let at-dead = at-window-allowed .before .before in
+    let at-read-field3 = at-dead .before .before in
+    let at-sized = at-read-field3 .before .before in
+    let at-read-field2 = at-sized .before .before in
+    let at-released = at-read-field2 .before .before in
+    let at-read-field = at-released .before .before in
+    let at-graded = at-read-field .before .before in
+    let at-read-grade = at-graded .before .before in
+    let at-named = at-read-grade .before .before in
+    let at-read-name = at-named .before .before in
+    let entry = at-read-name .before .before .before in
+    let a = entry .args in
     job-whole (a .earlier .now) (a .file .now) (a .at)
-    (so fieldView (c .before .before .before .before .before .before .before .before .before .before .before .before .before .before .before .before .before .before .before .before .before .before .read-name .ensures) (c .before .before .before .before .before .before .before .before .before .before .before .before .before .before .before .before .before .before .before .before .named .given .1))
-    (so fieldView (c .before .before .before .before .before .before .before .before .before .before .before .before .before .before .before .before .before .before .read-grade .ensures .0) (c .before .before .before .before .before .before .before .before .before .before .before .before .before .before .before .before .graded .given .1))
-    (so fieldView (c .before .before .before .before .before .before .before .before .before .before .before .before .before .before .read-field .ensures .0) (c .before .before .before .before .before .before .before .before .before .before .before .before .released .given .1))
-    (so fieldView (c .before .before .before .before .before .before .before .before .before .before .read-field2 .ensures .0) (c .before .before .before .before .before .before .before .before .sized .given .1))
-    (so fieldView (c .before .before .before .before .before .before .read-field3 .ensures .0) (c .before .before .before .before .dead .given .1))
-    (held (ap₂ _&&_ (c .before .before .window-allowed .ensures) (c .before .size-allowed .ensures)) (c .if1 .left))
+    (so fieldView (at-read-name .read-name .ensures) (at-named .named .given .1))
+    (so fieldView (at-read-grade .read-grade .ensures .0) (at-graded .graded .given .1))
+    (so fieldView (at-read-field .read-field .ensures .0) (at-released .released .given .1))
+    (so fieldView (at-read-field2 .read-field2 .ensures .0) (at-sized .sized .given .1))
+    (so fieldView (at-read-field3 .read-field3 .ensures .0) (at-dead .dead .given .1))
+    (held (ap₂ _&&_ (at-window-allowed .window-allowed .ensures) (at-size-allowed .size-allowed .ensures)) (c .if1 .left))
 
 pub read-job-spec : {M : Type 1} → statement M
 read-job-spec =

@@ -34,12 +34,22 @@ is-absent-requires c κs = search needs
 returns-3 : tie.Need-returns-3
 unfolding jobName
 returns-3 c =
-    simp (so fieldView (c .before .before .before .before .before .before .before .read-named .ensures) (c .before .before .before .before .before .named .given .1), held (c .before .before .before .name-allowed .ensures) (c .before .before .if1 .left), failed (c .before .is-absent .ensures) (c .if2 .taken))
+    let at-is-absent = c .before in
+    let at-if1 = at-is-absent .before in
+    let at-name-allowed = at-if1 .before in
+    let at-named = at-name-allowed .before .before in
+    let at-read-named = at-named .before .before in
+    simp (so fieldView (at-read-named .read-named .ensures) (at-named .named .given .1), held (at-name-allowed .name-allowed .ensures) (at-if1 .if1 .left), failed (at-is-absent .is-absent .ensures) (c .if2 .taken))
 
 returns-4 : tie.Need-returns-4
 unfolding jobName
 returns-4 c =
-    simp (so fieldView (c .before .before .before .before .before .before .before .read-named .ensures) (c .before .before .before .before .before .named .given .1), held (c .before .before .before .name-allowed .ensures) (c .before .before .if1 .left), held (c .before .is-absent .ensures) (c .if2 .left))
+    let at-is-absent = c .before in
+    let at-if1 = at-is-absent .before in
+    let at-name-allowed = at-if1 .before in
+    let at-named = at-name-allowed .before .before in
+    let at-read-named = at-named .before .before in
+    simp (so fieldView (at-read-named .read-named .ensures) (at-named .named .given .1), held (at-name-allowed .name-allowed .ensures) (at-if1 .if1 .left), held (at-is-absent .is-absent .ensures) (c .if2 .left))
 
 pub read-name-spec : {M : Type 1} → statement M
 read-name-spec =

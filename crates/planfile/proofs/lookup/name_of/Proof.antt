@@ -62,11 +62,14 @@ part-result-end-2 c = omega (arith, inside c, from-is c)
 returns-2 : tie.Need-returns-2
 unfolding nameShown
 returns-2 c =
-    let a = c .before .before .before .before .args in
-    let from = c .before .before .name-at .result in
+    let c-1 = c .before in
+    let at-name-at = c-1 .before in
+    let entry = at-name-at .before .before in
+    let a = entry .args in
+    let from = at-name-at .name-at .result in
     let eight : from + 8 - from ≡ 8 = omega arith in
-    ap₂ (λ n at. take n (drop at (a .file .now))) eight (from-is (c .before))
-    ∙ sym (shown-part (readFile (a .file .now)) (a .file .now) (a .position) (below (c .before)))
+    ap₂ (λ n at. take n (drop at (a .file .now))) eight (from-is (c-1))
+    ∙ sym (shown-part (readFile (a .file .now)) (a .file .now) (a .position) (below (c-1)))
 
 pub name-of-spec : {M : Type 1} → statement M
 name-of-spec =

@@ -23,8 +23,9 @@ abbrev μ-loop : tie.MeasureT-loop
 -- The list of names keeps its length, and i stays within `mostJobs`.
 at-head : (c : tie.At-loop Inv-loop μ-loop) → (length (c .loop .names) ≡ mostJobs) × (c .loop .i ≤ mostJobs)
 at-head c =
-    let most = c .before .before .before .before .pre .1 in
-    (roll-names (c .loop .inv .1) (c .before .before .before .before .pre .0) (omega arith), omega arith)
+    let entry = c .before .before .before .before in
+    let most = entry .pre .1 in
+    (roll-names (c .loop .inv .1) (entry .pre .0) (omega arith), omega arith)
 
 plan-with-requires : tie.Need-plan-with-requires Inv-loop μ-loop
 plan-with-requires c κs = search needs
@@ -85,10 +86,14 @@ loop-less c = search needs
 
 loop-again : tie.Need-loop-again Inv-loop μ-loop
 loop-again c =
-    let most = c .before .before .before .before .before .before .before .before .before .before .before .pre .1 in (
+    let at-read = c .before .before in
+    let at-read-job = at-read .before .before in
+    let at-loop = at-read-job .before .before .before in
+    let entry = at-loop .before .before .before .before in
+    let most = entry .pre .1 in (
       omega arith,
-      rw add-one (roll-next (c .before .before .before .before .before .before .before .loop .inv .1) (omega arith) (omega arith) (c .before .before .before .before .before .before .before .before .before .before .before .pre .0)
-          (so jobView (c .before .before .before .before .read-job .ensures) (c .before .before .read .given .1))),
+      rw add-one (roll-next (at-loop .loop .inv .1) (omega arith) (omega arith) (entry .pre .0)
+          (so jobView (at-read-job .read-job .ensures) (at-read .read .given .1))),
     )
 
 same-length-2 : tie.Need-same-length-2 Inv-loop μ-loop

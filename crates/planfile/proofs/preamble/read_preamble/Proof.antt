@@ -28,13 +28,20 @@ no-plan-requires c κs = search needs
 
 returns : tie.Need-returns
 returns c =
-    let a = c .before .before .before .before .before .before .before .args in
+    let at-head-refusal = c .before in
+    let at-enum-told = at-head-refusal .before in
+    let at-read-head = at-enum-told .before .before in
+    let entry = at-read-head .before .before .before in
+    let a = entry .args in
     rw (preamble-headless (a .names .now) (a .file .now)
-    (refused headView headRefusal (c .before .before .before .before .read-head .ensures) (c .before .before .enum-told .given .1) refl refl (c .before .head-refusal .ensures))) refl
+    (refused headView headRefusal (at-read-head .read-head .ensures) (at-enum-told .enum-told .given .1) refl refl (at-head-refusal .head-refusal .ensures))) refl
 
 read-jobs-requires : tie.Need-read-jobs-requires
 read-jobs-requires c κs =
-    (c .before .before .before .before .before .before .before .pre, head-count mostJobs (c .before .before .before .before .before .before .before .args .file .now) 0 (so headView (c .before .before .before .before .read-head .ensures) (c .before .before .read .given .1)) .1)
+    let at-read = c .before .before in
+    let at-read-head = at-read .before .before in
+    let entry = at-read-head .before .before .before in
+    (entry .pre, head-count mostJobs (entry .args .file .now) 0 (so headView (at-read-head .read-head .ensures) (at-read .read .given .1)) .1)
 
 enum-known-passed : tie.Need-enum-known-passed
 enum-known-passed c = search needs
@@ -50,12 +57,17 @@ same-length c = search needs
 
 returns-2 : tie.Need-returns-2
 returns-2 c =
-    let a = c .before .before .before .before .before .before .before .before .before .before .before .before .before .before .args in
-    let head = c .before .before .before .before .before .before .before .before .before .read .given .0 .0 in
-    let at = c .before .before .before .before .before .before .before .before .before .read .given .0 .1 .0 in
-    rw (preamble-jobless (a .names .now) (a .file .now) (so headView (c .before .before .before .before .before .before .before .before .before .before .before .read-head .ensures) (c .before .before .before .before .before .before .before .before .before .read .given .1))
-    (jobs-refused (headOf head) (a .names .now) (c .before .before .before .before .before .before .read-jobs .result) (c .before .before .before .before .before .before .read-jobs .last .1 .1 .1 .0) (allJobs (head .count) [] (a .file .now) at) (c .before .before .before .before .before .before .read-jobs .ensures)
-    (passed-number (c .before .enum-told2 .given .1) (c .passed-refusal .ensures)))) refl
+    let at-enum-told2 = c .before in
+    let at-read-jobs = at-enum-told2 .before .before .before .before .before in
+    let at-read = at-read-jobs .before .before .before in
+    let at-read-head = at-read .before .before in
+    let entry = at-read-head .before .before .before in
+    let a = entry .args in
+    let head = at-read .read .given .0 .0 in
+    let at = at-read .read .given .0 .1 .0 in
+    rw (preamble-jobless (a .names .now) (a .file .now) (so headView (at-read-head .read-head .ensures) (at-read .read .given .1))
+    (jobs-refused (headOf head) (a .names .now) (at-read-jobs .read-jobs .result) (at-read-jobs .read-jobs .last .1 .1 .1 .0) (allJobs (head .count) [] (a .file .now) at) (at-read-jobs .read-jobs .ensures)
+    (passed-number (at-enum-told2 .enum-told2 .given .1) (c .passed-refusal .ensures)))) refl
 
 read-row-count-requires : tie.Need-read-row-count-requires
 read-row-count-requires c κs = search needs
@@ -65,12 +77,17 @@ same-length-2 c = search needs
 
 returns-3 : tie.Need-returns-3
 returns-3 c =
-    let a = c .before .before .before .before .before .before .before .before .before .before .before .before .before .before .before .args in
-    let head = c .before .before .before .before .before .before .before .before .before .before .read .given .0 .0 in
-    let at = c .before .before .before .before .before .before .before .before .before .before .read .given .0 .1 .0 in
-    let g = jobs-got (headOf head) (a .names .now) (c .before .before .before .before .before .before .before .read-jobs .result) (c .before .before .before .before .before .before .before .read-jobs .last .1 .1 .1 .0) (allJobs (head .count) [] (a .file .now) at) (c .before .before .before .before .before .before .before .read-jobs .ensures)
-    (c .before .before .passed .given .1) in
-    preamble-whole (a .names .now) (a .file .now) (so headView (c .before .before .before .before .before .before .before .before .before .before .before .before .read-head .ensures) (c .before .before .before .before .before .before .before .before .before .before .read .given .1)) (g .1) (c .read-row-count .result) (c .read-row-count .ensures) (g .2) (g .3)
+    let at-passed = c .before .before in
+    let at-read-jobs = at-passed .before .before .before .before .before in
+    let at-read = at-read-jobs .before .before .before in
+    let at-read-head = at-read .before .before in
+    let entry = at-read-head .before .before .before in
+    let a = entry .args in
+    let head = at-read .read .given .0 .0 in
+    let at = at-read .read .given .0 .1 .0 in
+    let g = jobs-got (headOf head) (a .names .now) (at-read-jobs .read-jobs .result) (at-read-jobs .read-jobs .last .1 .1 .1 .0) (allJobs (head .count) [] (a .file .now) at) (at-read-jobs .read-jobs .ensures)
+    (at-passed .passed .given .1) in
+    preamble-whole (a .names .now) (a .file .now) (so headView (at-read-head .read-head .ensures) (at-read .read .given .1)) (g .1) (c .read-row-count .result) (c .read-row-count .ensures) (g .2) (g .3)
 
 pub read-preamble-spec : {M : Type 1} → statement M
 read-preamble-spec =

@@ -23,8 +23,11 @@ preamble-here : (c : tie.After-known-told)
     × (c .before .before .before .before .before .read-preamble .result .plan ≡ f .plan)
     × (c .before .before .before .before .before .read-preamble .last .1 .0 ≡ f .names ++ drop (f .plan .count) (replicate mostJobs 0))
 preamble-here c =
-    preamble-got (replicate mostJobs 0) (c .before .before .before .before .before .read-preamble .result) (c .before .before .before .before .before .read-preamble .last .1 .0)
-    (preamble (c .before .before .before .before .before .before .before .before .before .args .file .now) 0) (c .before .before .before .before .before .read-preamble .ensures) (c .before .counted .given .1)
+    let at-counted = c .before in
+    let at-read-preamble = at-counted .before .before .before .before in
+    let entry = at-read-preamble .before .before .before .before in
+    preamble-got (replicate mostJobs 0) (at-read-preamble .read-preamble .result) (at-read-preamble .read-preamble .last .1 .0)
+    (preamble (entry .args .file .now) 0) (at-read-preamble .read-preamble .ensures) (at-counted .counted .given .1)
 
 -- `store_rows` reads the rows of the preamble, into the table that is lent.
 rows-here : (c : tie.After-store-rows)

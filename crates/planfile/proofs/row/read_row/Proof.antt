@@ -42,8 +42,12 @@ find-requires c κs = search needs
 
 returns-2 : tie.Need-returns-2
 returns-2 c =
-    let a = c .before .before .before .before .before .before .before .before .args in
-    sym (row-jobless mostIntervals (a .names .now) (a .spans) (a .low) (a .file .now) (a .at) (so fieldView (c .before .before .before .before .before .read-named .ensures) (c .before .before .before .named .given .1)) (missing (c .before .find .ensures) (c .if1 .taken)))
+    let at-find = c .before in
+    let at-named = at-find .before .before in
+    let at-read-named = at-named .before .before in
+    let entry = at-read-named .before .before .before in
+    let a = entry .args in
+    sym (row-jobless mostIntervals (a .names .now) (a .spans) (a .low) (a .file .now) (a .at) (so fieldView (at-read-named .read-named .ensures) (at-named .named .given .1)) (missing (at-find .find .ensures) (c .if1 .taken)))
 
 read-interval-requires : tie.Need-read-interval-requires
 read-interval-requires c κs = search needs
@@ -59,8 +63,15 @@ field-refusal-requires-2 c κs = search needs
 
 returns-3 : tie.Need-returns-3
 returns-3 c =
-    let a = c .before .before .before .before .before .before .before .before .before .before .before .before .args in
-    sym (row-unplaced mostIntervals (a .names .now) (a .spans) (a .low) (a .file .now) (a .at) (so fieldView (c .before .before .before .before .before .before .before .before .before .read-named .ensures) (c .before .before .before .before .before .before .before .named .given .1)) (found (c .before .before .before .before .before .find .ensures) (c .before .before .before .before .if1 .left)) (refused fieldView fieldRefusal (c .before .before .before .read-interval .ensures .0) (c .before .enum-told2 .given .1) refl refl (c .field-refusal2 .ensures)))
+    let at-enum-told2 = c .before in
+    let at-read-interval = at-enum-told2 .before .before in
+    let at-if1 = at-read-interval .before in
+    let at-find = at-if1 .before in
+    let at-named = at-find .before .before in
+    let at-read-named = at-named .before .before in
+    let entry = at-read-named .before .before .before in
+    let a = entry .args in
+    sym (row-unplaced mostIntervals (a .names .now) (a .spans) (a .low) (a .file .now) (a .at) (so fieldView (at-read-named .read-named .ensures) (at-named .named .given .1)) (found (at-find .find .ensures) (at-if1 .if1 .left)) (refused fieldView fieldRefusal (at-read-interval .read-interval .ensures .0) (at-enum-told2 .enum-told2 .given .1) refl refl (c .field-refusal2 .ensures)))
 
 read-units-requires : tie.Need-read-units-requires
 read-units-requires c κs = search needs
@@ -76,8 +87,17 @@ field-refusal-requires-3 c κs = search needs
 
 returns-4 : tie.Need-returns-4
 returns-4 c =
-    let a = c .before .before .before .before .before .before .before .before .before .before .before .before .before .before .before .before .args in
-    sym (row-empty mostIntervals (a .names .now) (a .spans) (a .low) (a .file .now) (a .at) (so fieldView (c .before .before .before .before .before .before .before .before .before .before .before .before .before .read-named .ensures) (c .before .before .before .before .before .before .before .before .before .before .before .named .given .1)) (found (c .before .before .before .before .before .before .before .before .before .find .ensures) (c .before .before .before .before .before .before .before .before .if1 .left)) (so fieldView (c .before .before .before .before .before .before .before .read-interval .ensures .0) (c .before .before .before .before .before .placed .given .1)) (refused fieldView fieldRefusal (c .before .before .before .read-units .ensures .0) (c .before .enum-told3 .given .1) refl refl (c .field-refusal3 .ensures)))
+    let at-enum-told3 = c .before in
+    let at-read-units = at-enum-told3 .before .before in
+    let at-placed = at-read-units .before .before in
+    let at-read-interval = at-placed .before .before in
+    let at-if1 = at-read-interval .before in
+    let at-find = at-if1 .before in
+    let at-named = at-find .before .before in
+    let at-read-named = at-named .before .before in
+    let entry = at-read-named .before .before .before in
+    let a = entry .args in
+    sym (row-empty mostIntervals (a .names .now) (a .spans) (a .low) (a .file .now) (a .at) (so fieldView (at-read-named .read-named .ensures) (at-named .named .given .1)) (found (at-find .find .ensures) (at-if1 .if1 .left)) (so fieldView (at-read-interval .read-interval .ensures .0) (at-placed .placed .given .1)) (refused fieldView fieldRefusal (at-read-units .read-units .ensures .0) (at-enum-told3 .enum-told3 .given .1) refl refl (c .field-refusal3 .ensures)))
 
 mul-here : tie.Need-mul-here
 mul-here c =
@@ -85,14 +105,27 @@ mul-here c =
 
 add-here : tie.Need-add-here
 add-here c =
+    let at-placed = c .before .before .before .before .before in
+    let at-read-interval = at-placed .before .before in
+    let at-if1 = at-read-interval .before in
+    let entry = at-if1 .before .before .before .before .before .before .before .before in
     record {
-      fits = omega (arith, c .before .before .before .before .before .before .before .before .if1 .left, c .before .before .before .before .before .before .before .before .before .before .before .before .before .before .before .before .pre .1, small (c .before .before .before .before .before .before .before .read-interval .ensures .1) (c .before .before .before .before .before .placed .given .1));
+      fits = omega (arith, at-if1 .if1 .left, entry .pre .1, small (at-read-interval .read-interval .ensures .1) (at-placed .placed .given .1));
     }
 
 returns-5 : tie.Need-returns-5
 returns-5 c =
-    let a = c .before .before .before .before .before .before .before .before .before .before .before .before .before .before .before .before .before .args in
-    sym (row-late mostIntervals (a .names .now) (a .spans) (a .low) (a .file .now) (a .at) (so fieldView (c .before .before .before .before .before .before .before .before .before .before .before .before .before .before .read-named .ensures) (c .before .before .before .before .before .before .before .before .before .before .before .before .named .given .1)) (found (c .before .before .before .before .before .before .before .before .before .before .find .ensures) (c .before .before .before .before .before .before .before .before .before .if1 .left)) (so fieldView (c .before .before .before .before .before .before .before .before .read-interval .ensures .0) (c .before .before .before .before .before .before .placed .given .1)) (so fieldView (c .before .before .before .before .read-units .ensures .0) (c .before .before .counted .given .1)) (rw (← (c .before .before .before .before .before .before .before .before .before .before .find .ensures)) (c .if2 .taken)))
+    let at-counted = c .before .before in
+    let at-read-units = at-counted .before .before in
+    let at-placed = at-read-units .before .before in
+    let at-read-interval = at-placed .before .before in
+    let at-if1 = at-read-interval .before in
+    let at-find = at-if1 .before in
+    let at-named = at-find .before .before in
+    let at-read-named = at-named .before .before in
+    let entry = at-read-named .before .before .before in
+    let a = entry .args in
+    sym (row-late mostIntervals (a .names .now) (a .spans) (a .low) (a .file .now) (a .at) (so fieldView (at-read-named .read-named .ensures) (at-named .named .given .1)) (found (at-find .find .ensures) (at-if1 .if1 .left)) (so fieldView (at-read-interval .read-interval .ensures .0) (at-placed .placed .given .1)) (so fieldView (at-read-units .read-units .ensures .0) (at-counted .counted .given .1)) (rw (← (at-find .find .ensures)) (c .if2 .taken)))
 
 cast-t25 : tie.Need-cast-t25
 cast-t25 c =
@@ -100,9 +133,18 @@ cast-t25 c =
 
 returns-6 : tie.Need-returns-6
 returns-6 c =
-    let a = c .before .before .before .before .before .before .before .before .before .before .before .before .before .before .before .before .before .args in
-    let f = c .before .before .before .before .before .before .before .before .before .before .find .ensures in
-    rw f (sym (row-whole mostIntervals (a .names .now) (a .spans) (a .low) (a .file .now) (a .at) (so fieldView (c .before .before .before .before .before .before .before .before .before .before .before .before .before .before .read-named .ensures) (c .before .before .before .before .before .before .before .before .before .before .before .before .named .given .1)) (found (c .before .before .before .before .before .before .before .before .before .before .find .ensures) (c .before .before .before .before .before .before .before .before .before .if1 .left)) (so fieldView (c .before .before .before .before .before .before .before .before .read-interval .ensures .0) (c .before .before .before .before .before .before .placed .given .1)) (so fieldView (c .before .before .before .before .read-units .ensures .0) (c .before .before .counted .given .1)) (rw (← f) (c .if2 .left))))
+    let at-counted = c .before .before in
+    let at-read-units = at-counted .before .before in
+    let at-placed = at-read-units .before .before in
+    let at-read-interval = at-placed .before .before in
+    let at-if1 = at-read-interval .before in
+    let at-find = at-if1 .before in
+    let at-named = at-find .before .before in
+    let at-read-named = at-named .before .before in
+    let entry = at-read-named .before .before .before in
+    let a = entry .args in
+    let f = at-find .find .ensures in
+    rw f (sym (row-whole mostIntervals (a .names .now) (a .spans) (a .low) (a .file .now) (a .at) (so fieldView (at-read-named .read-named .ensures) (at-named .named .given .1)) (found (at-find .find .ensures) (at-if1 .if1 .left)) (so fieldView (at-read-interval .read-interval .ensures .0) (at-placed .placed .given .1)) (so fieldView (at-read-units .read-units .ensures .0) (at-counted .counted .given .1)) (rw (← f) (c .if2 .left))))
 
 pub read-row-spec : {M : Type 1} → statement M
 read-row-spec =

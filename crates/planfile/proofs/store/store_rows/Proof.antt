@@ -53,7 +53,8 @@ loop-holds c =
 
 read-row-requires : tie.Need-read-row-requires Inv-loop μ-loop
 read-row-requires c κs =
-    (c .before .before .before .before .before .pre .0, c .before .before .before .before .before .pre .1)
+    let entry = c .before .before .before .before .before in
+    (entry .pre .0, entry .pre .1)
 
 enum-known-read : tie.Need-enum-known-read Inv-loop μ-loop
 enum-known-read c = search needs
@@ -69,10 +70,14 @@ same-length c = c .before .before .before .before .before .loop .inv .1
 
 returns : tie.Need-returns Inv-loop μ-loop
 returns c =
-    let a = c .before .before .before .before .before .before .before .before .before .args in
-    let l = c .before .before .before .before .before .loop in
+    let at-enum-told = c .before in
+    let at-read-row = at-enum-told .before .before in
+    let at-loop = at-read-row .before .before in
+    let entry = at-loop .before .before .before .before in
+    let a = entry .args in
+    let l = at-loop .loop in
     rw (left-stop (a .rows) (l .k) mostIntervals (a .names .now) (a .spans) (l .low) (l .table) (a .file .now) (l .next) (l .inv .2) (omega arith)
-    (refused rowView rowRefusal (c .before .before .before .read-row .ensures) (c .before .enum-told .given .1) refl refl (c .row-refusal .ensures))) refl
+    (refused rowView rowRefusal (at-read-row .read-row .ensures) (at-enum-told .enum-told .given .1) refl refl (c .row-refusal .ensures))) refl
 
 mul-table : tie.Need-mul-table Inv-loop μ-loop
 mul-table c = record { fits = omega (arith, inside (c .before)) }

@@ -34,20 +34,33 @@ cast-put-3 c = search needs
 
 put-requires-6 : tie.Need-put-requires-6
 put-requires-6 c κs =
-    (omega (arith, c .before .before .before .before .before .before .before .before .before .before .before .before .before .before .before .before .before .before .before .before .before .before .before .before .before .before .before .before .before .pre .0, c .before .before .before .before .before .before .before .before .before .before .before .before .before .before .before .before .before .before .before .before .before .before .put .ensures .0, c .before .before .before .before .before .before .before .before .before .before .before .before .before .before .before .before .before .before .before .before .before .before .put .kept .0, c .before .before .before .before .before .before .before .before .before .before .before .before .before .before .before .before .before .before .put2 .ensures .0, c .before .before .before .before .before .before .before .before .before .before .before .before .before .before .before .before .before .before .put2 .kept .0, c .before .before .before .before .before .before .before .before .before .before .before .before .before .put3 .ensures .0, c .before .before .before .before .before .before .before .before .before .before .before .before .before .put3 .kept .0, c .before .before .before .before .before .before .before .before .put4 .ensures .0, c .before .before .before .before .before .before .before .before .put4 .kept .0, c .before .before .before .before .put5 .ensures .0, c .before .before .before .before .put5 .kept .0), search needs)
+    let at-put5 = c .before .before .before .before in
+    let at-put4 = at-put5 .before .before .before .before in
+    let at-put3 = at-put4 .before .before .before .before .before in
+    let at-put2 = at-put3 .before .before .before .before .before in
+    let at-put = at-put2 .before .before .before .before in
+    let entry = at-put .before .before .before .before .before .before .before in
+    (omega (arith, entry .pre .0, at-put .put .ensures .0, at-put .put .kept .0, at-put2 .put2 .ensures .0, at-put2 .put2 .kept .0, at-put3 .put3 .ensures .0, at-put3 .put3 .kept .0, at-put4 .put4 .ensures .0, at-put4 .put4 .kept .0, at-put5 .put5 .ensures .0, at-put5 .put5 .kept .0), search needs)
 
 same-length : tie.Need-same-length
 same-length c = search needs
 
 returns : tie.Need-returns
 returns c =
-    let a = c .before .before .before .before .before .before .before .before .before .before .before .before .before .before .before .before .before .before .before .before .before .before .before .before .before .before .before .before .before .before .before .before .args in
-    let p1 = put-field (put-start (a .out .now) (a .at)) 1 jobLength (c .before .before .before .before .before .before .before .before .before .before .before .before .before .before .before .before .before .before .before .before .before .before .before .before .before .put .ensures .0) (c .before .before .before .before .before .before .before .before .before .before .before .before .before .before .before .before .before .before .before .before .before .before .before .before .before .put .ensures .1) in
-    let p2 = put-field p1 8 (a .job .name .0) (c .before .before .before .before .before .before .before .before .before .before .before .before .before .before .before .before .before .before .before .before .before .put2 .ensures .0) (c .before .before .before .before .before .before .before .before .before .before .before .before .before .before .before .before .before .before .before .before .before .put2 .ensures .1) in
-    let p3 = put-field p2 1 (a .job .grade) (c .before .before .before .before .before .before .before .before .before .before .before .before .before .before .before .before .put3 .ensures .0) (c .before .before .before .before .before .before .before .before .before .before .before .before .before .before .before .before .put3 .ensures .1) in
-    let p4 = put-field p3 4 (a .job .release .0) (c .before .before .before .before .before .before .before .before .before .before .before .put4 .ensures .0) (c .before .before .before .before .before .before .before .before .before .before .before .put4 .ensures .1) in
-    let p5 = put-field p4 4 (a .job .size .0) (c .before .before .before .before .before .before .before .put5 .ensures .0) (c .before .before .before .before .before .before .before .put5 .ensures .1) in
-    let p6 = put-field p5 4 (a .job .deadline .0) (c .before .before .put6 .ensures .0) (c .before .before .put6 .ensures .1) in
+    let at-put6 = c .before .before in
+    let at-put5 = at-put6 .before .before .before .before .before in
+    let at-put4 = at-put5 .before .before .before .before in
+    let at-put3 = at-put4 .before .before .before .before .before in
+    let at-put2 = at-put3 .before .before .before .before .before in
+    let at-put = at-put2 .before .before .before .before in
+    let entry = at-put .before .before .before .before .before .before .before in
+    let a = entry .args in
+    let p1 = put-field (put-start (a .out .now) (a .at)) 1 jobLength (at-put .put .ensures .0) (at-put .put .ensures .1) in
+    let p2 = put-field p1 8 (a .job .name .0) (at-put2 .put2 .ensures .0) (at-put2 .put2 .ensures .1) in
+    let p3 = put-field p2 1 (a .job .grade) (at-put3 .put3 .ensures .0) (at-put3 .put3 .ensures .1) in
+    let p4 = put-field p3 4 (a .job .release .0) (at-put4 .put4 .ensures .0) (at-put4 .put4 .ensures .1) in
+    let p5 = put-field p4 4 (a .job .size .0) (at-put5 .put5 .ensures .0) (at-put5 .put5 .ensures .1) in
+    let p6 = put-field p5 4 (a .job .deadline .0) (at-put6 .put6 .ensures .0) (at-put6 .put6 .ensures .1) in
     (p6 .ends ∙ rw (job-long (a .job)) refl, p6 .stands)
 
 pub put-job-spec : {M : Type 1} → statement M

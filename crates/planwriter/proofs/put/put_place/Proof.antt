@@ -25,9 +25,12 @@ same-length c = search needs
 
 returns-2 : tie.Need-returns-2
 returns-2 c =
-    let a = c .before .before .before .before .before .before .args in
-    rw (place-row (a .name) (a .interval) (a .units) (c .before .before .before .before .if1 .left) (c .before .before .before .before .before .before .pre .1), row-long (a .name) (a .interval) (a .units))
-    (c .before .before .put-row .ensures)
+    let at-put-row = c .before .before in
+    let at-if1 = at-put-row .before .before in
+    let entry = at-if1 .before .before in
+    let a = entry .args in
+    rw (place-row (a .name) (a .interval) (a .units) (at-if1 .if1 .left) (entry .pre .1), row-long (a .name) (a .interval) (a .units))
+    (at-put-row .put-row .ensures)
 
 pub put-place-spec : {M : Type 1} → statement M
 put-place-spec = tie.close (tie.spec returns put-row-requires same-length returns-2)

@@ -24,11 +24,16 @@ same-length c = search needs
 
 returns : tie.Need-returns
 returns c =
-    let a = c .before .before .before .before .before .before .before .before .before .before .before .before .before .before .before .before .before .args in
-    let p1 = put-field (put-start (a .out .now) (a .at)) 1 rowLength (c .before .before .before .before .before .before .before .before .before .before .before .before .before .before .put .ensures .0) (c .before .before .before .before .before .before .before .before .before .before .before .before .before .before .put .ensures .1) in
-    let p2 = put-field p1 8 (a .name) (c .before .before .before .before .before .before .before .before .before .before .put2 .ensures .0) (c .before .before .before .before .before .before .before .before .before .before .put2 .ensures .1) in
-    let p3 = put-field p2 2 (a .interval) (c .before .before .before .before .before .before .put3 .ensures .0) (c .before .before .before .before .before .before .put3 .ensures .1) in
-    let p4 = put-field p3 4 (a .units) (c .before .before .put4 .ensures .0) (c .before .before .put4 .ensures .1) in
+    let at-put4 = c .before .before in
+    let at-put3 = at-put4 .before .before .before .before in
+    let at-put2 = at-put3 .before .before .before .before in
+    let at-put = at-put2 .before .before .before .before in
+    let entry = at-put .before .before .before in
+    let a = entry .args in
+    let p1 = put-field (put-start (a .out .now) (a .at)) 1 rowLength (at-put .put .ensures .0) (at-put .put .ensures .1) in
+    let p2 = put-field p1 8 (a .name) (at-put2 .put2 .ensures .0) (at-put2 .put2 .ensures .1) in
+    let p3 = put-field p2 2 (a .interval) (at-put3 .put3 .ensures .0) (at-put3 .put3 .ensures .1) in
+    let p4 = put-field p3 4 (a .units) (at-put4 .put4 .ensures .0) (at-put4 .put4 .ensures .1) in
     (p4 .ends ∙ rw (row-long (a .name) (a .interval) (a .units)) refl, p4 .stands)
 
 pub put-row-spec : {M : Type 1} → statement M

@@ -19,26 +19,36 @@ cast-put c = search needs
 
 put-requires : tie.Need-put-requires
 put-requires c κs =
-    (omega (arith, written-long (c .before .before .before .args .p) (c .before .before .before .args .table .now), c .before .before .before .pre .0), lit< tt)
+    let entry = c .before .before .before in
+    (omega (arith, written-long (entry .args .p) (entry .args .table .now), entry .pre .0), lit< tt)
 
 put-requires-2 : tie.Need-put-requires-2
 put-requires-2 c κs =
-    (omega (arith, written-long (c .before .before .before .before .before .before .before .args .p) (c .before .before .before .before .before .before .before .args .table .now), c .before .before .before .before .before .before .before .pre .0, c .before .before .before .put .ensures .0, c .before .before .before .put .kept .0), omega (arith, c .before .before .before .before .before .before .before .pre .3, body-short (c .before .before .before .before .before .before .before .args .p) (c .before .before .before .before .before .before .before .args .table .now) (c .before .before .before .before .before .before .before .pre .1)))
+    let at-put = c .before .before .before in
+    let entry = at-put .before .before .before .before in
+    (omega (arith, written-long (entry .args .p) (entry .args .table .now), entry .pre .0, at-put .put .ensures .0, at-put .put .kept .0), omega (arith, entry .pre .3, body-short (entry .args .p) (entry .args .table .now) (entry .pre .1)))
 
 put-body-requires : tie.Need-put-body-requires
 put-body-requires c κs =
-    (omega (arith, written-long (c .before .before .before .before .before .before .before .before .before .before .before .args .p) (c .before .before .before .before .before .before .before .before .before .before .before .args .table .now), c .before .before .before .before .before .before .before .before .before .before .before .pre .0, c .before .before .before .before .before .before .before .put .ensures .0, c .before .before .before .before .before .before .before .put .kept .0, c .before .before .before .put2 .ensures .0, c .before .before .before .put2 .kept .0), c .before .before .before .before .before .before .before .before .before .before .before .pre .1, c .before .before .before .before .before .before .before .before .before .before .before .pre .2, c .before .before .before .before .before .before .before .before .before .before .before .pre .4)
+    let at-put2 = c .before .before .before in
+    let at-put = at-put2 .before .before .before .before in
+    let entry = at-put .before .before .before .before in
+    (omega (arith, written-long (entry .args .p) (entry .args .table .now), entry .pre .0, at-put .put .ensures .0, at-put .put .kept .0, at-put2 .put2 .ensures .0, at-put2 .put2 .kept .0), entry .pre .1, entry .pre .2, entry .pre .4)
 
 same-length : tie.Need-same-length
 same-length c = search needs
 
 returns : tie.Need-returns
 returns c =
-    let a = c .before .before .before .before .before .before .before .before .before .before .before .before .before .before .args in
-    let p1 = put-field (put-start (a .out .now) 0) 1 1 (c .before .before .before .before .before .before .before .before .before .before .put .ensures .0) (c .before .before .before .before .before .before .before .before .before .before .put .ensures .1) in
-    let p2 = put-field p1 4 (a .follows) (c .before .before .before .before .before .before .put2 .ensures .0) (c .before .before .before .before .before .before .put2 .ensures .1) in
-    let p3 = put-on p2 (body (a .p) (a .table .now)) refl (c .before .before .put-body .ensures) in
-    p3 .stands ∙ ap (sets (a .out .now) 0) (ap (λ n. bytes 1 1 ++ bytes 4 n ++ body (a .p) (a .table .now)) (c .before .before .before .before .before .before .before .before .before .before .before .before .before .before .pre .3) ∙ written-of (a .p) (a .table .now))
+    let at-put-body = c .before .before in
+    let at-put2 = at-put-body .before .before .before .before in
+    let at-put = at-put2 .before .before .before .before in
+    let entry = at-put .before .before .before .before in
+    let a = entry .args in
+    let p1 = put-field (put-start (a .out .now) 0) 1 1 (at-put .put .ensures .0) (at-put .put .ensures .1) in
+    let p2 = put-field p1 4 (a .follows) (at-put2 .put2 .ensures .0) (at-put2 .put2 .ensures .1) in
+    let p3 = put-on p2 (body (a .p) (a .table .now)) refl (at-put-body .put-body .ensures) in
+    p3 .stands ∙ ap (sets (a .out .now) 0) (ap (λ n. bytes 1 1 ++ bytes 4 n ++ body (a .p) (a .table .now)) (entry .pre .3) ∙ written-of (a .p) (a .table .now))
 
 pub put-file-spec : {M : Type 1} → statement M
 put-file-spec =

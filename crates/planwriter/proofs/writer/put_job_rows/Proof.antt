@@ -32,10 +32,13 @@ shared-slice-read-put-place c = search needs
 
 put-place-requires : tie.Need-put-place-requires Inv-loop μ-loop
 put-place-requires c κs =
-    let l = c .before .before .before .loop in
-    let a = c .before .before .before .before .before .before .args in
-    let pre = c .before .before .before .before .before .before .pre in
-    (omega (arith, pre .0, l .inv .1 .ends, put-length (l .inv .1), rows-fit mostIntervals (a .name ∷ []) (a .row .now) (l .j) (c .before .before .loop-test .taken)), omega (arith, pre .1))
+    let at-loop-test = c .before .before in
+    let at-loop = at-loop-test .before in
+    let entry = at-loop .before .before .before in
+    let l = at-loop .loop in
+    let a = entry .args in
+    let pre = entry .pre in
+    (omega (arith, pre .0, l .inv .1 .ends, put-length (l .inv .1), rows-fit mostIntervals (a .name ∷ []) (a .row .now) (l .j) (at-loop-test .loop-test .taken)), omega (arith, pre .1))
 
 add-j : tie.Need-add-j Inv-loop μ-loop
 add-j c = search needs
@@ -45,11 +48,15 @@ loop-less c = search needs
 
 loop-again : tie.Need-loop-again Inv-loop μ-loop
 loop-again c =
-    let l = c .before .before .before .before .before .before .loop in
-    let a = c .before .before .before .before .before .before .before .before .before .args in
-    let put = c .before .before .put-place .ensures in (
+    let at-put-place = c .before .before in
+    let at-loop-test = at-put-place .before .before .before in
+    let at-loop = at-loop-test .before in
+    let entry = at-loop .before .before .before in
+    let l = at-loop .loop in
+    let a = entry .args in
+    let put = at-put-place .put-place .ensures in (
       omega arith,
-      rw (← (rows-next mostIntervals (a .name ∷ []) (a .row .now) (l .j) (c .before .before .before .before .before .loop-test .taken)))
+      rw (← (rows-next mostIntervals (a .name ∷ []) (a .row .now) (l .j) (at-loop-test .loop-test .taken)))
           (put-on (l .inv .1) (rowAt mostIntervals (a .name ∷ []) (l .j) (getD (a .row .now) (l .j) 0)) (put .0) (put .1)),
     )
 

@@ -30,9 +30,11 @@ element-copy-out-job c = omega (arith, c .before .before .before .pre .1)
 
 put-job-requires : tie.Need-put-job-requires Inv-loop μ-loop
 put-job-requires c κs =
-    let l = c .before .before .before .loop in
-    let p = c .before .before .before .before .before .args .t3 in
-    (omega (arith, c .before .before .before .before .before .pre .0, l .inv .1 .ends, jobs-long p (l .i), put-length (l .inv .1)), c .before .before .before .before .before .pre .2 (l .i) (omega arith))
+    let at-loop = c .before .before .before in
+    let entry = at-loop .before .before in
+    let l = at-loop .loop in
+    let p = entry .args .t3 in
+    (omega (arith, entry .pre .0, l .inv .1 .ends, jobs-long p (l .i), put-length (l .inv .1)), entry .pre .2 (l .i) (omega arith))
 
 add-i : tie.Need-add-i Inv-loop μ-loop
 add-i c = search needs
@@ -42,9 +44,12 @@ loop-less c = search needs
 
 loop-again : tie.Need-loop-again Inv-loop μ-loop
 loop-again c =
-    let l = c .before .before .before .before .before .before .loop in
-    let p = c .before .before .before .before .before .before .before .before .args .t3 in
-    let put = c .before .before .put-job .ensures in (
+    let at-put-job = c .before .before in
+    let at-loop = at-put-job .before .before .before .before in
+    let entry = at-loop .before .before in
+    let l = at-loop .loop in
+    let p = entry .args .t3 in
+    let put = at-put-job .put-job .ensures in (
       omega arith,
       rw (← (jobs-next p (l .i))) (put-on (l .inv .1) (jobBytes (jobOf p (l .i))) (rw (job-long (jobOf p (l .i))) (put .0)) (put .1)),
     )

@@ -57,11 +57,14 @@ part-put-job-rows-end c = omega (arith, inside (c .before .before), c .before .b
 
 put-job-rows-requires : tie.Need-put-job-rows-requires Inv-loop μ-loop
 put-job-rows-requires c κs =
-    let l = c .before .before .before .before .loop in
-    let a = c .before .before .before .before .before .before .before .before .args in
-    let pre = c .before .before .before .before .before .before .before .before .pre in
+    let c-3 = c .before .before .before in
+    let at-loop = c-3 .before in
+    let entry = at-loop .before .before .before .before in
+    let l = at-loop .loop in
+    let a = entry .args in
+    let pre = entry .pre in
     let n = mostIntervals * l .i + a .spans - mostIntervals * l .i in
-    (omega (arith, pre .0, l .inv .1 .ends, put-length (l .inv .1), job-rows-fit (a .names .now) (a .table .now) (a .jobs) (a .spans) (pre .4) (l .i) {n = n} (omega arith) (pre .3) (inside (c .before .before .before))), omega (arith, pre .3, length-take n (drop (mostIntervals * l .i) (a .table .now))))
+    (omega (arith, pre .0, l .inv .1 .ends, put-length (l .inv .1), job-rows-fit (a .names .now) (a .table .now) (a .jobs) (a .spans) (pre .4) (l .i) {n = n} (omega arith) (pre .3) (inside (c-3))), omega (arith, pre .3, length-take n (drop (mostIntervals * l .i) (a .table .now))))
 
 add-i : tie.Need-add-i Inv-loop μ-loop
 add-i c = search needs
@@ -71,13 +74,17 @@ loop-less c = search needs
 
 loop-again : tie.Need-loop-again Inv-loop μ-loop
 loop-again c =
-    let l = c .before .before .before .before .before .before .before .loop in
-    let a = c .before .before .before .before .before .before .before .before .before .before .before .args in
-    let pre = c .before .before .before .before .before .before .before .before .before .before .before .pre in
-    let put = c .before .before .put-job-rows .ensures in
+    let at-put-job-rows = c .before .before in
+    let at-loop-test = at-put-job-rows .before .before .before .before in
+    let at-loop = at-loop-test .before in
+    let entry = at-loop .before .before .before .before in
+    let l = at-loop .loop in
+    let a = entry .args in
+    let pre = entry .pre in
+    let put = at-put-job-rows .put-job-rows .ensures in
     let n = mostIntervals * l .i + a .spans - mostIntervals * l .i in (
-      omega (arith, c .before .before .before .before .before .before .loop-test .taken),
-      rw (← (job-rows-next (a .names .now) (a .table .now) (a .jobs) (a .spans) (pre .4) (l .i) {n = n} (omega arith) (pre .3) (inside (c .before .before .before .before .before .before))))
+      omega (arith, at-loop-test .loop-test .taken),
+      rw (← (job-rows-next (a .names .now) (a .table .now) (a .jobs) (a .spans) (pre .4) (l .i) {n = n} (omega arith) (pre .3) (inside (at-loop-test))))
           (put-on (l .inv .1) (rowsBytes mostIntervals (getD (a .names .now) (l .i) 0 ∷ []) 0 (take n (drop (mostIntervals * l .i) (a .table .now)))) (put .0) (put .1)),
     )
 
@@ -86,9 +93,11 @@ same-length c = put-length (c .before .loop .inv .1)
 
 returns : tie.Need-returns Inv-loop μ-loop
 returns c =
-    let l = c .before .loop in
-    let a = c .before .before .before .before .before .args in
-    let pre = c .before .before .before .before .before .pre in
+    let at-loop = c .before in
+    let entry = at-loop .before .before .before .before in
+    let l = at-loop .loop in
+    let a = entry .args in
+    let pre = entry .pre in
     let whole : l .i ≡ a .jobs = omega (arith, c .loop-test .left, l .inv .0) in
     (rw whole at (l .inv .1)) .stands
     ∙ ap (sets (a .out .now) (a .at)) (job-rows-all (a .names .now) (a .table .now) (a .jobs) (a .spans) (pre .4) (pre .2))

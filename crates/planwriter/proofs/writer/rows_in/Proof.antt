@@ -31,9 +31,12 @@ row-of-requires c κs = search needs
 
 add-rows : tie.Need-add-rows Inv-loop μ-loop
 add-rows c =
-    let l = c .before .before .before .loop in
-    let t = c .before .before .before .before .before .args .table .now in
-    record { fits = omega (arith, count-next (c .before .before .before .before .before .args .table .now) (l .q) (c .before .before .loop-test .taken) (l .inv .1) (c .row-of .ensures), count-few (take (l .q + 1) t), length-take (l .q + 1) t) }
+    let at-loop-test = c .before .before in
+    let at-loop = at-loop-test .before in
+    let entry = at-loop .before .before in
+    let l = at-loop .loop in
+    let t = entry .args .table .now in
+    record { fits = omega (arith, count-next (entry .args .table .now) (l .q) (at-loop-test .loop-test .taken) (l .inv .1) (c .row-of .ensures), count-few (take (l .q + 1) t), length-take (l .q + 1) t) }
 
 add-q : tie.Need-add-q Inv-loop μ-loop
 add-q c = search needs
@@ -43,8 +46,11 @@ loop-less c = search needs
 
 loop-again : tie.Need-loop-again Inv-loop μ-loop
 loop-again c =
-    let l = c .before .before .before .loop in
-    (omega arith, count-next (c .before .before .before .before .before .args .table .now) (l .q) (c .before .before .loop-test .taken) (l .inv .1) (c .row-of .ensures))
+    let at-loop-test = c .before .before in
+    let at-loop = at-loop-test .before in
+    let entry = at-loop .before .before in
+    let l = at-loop .loop in
+    (omega arith, count-next (entry .args .table .now) (l .q) (at-loop-test .loop-test .taken) (l .inv .1) (c .row-of .ensures))
 
 cast-result : tie.Need-cast-result Inv-loop μ-loop
 cast-result c =

@@ -29,21 +29,30 @@ sound-here : (c : tie.Else2) → sound (c .before .before .before .before .befor
 sound-here c = held (tested (c .before)) (c .if2 .left)
 
 writable-here : (c : tie.Else2) → Writable (c .before .before .before .before .before .before .args .p) (take places (c .before .before .before .before .before .before .args .table .now))
-writable-here c = writable (c .before .before .before .before .before .before .args .p) (c .before .before .before .before .before .before .args .table .now) (sound-here c) (c .before .before .before .if1 .left)
+writable-here c =
+    let at-if1 = c .before .before .before in
+    let entry = at-if1 .before .before .before in
+    writable (entry .args .p) (entry .args .table .now) (sound-here c) (at-if1 .if1 .left)
 
 -- The lengths that the code computes are those of the body and of the file.
 follows-here : (c : tie.After-struct-known)
     → 5 + c .before .before .before .before .before .before .before .before .before .args .p .count * (1 + jobLength) + 2 + c .before .rows-in .result * (1 + rowLength) ≡ length (body (c .before .before .before .before .before .before .before .before .before .args .p) (take places (c .before .before .before .before .before .before .before .before .before .args .table .now)))
 follows-here c =
-    rw (c .before .rows-in .ensures) (sym (body-long (c .before .before .before .before .before .before .before .before .before .args .p) (take places (c .before .before .before .before .before .before .before .before .before .args .table .now)) (writable-here (c .before .before .before) .few)))
+    let at-rows-in = c .before in
+    let c-3 = at-rows-in .before .before in
+    let entry = c-3 .before .before .before .before .before .before in
+    rw (at-rows-in .rows-in .ensures) (sym (body-long (entry .args .p) (take places (entry .args .table .now)) (writable-here (c-3) .few)))
 
 exact : (c : tie.After-struct-known)
     → length (written (c .before .before .before .before .before .before .before .before .before .args .p) (take places (c .before .before .before .before .before .before .before .before .before .args .table .now))) ≡ 5 + (5 + c .before .before .before .before .before .before .before .before .before .args .p .count * (1 + jobLength) + 2 + c .before .rows-in .result * (1 + rowLength))
-exact c = written-long (c .before .before .before .before .before .before .before .before .before .args .p) (take places (c .before .before .before .before .before .before .before .before .before .args .table .now)) ∙ omega (arith, follows-here c)
+exact c =
+    let entry = c .before .before .before .before .before .before .before .before .before in
+    written-long (entry .args .p) (take places (entry .args .table .now)) ∙ omega (arith, follows-here c)
 
 returns : tie.Need-returns
 returns c =
-    writer-short (c .before .before .before .args .p) (c .before .before .before .args .table .now) (c .before .before .before .args .out .now) (c .if1 .taken)
+    let entry = c .before .before .before in
+    writer-short (entry .args .p) (entry .args .table .now) (entry .args .out .now) (c .if1 .taken)
 
 intervals-of-requires : tie.Need-intervals-of-requires
 intervals-of-requires c κs = search needs
@@ -53,7 +62,10 @@ sound-of-requires c κs = search needs
 
 returns-2 : tie.Need-returns-2
 returns-2 c =
-    writer-unsound (c .before .before .before .before .before .before .args .p) (c .before .before .before .before .before .before .args .table .now) (c .before .before .before .before .before .before .args .out .now) (c .before .before .before .if1 .left) (failed (tested (c .before)) (c .if2 .taken))
+    let c-1 = c .before in
+    let at-if1 = c-1 .before .before in
+    let entry = at-if1 .before .before .before in
+    writer-unsound (entry .args .p) (entry .args .table .now) (entry .args .out .now) (at-if1 .if1 .left) (failed (tested (c-1)) (c .if2 .taken))
 
 slice-aggregate-rows-in : tie.Need-slice-aggregate-rows-in
 slice-aggregate-rows-in c =
@@ -94,7 +106,11 @@ add-length c =
 
 returns-3 : tie.Need-returns-3
 returns-3 c =
-    writer-tight (c .before .before .before .before .before .before .before .before .before .before .args .p) (c .before .before .before .before .before .before .before .before .before .before .args .table .now) (c .before .before .before .before .before .before .before .before .before .before .args .out .now) (c .before .before .before .before .before .before .before .if1 .left) (sound-here (c .before .before .before .before)) (omega (arith, exact (c .before), c .if3 .taken))
+    let c-1 = c .before in
+    let c-4 = c-1 .before .before .before in
+    let at-if1 = c-4 .before .before .before in
+    let entry = at-if1 .before .before .before in
+    writer-tight (entry .args .p) (entry .args .table .now) (entry .args .out .now) (at-if1 .if1 .left) (sound-here (c-4)) (omega (arith, exact (c-1), c .if3 .taken))
 
 slice-aggregate-put-file : tie.Need-slice-aggregate-put-file
 slice-aggregate-put-file c =
@@ -102,14 +118,25 @@ slice-aggregate-put-file c =
 
 put-file-requires : tie.Need-put-file-requires
 put-file-requires c κs =
-    (omega (arith, exact (c .before .before .before), c .before .before .if3 .left), writable-here (c .before .before .before .before .before .before), c .before .before .before .before .rows-in .ensures, omega (arith, follows-here (c .before .before .before)), c .before .before .before .before .before .before .before .before .intervals-of .ensures)
+    let at-if3 = c .before .before in
+    let c-3 = at-if3 .before in
+    let at-rows-in = c-3 .before in
+    let c-6 = at-rows-in .before .before in
+    let at-intervals-of = c-6 .before .before in
+    (omega (arith, exact (c-3), at-if3 .if3 .left), writable-here (c-6), at-rows-in .rows-in .ensures, omega (arith, follows-here (c-3)), at-intervals-of .intervals-of .ensures)
 
 same-length : tie.Need-same-length
 same-length c = search needs
 
 returns-4 : tie.Need-returns-4
 returns-4 c =
-    writer-whole (c .before .before .before .before .before .before .before .before .before .before .before .before .before .before .before .args .p) (c .before .before .before .before .before .before .before .before .before .before .before .before .before .before .before .args .table .now) (c .before .before .before .before .before .before .before .before .before .before .before .before .before .before .before .args .out .now) (c .before .before .before .before .before .before .before .before .before .before .before .before .if1 .left) (sound-here (c .before .before .before .before .before .before .before .before .before)) (sym (exact (c .before .before .before .before .before .before))) (c .before .before .before .before .before .if3 .left) (c .before .before .put-file .ensures)
+    let at-put-file = c .before .before in
+    let at-if3 = at-put-file .before .before .before in
+    let c-6 = at-if3 .before in
+    let c-9 = c-6 .before .before .before in
+    let at-if1 = c-9 .before .before .before in
+    let entry = at-if1 .before .before .before in
+    writer-whole (entry .args .p) (entry .args .table .now) (entry .args .out .now) (at-if1 .if1 .left) (sound-here (c-9)) (sym (exact (c-6))) (at-if3 .if3 .left) (at-put-file .put-file .ensures)
 
 pub write-spec : {M : Type 1} → statement M
 write-spec =

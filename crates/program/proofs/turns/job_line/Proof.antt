@@ -35,10 +35,17 @@ same-length c = search needs
 
 returns-2 : tie.Need-returns-2
 returns-2 c =
-    let a = c .before .before .before .before .before .before .before .before .before .before .args in
-    (rw (c .before .before .before .before .before .name-of .ensures, c .before .before .before .before .before .before .before .before .outcome .ensures, c .before .before .before .before .carried-of .ensures) at (c .before .before .outcome-line .ensures))
+    let at-outcome-line = c .before .before in
+    let at-carried-of = at-outcome-line .before .before in
+    let at-name-of = at-carried-of .before in
+    let at-if1 = at-name-of .before in
+    let at-is-refused = at-if1 .before in
+    let at-outcome = at-is-refused .before in
+    let entry = at-outcome .before .before in
+    let a = entry .args in
+    (rw (at-name-of .name-of .ensures, at-outcome .outcome .ensures, at-carried-of .carried-of .ensures) at (at-outcome-line .outcome-line .ensures))
     ∙ told-some (outcome (a .p) (a .run) (a .i)) (name (a .p) (a .i)) (carriedOf (a .run) (a .i)) (a .out .now)
-    (ap isRefused (sym (c .before .before .before .before .before .before .before .before .outcome .ensures)) ∙ sym (c .before .before .before .before .before .before .before .is-refused .ensures) ∙ c .before .before .before .before .before .before .if1 .left)
+    (ap isRefused (sym (at-outcome .outcome .ensures)) ∙ sym (at-is-refused .is-refused .ensures) ∙ at-if1 .if1 .left)
 
 pub job-line-spec : {M : Type 1} → statement M
 job-line-spec =
