@@ -79,7 +79,7 @@ module _ (p : Plan) (table : List ℕ)
       (λ q. omega (arith, ap (units table i) q, nothing-after i m b h d))))
 
   -- The demand up to a boundary that is no HI deadline is at most that up to the boundary before it.
-  demand-less : (l m : ℕ) → suc m ≤ intervals p → isHiDeadline p (boundary p (suc m)) ≡ false
+  pub demand-less : (l m : ℕ) → suc m ≤ intervals p → isHiDeadline p (boundary p (suc m)) ≡ false
       → demand p table l (boundary p (suc m)) ≤ demand p table l (boundary p m)
   demand-less l m h none =
       sum-mono _ _ (counted p)
@@ -93,7 +93,7 @@ module _ (p : Plan) (table : List ℕ)
       rw (parts .0, le-leb (deadline p i) (boundary p m) early) (between-less l m i b h early)))
 
   -- The demand from an interval to its own start is 0.
-  demand-none : (l : ℕ) → l < length (boundaries p) → demand p table l (boundary p l) ≡ 0
+  pub demand-none : (l : ℕ) → l < length (boundaries p) → demand p table l (boundary p l) ≡ 0
   demand-none l b =
       sym (demand-is p table l (boundary p l) l (end-by-boundary p l b))
       ∙ sum-of-none (λ i. isHi p i && leb (deadline p i) (boundary p l)) (λ i. strided table (mostIntervals * i + l) 1) (l - l) (counted p) (omega arith)

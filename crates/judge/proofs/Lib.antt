@@ -7,9 +7,11 @@ pub mod RefusedFigure
 pub mod HiDeadlinesSuffice
 pub mod Exact
 pub mod FirstLocation
+pub mod AllBoundaries
 pub mod FloorAlone
 pub mod LeastSlack
 pub mod NegativeSlack
+pub mod NoneEssential
 pub mod Injective
 pub mod Columns
 pub mod FloorPass

@@ -3,4 +3,5 @@ pub mod Verdict
 pub mod Slack
 pub mod Answers
 pub mod Decided
+pub mod AllBoundaries
 pub mod inner

@@ -68,7 +68,7 @@ unfolding tableOf sum Below.every nameAllowed namesHold namesDiffer gradesHold b
 figure-2-fails-in-P3 a = false≢true (ap isNone (judge-is-exact (planWith (P3 .jobs)) (tableOf (P3 .rows)) .1 (lit≤ tt, refl, a)))
 
 -- What the reader leaves for a file that it accepts.
-taken-is : (file table : List ℕ) → reader file table .answer ≡ []
+pub taken-is : (file table : List ℕ) → reader file table .answer ≡ []
     → (contents : Contents) × (end : ℕ) × (readFile file ≡ got contents end) × (places ≤ length table) × (reader file table ≡ leaves (got contents end) table)
 unfolding reader
 taken-is file table e = by (ltb (length table) places) refl (readFile file) refl e
@@ -110,7 +110,7 @@ taken-exactly file table octets long = (
 )
 
 -- What the writer leaves for a sound plan, if the buffers are long enough.
-sound-writer : (p : Plan) (table out : List ℕ) → sound p table ≡ true → places ≤ length table → length (written p (take places table)) ≤ length out
+pub sound-writer : (p : Plan) (table out : List ℕ) → sound p table ≡ true → places ≤ length table → length (written p (take places table)) ≤ length out
     → _≡_ {A = WriteEffect} (writer p table out)
     (record {
       answer = wrote (length (written p (take places table)));

@@ -1,5 +1,6 @@
 pub mod Cases
 pub mod WrongVariants
+pub mod VerdictInstances
 pub mod FloorTail
 pub mod SlotInvariants
 pub mod SameSlot
@@ -9,10 +10,16 @@ pub mod SameLine
 pub mod CallAsSlot
 pub mod NightInvariant
 pub mod Strategy
+pub mod Progress
 pub mod RefusalNumbers
 pub mod Hosts
 pub mod Demand2
 pub mod RefusalEffects
 pub mod Determined
+pub mod LargestFile
 pub mod Demand3
+pub mod OutcomesKept
+pub mod NightsOfE
+pub mod FoldedNames
+pub mod PromiseLimits
 pub mod AllDemands

@@ -220,6 +220,14 @@ module _ (p : Plan) (table : List ℕ) (rules : Bounded p) (accepted : Figure2 p
           go [] e = holds-done c earlier h f is e
           go (number ∷ rest) e = holds-refused c earlier (ap (λ s. isDone (s .answer)) (is ∙ ap (λ r. slotBy r p table (runAfter p earlier) (c .speed) (c .row)) e)) h
 
+  -- What the run carries for a job is what the job has had: the sum of its grants.
+  pub carried-is-had : (night : List Call) → Allowed p table night → (i : ℕ) → i < counted p → carriedOf (runAfter p night) i ≡ had p night i
+  carried-is-had night a = holds night a .counts
+
+  -- The run's slow mark is set if some slot was slow, and otherwise not.
+  pub mark-is-slowed : (night : List Call) → Allowed p table night → runAfter p night .slow ≡ slowed p night
+  mark-is-slowed night a = holds night a .mark
+
   pub kept : (night : List Call) → Allowed p table night → Kept p night
   kept night a =
       let h = holds night a in

@@ -1,12 +1,14 @@
 -- Wrong variants: each shortcut as a definition, and what it loses
 -- or lets pass on one of the cases' plans.
-use mathlib.Core.Path.{_≡_, refl}
-use mathlib.Core.Bool.{Bool, not, cond, _&&_}
+use mathlib.Core.Path.{_≡_, refl, ap, ap₂}
+use mathlib.Core.Logic.{_⊎_, inl, inr}
+use mathlib.Core.Bool.{Bool, true, not, cond, _&&_}
 use mathlib.Core.List.{List, [], _∷_, _++_}
-use Prim.Native.Nat.{ℕ, zero, suc, _+_, _*_, _/_, _%_, _<_}
-use lib.Dec.{leb, ltb, eqb, lit<}
+use Prim.Native.Nat.{ℕ, zero, suc, _+_, _*_, _/_, _%_, _≤_, _<_}
+use native.Mathlib.Omega.{arith}
+use lib.Dec.{leb, ltb, eqb, lit<, lit≤}
 use lib.IntN.{pos, negsuc}
-use lib.ListN.{replicate}
+use lib.ListN.{getD, drop, replicate}
 use Rattle.base.specs.Sum.{sum, on}
 use Rattle.base.specs.Below
 use Rattle.plan.specs.Edition.{nameBytes}
@@ -20,11 +22,12 @@ use Rattle.judge.specs.Verdict.{outsideFault, totalFault, capacityFault, isHiDe
 use Rattle.plan.specs.Report.{Report, orElse, fault, first}
 use Rattle.judge.specs.Slack.{Figure, least, through, leastSlack, slackFigure}
 use Rattle.dispatch.specs.declared.Run.{Run}
-use Rattle.dispatch.specs.Dues.{carriedOf, live, slowAfter, belowAfter, due}
+use Rattle.dispatch.specs.Dues.{live, slowAfter, belowAfter, due}
 use Rattle.dispatch.specs.Order.{enqueue, order, serve}
 use Rattle.dispatch.specs.Order
-use Rattle.dispatch.specs.Step.{started, added}
+use Rattle.dispatch.specs.Step.{SlotEffect, started, slotSound, slotFault, granted, added, advanced, slotBy, stepped}
 use Rattle.planfile.specs.Reader.{position}
+use Rattle.promises.specs.Night.{Call, runAfter, isDone, had, nightAt, Between}
 use Rattle.promises.proofs.Cases.{Case, planWith, tableOf, P1, P3, P8, P9, capitalMirror, smallMirror}
 
 -- An order of service: the positions served at a time, by the slow mark. The wrong dispatchers
@@ -36,31 +39,78 @@ ServiceOrder = Plan → ℕ → Bool → List ℕ
 abbrev pub Dues : Type 0
 Dues = Plan → List ℕ → Run → Bool → ℕ → ℕ
 
--- A slot with this order and these dues.
-abbrev pub slotBy : ServiceOrder → Dues → Plan → List ℕ → Run → ℕ → Run
-slotBy order dues p table run v =
+-- A step: the effect of a slot's call, right or wrong.
+abbrev pub Stepping : Type 0
+Stepping = Plan → List ℕ → Run → ℕ → List ℕ → SlotEffect
+
+-- The effect of a slot's call with this order and these dues, by the refusal found.
+abbrev effectBy : Report → ServiceOrder → Dues → Stepping
+effectBy [] order dues p table run v row =
+    let grants = serve (dues p table run (slowAfter p run v)) v (order p (run .clock .0) (slowAfter p run v)) (replicate (counted p) 0 ++ drop (counted p) row) in
     record {
-      clock = record { 0 = run .clock .0 + 1 };
-      slow = slowAfter p run v;
-      below = belowAfter p run v;
-      carried =
-          added (counted p) (run .carried)
-          (serve (dues p table run (slowAfter p run v)) v (order p (run .clock .0) (slowAfter p run v)) (replicate (counted p) 0));
+      answer = [];
+      run =
+          record {
+            clock = record { 0 = run .clock .0 + 1 };
+            slow = slowAfter p run v;
+            below = belowAfter p run v;
+            carried = added (counted p) (run .carried) grants;
+          };
+      grants = grants;
     }
+effectBy (number ∷ rest) order dues p table run v row = record { answer = number ∷ rest; run = run; grants = row }
 
--- The run after slots with this order and these dues.
-unfoldable pub runBy : ServiceOrder → Dues → Plan → List ℕ → Run → List ℕ → Run
-runBy order dues p table run [] = run
-runBy order dues p table run (v ∷ rest) = runBy order dues p table (slotBy order dues p table run v) rest
+-- The step with this order and these dues. It refuses what the step refuses.
+abbrev pub steppedBy : ServiceOrder → Dues → Stepping
+steppedBy order dues p table run v row = effectBy (slotFault p table run v row) order dues p table run v row
 
--- The units carried for job i of a case after slots at the given speeds.
-abbrev pub hasBy : ServiceOrder → Dues → Case → List ℕ → ℕ → ℕ
-hasBy order dues c speeds i =
-    carriedOf (runBy order dues (planWith (c .jobs)) (tableOf (c .rows)) (started (planWith (c .jobs))) speeds) i
+-- With the right order and the right dues it is the step.
+pub right-parts-are-the-step : (p : Plan) (table : List ℕ) (run : Run) (v : ℕ) (row : List ℕ)
+    → steppedBy order due p table run v row ≡ stepped p table run v row
+unfolding stepped advanced granted
+right-parts-are-the-step p table run v row = go (slotFault p table run v row)
+  where
+    go : (r : Report) → effectBy r order due p table run v row ≡ slotBy r p table run v row
+    go [] = refl
+    go (number ∷ rest) = refl
 
--- Job i of a case has less than its size after slots at the given speeds.
-abbrev pub Short : ServiceOrder → Dues → Case → List ℕ → ℕ → Type 0
-Short order dues c speeds i = hasBy order dues c speeds i < size (planWith (c .jobs)) i
+-- The run after a night, and what job i has had in it, by a step.
+unfoldable pub runBy : Stepping → Plan → List Call → Run
+runBy step p [] = started p
+runBy step p (c ∷ earlier) = step (c .plan) (c .table) (runBy step p earlier) (c .speed) (c .row) .run
+
+unfoldable pub hadBy : Stepping → Plan → List Call → ℕ → ℕ
+hadBy step p [] i = 0
+hadBy step p (c ∷ earlier) i =
+    let effect = step (c .plan) (c .table) (runBy step p earlier) (c .speed) (c .row) in
+    hadBy step p earlier i + on (isDone (effect .answer)) (getD (effect .grants) i 0)
+
+-- By the step itself they are those of demand 3.
+pub run-by-step : (p : Plan) (night : List Call) → runBy stepped p night ≡ runAfter p night
+unfolding runBy runAfter
+run-by-step p [] = refl
+run-by-step p (c ∷ earlier) = ap (λ run. stepped (c .plan) (c .table) run (c .speed) (c .row) .run) (run-by-step p earlier)
+
+pub had-by-step : (p : Plan) (night : List Call) (i : ℕ) → hadBy stepped p night i ≡ had p night i
+unfolding hadBy had
+had-by-step p [] i = refl
+had-by-step p (c ∷ earlier) i =
+    ap₂ (λ before run.
+    before + on (isDone (stepped (c .plan) (c .table) run (c .speed) (c .row) .answer)) (getD (stepped (c .plan) (c .table) run (c .speed) (c .row) .grants) i 0))
+    (had-by-step p earlier i) (run-by-step p earlier)
+
+-- Job i is lost, by a step, at the given speeds, the latest first: its size is promised, since it is
+-- HI and the speeds lie from floor to normal, or since all of them are normal; its deadline has
+-- come; and it has had less than its size.
+pub record Lost (step : Stepping) (p : Plan) (table : List ℕ) (speeds : List ℕ) (i : ℕ) : Type 0 where
+  pub a-job : i < counted p
+  pub owed : (Between (p .d .0) (p .n .0) speeds × (isHi p i ≡ true)) ⊎ Between (p .n .0) (p .n .0) speeds
+  pub come : deadline p i ≤ runBy step p (nightAt p table speeds) .clock .0
+  pub short : hadBy step p (nightAt p table speeds) i < size p i
+
+-- The same for a case.
+abbrev pub LostIn : Stepping → Case → List ℕ → ℕ → Type 0
+LostIn step c speeds i = Lost step (planWith (c .jobs)) (tableOf (c .rows)) speeds i
 
 -- The live LO jobs first, and then the live HI jobs.
 abbrev pub loFirst : ServiceOrder
@@ -69,9 +119,9 @@ loFirst p t slow =
     ++ Order.queue (λ i. live p t i && isHi p i) (deadline p) (counted p)
 
 -- With it plan E loses `mirror-A` if the link drops to the floor after three slots.
-pub lo-first-loses : Short loFirst due P1 (2 ∷ 2 ∷ 2 ∷ 1 ∷ 1 ∷ 1 ∷ 1 ∷ 1 ∷ 1 ∷ 1 ∷ []) 1
-unfolding runBy tableOf started added serve enqueue Order.queue sum Below.least insert boundariesTo come
-lo-first-loses = lit< tt
+pub lo-first-loses : LostIn (steppedBy loFirst due) P1 (1 ∷ 1 ∷ 1 ∷ 1 ∷ 1 ∷ 1 ∷ 1 ∷ 2 ∷ 2 ∷ 2 ∷ []) 1
+unfolding runBy hadBy tableOf sum Below.every Below.least Below.greatest gradesHold boundsHold insert boundariesTo come started slotSound slotFault granted order Order.queue enqueue serve added advanced stepped
+lo-first-loses = record { a-job = lit< tt; owed = inl (omega arith, refl); come = lit≤ tt; short = lit< tt }
 
 -- HI before LO, but each grade in table order.
 abbrev pub tableOrder : ServiceOrder
@@ -80,9 +130,9 @@ tableOrder p t slow =
     ++ Order.queue (λ i. live p t i && not (isHi p i) && not slow) (λ _. 0) (counted p)
 
 -- With it P9 loses A, at speeds from floor to normal.
-pub table-order-loses : Short tableOrder due P9 (2 ∷ 1 ∷ []) 1
-unfolding runBy tableOf started added serve enqueue Order.queue sum Below.least insert boundariesTo come
-table-order-loses = lit< tt
+pub table-order-loses : LostIn (steppedBy tableOrder due) P9 (1 ∷ 2 ∷ []) 1
+unfolding runBy hadBy tableOf sum Below.every Below.least Below.greatest gradesHold boundsHold insert boundariesTo come started slotSound slotFault granted order Order.queue enqueue serve added advanced stepped
+table-order-loses = record { a-job = lit< tt; owed = inl (omega arith, refl); come = lit≤ tt; short = lit< tt }
 
 -- The floor rule at the first interval only.
 abbrev pub judgedAtStart : Plan → List ℕ → Report
@@ -103,16 +153,16 @@ unfolding tableOf sum Below.every insert boundariesTo first outsideFault totalFa
 at-start-passes = refl
 
 -- The right dispatcher then loses `mirror-A` if the link drops at the start of interval 2.
-pub at-start-loses : Short order due P3 (2 ∷ 2 ∷ 2 ∷ 2 ∷ 2 ∷ 1 ∷ 1 ∷ 1 ∷ 1 ∷ 1 ∷ []) 1
-unfolding runBy tableOf started added serve order enqueue Order.queue sum Below.least insert boundariesTo come
-at-start-loses = lit< tt
+pub at-start-loses : LostIn stepped P3 (1 ∷ 1 ∷ 1 ∷ 1 ∷ 1 ∷ 2 ∷ 2 ∷ 2 ∷ 2 ∷ 2 ∷ []) 1
+unfolding runBy hadBy tableOf sum Below.every Below.least Below.greatest gradesHold boundsHold insert boundariesTo come started slotSound slotFault granted order Order.queue enqueue serve added advanced stepped
+at-start-loses = record { a-job = lit< tt; owed = inl (omega arith, refl); come = lit≤ tt; short = lit< tt }
 
 -- A judge that accepts everything.
 abbrev pub acceptsAll : Plan → List ℕ → Report
 acceptsAll p table = []
 
 -- It accepts P3 too, and `mirror-A` is lost as above.
-pub accepts-all-loses : (acceptsAll (planWith (P3 .jobs)) (tableOf (P3 .rows)) ≡ []) × Short order due P3 (2 ∷ 2 ∷ 2 ∷ 2 ∷ 2 ∷ 1 ∷ 1 ∷ 1 ∷ 1 ∷ 1 ∷ []) 1
+pub accepts-all-loses : (acceptsAll (planWith (P3 .jobs)) (tableOf (P3 .rows)) ≡ []) × LostIn stepped P3 (1 ∷ 1 ∷ 1 ∷ 1 ∷ 1 ∷ 2 ∷ 2 ∷ 2 ∷ 2 ∷ 2 ∷ []) 1
 accepts-all-loses = (refl, at-start-loses)
 
 -- A judge that refuses everything as unsound.
@@ -143,27 +193,27 @@ unfolding tableOf sum Below.every insert boundariesTo first totalFault capacityF
 by-job-passes = refl
 
 -- The first job of P8 then lacks units at its deadline, although the link never slowed.
-pub by-job-loses : Short order due P8 (2 ∷ 2 ∷ 2 ∷ 2 ∷ 2 ∷ []) 0
-unfolding runBy tableOf started added serve order enqueue Order.queue sum Below.least insert boundariesTo come
-by-job-loses = lit< tt
+pub by-job-loses : LostIn stepped P8 (2 ∷ 2 ∷ 2 ∷ 2 ∷ 2 ∷ []) 0
+unfolding runBy hadBy tableOf sum Below.every Below.least Below.greatest gradesHold boundsHold insert boundariesTo come started slotSound slotFault granted order Order.queue enqueue serve added advanced stepped
+by-job-loses = record { a-job = lit< tt; owed = inr (omega arith); come = lit≤ tt; short = lit< tt }
 
 -- A dispatcher that grants nothing.
 abbrev pub nothingDue : Dues
 nothingDue p table run slow i = 0
 
 -- With it plan E loses `mirror-A` at the normal rate.
-pub nothing-granted-loses : Short order nothingDue P1 (2 ∷ 2 ∷ 2 ∷ 2 ∷ 2 ∷ 2 ∷ 2 ∷ 2 ∷ 2 ∷ 2 ∷ []) 1
-unfolding runBy tableOf started added serve order enqueue Order.queue sum Below.least insert boundariesTo come
-nothing-granted-loses = lit< tt
+pub nothing-granted-loses : LostIn (steppedBy order nothingDue) P1 (2 ∷ 2 ∷ 2 ∷ 2 ∷ 2 ∷ 2 ∷ 2 ∷ 2 ∷ 2 ∷ 2 ∷ []) 1
+unfolding runBy hadBy tableOf sum Below.every Below.least Below.greatest gradesHold boundsHold insert boundariesTo come started slotSound slotFault granted order Order.queue enqueue serve added advanced stepped
+nothing-granted-loses = record { a-job = lit< tt; owed = inr (omega arith); come = lit≤ tt; short = lit< tt }
 
 -- A dispatcher that grants only in its first slot, and then only advances the clock.
 abbrev pub firstSlotOnly : Dues
 firstSlotOnly p table run slow i = on (eqb (run .clock .0) (firstRelease p)) (due p table run slow i)
 
 -- With it plan E loses `mirror-A` at the normal rate.
-pub first-slot-only-loses : Short order firstSlotOnly P1 (2 ∷ 2 ∷ 2 ∷ 2 ∷ 2 ∷ 2 ∷ 2 ∷ 2 ∷ 2 ∷ 2 ∷ []) 1
-unfolding runBy tableOf started added serve order enqueue Order.queue sum Below.least insert boundariesTo come
-first-slot-only-loses = lit< tt
+pub first-slot-only-loses : LostIn (steppedBy order firstSlotOnly) P1 (2 ∷ 2 ∷ 2 ∷ 2 ∷ 2 ∷ 2 ∷ 2 ∷ 2 ∷ 2 ∷ 2 ∷ []) 1
+unfolding runBy hadBy tableOf sum Below.every Below.least Below.greatest gradesHold boundsHold insert boundariesTo come started slotSound slotFault granted order Order.queue enqueue serve added advanced stepped
+first-slot-only-loses = record { a-job = lit< tt; owed = inr (omega arith); come = lit≤ tt; short = lit< tt }
 
 -- A name with its upper-case letters made lower-case, byte by byte.
 unfoldable pub folded : ℕ → ℕ → ℕ

@@ -1,20 +1,21 @@
 -- A night: successive calls of the step, what each job has had from them, and what is promised.
 use mathlib.Core.Path.{_≡_}
-use mathlib.Core.Logic.{_⊎_}
+use mathlib.Core.Logic.{_≢_, _⊎_}
 use mathlib.Core.Bool.{Bool, true, false, _&&_, _||_}
 use mathlib.Core.List.{List, [], _∷_}
-use Prim.Native.Nat.{ℕ, _+_, _≤_, _<_}
+use Prim.Native.Nat.{ℕ, suc, _+_, _≤_, _<_}
 use lib.Dec.{ltb}
-use lib.ListN.{getD, replicate}
+use lib.ListN.{length, getD, replicate}
 use Rattle.plan.specs.Kinds.{Amount, Position, Table, Time}
 use Rattle.base.specs.Sum.{sum, on}
 use Rattle.plan.specs.Rules.{counted, size, deadline, isHi}
+use Rattle.plan.specs.Boundaries.{firstRelease}
 use Rattle.plan.specs.Same.{Same}
 use Rattle.plan.specs.declared.kinds.Plan.{Plan}
 use Rattle.plan.specs.Report.{Report}
 use Rattle.dispatch.specs.declared.Run.{Run}
 use Rattle.dispatch.specs.Dues.{live}
-use Rattle.dispatch.specs.Step.{SlotEffect, started, stepped}
+use Rattle.dispatch.specs.Step.{SlotEffect, started, stepped, met, missed, refused, outcome}
 
 -- One slot's call, with any plan, table, speed and grant row.
 pub record Call : Type 0 where
@@ -84,6 +85,27 @@ Allowed p table (c ∷ earlier) =
     × ((isDone (latest p c earlier .answer) ≡ false)
     ⊎ (Same p table (c .plan) (c .table) × (p .d .0 ≤ c .speed) × (c .speed ≤ p .n .0)))
 
+-- A regular call: the accepted plan and table, or the same ones, a speed from floor to normal, and
+-- a grant row with a place for each job.
+pub record Regular (p : Plan) (table : Table) (c : Call) : Type 0 where
+  pub same : Same p table (c .plan) (c .table)
+  pub floor : p .d .0 ≤ c .speed
+  pub normal : c .speed ≤ p .n .0
+  pub room : counted p ≤ length (c .row)
+
+-- A night of refused calls and k regular ones.
+pub data HasRegular (p : Plan) (table : Table) : ℕ → List Call → Type 0 where
+  none-yet : HasRegular p table 0 []
+  then-refused : {k : ℕ} {c : Call} {earlier : List Call} → isDone (latest p c earlier .answer) ≡ false → HasRegular p table k earlier
+      → HasRegular p table k (c ∷ earlier)
+  then-regular : {k : ℕ} {c : Call} {earlier : List Call} → Regular p table c → HasRegular p table k earlier
+      → HasRegular p table (suc k) (c ∷ earlier)
+
+-- The number of slots of a night: its done calls.
+unfoldable pub slots : Plan → List Call → ℕ
+slots p [] = 0
+slots p (c ∷ earlier) = slots p earlier + on (isDone (latest p c earlier .answer)) 1
+
 -- In every call of a night, what the jobs were given sums to at most its speed.
 unfoldable pub WithinSpeeds : Plan → List Call → Type 0
 WithinSpeeds p [] = Unit {0}
@@ -105,6 +127,19 @@ pub record Kept (p : Plan) (night : List Call) : Type 0 where
   -- No slot's grants sum to more than its speed.
   pub speeds : WithinSpeeds p night
 
+-- What is promised of the outcomes, at every point of a night.
+pub record OutcomesKept (p : Plan) (night : List Call) : Type 0 where
+  -- A HI job whose deadline the clock has reached is met.
+  pub essential-met : (i : ℕ) → i < counted p → isHi p i ≡ true → deadline p i ≤ runAfter p night .clock .0
+      → outcome p (runAfter p night) i ≡ met
+  -- The same for any job, if no slow slot began before its deadline.
+  pub others-met : (i : ℕ) → i < counted p → deadline p i ≤ runAfter p night .clock .0 → slowedBefore p (deadline p i) night ≡ false
+      → outcome p (runAfter p night) i ≡ met
+  -- No job is missed.
+  pub none-missed : (i : ℕ) → outcome p (runAfter p night) i ≢ missed
+  -- No counted job's outcome is refused.
+  pub none-refused : (i number : ℕ) → i < counted p → outcome p (runAfter p night) i ≢ refused number
+
 -- The night of one plan and table at given speeds, the latest first,
 -- with a grant row of zeros for each call.
 abbrev pub nightAt : Plan → Table → List ℕ → List Call
@@ -118,9 +153,10 @@ Between low high (v ∷ speeds) = (low ≤ v) × (v ≤ high) × Between low hig
 
 -- A correct scheduling strategy for a plan, as Baruah and Guo define it (definition 1): if
 -- the speed is always the normal rate, every job has had its size by its deadline; if it is
--- always from floor to normal, every HI job has.
+-- always from floor to normal, every HI job has. By its deadline: in any night of as many slots
+-- as there are from the first release to it, or of more.
 pub record CorrectStrategy (p : Plan) (table : List ℕ) : Type 0 where
   pub normal : (speeds : List ℕ) → Between (p .n .0) (p .n .0) speeds → (i : ℕ) → i < counted p
-      → deadline p i ≤ runAfter p (nightAt p table speeds) .clock .0 → had p (nightAt p table speeds) i ≡ size p i
+      → deadline p i ≤ firstRelease p + length speeds → had p (nightAt p table speeds) i ≡ size p i
   pub degraded : (speeds : List ℕ) → Between (p .d .0) (p .n .0) speeds → (i : ℕ) → i < counted p → isHi p i ≡ true
-      → deadline p i ≤ runAfter p (nightAt p table speeds) .clock .0 → had p (nightAt p table speeds) i ≡ size p i
+      → deadline p i ≤ firstRelease p + length speeds → had p (nightAt p table speeds) i ≡ size p i

@@ -6,3 +6,4 @@ pub mod WriteAfterRead
 pub mod ReadAfterWrite
 pub mod ReadSound
 pub mod NameLookup
+pub mod RowOrder

@@ -1,0 +1,132 @@
+-- Nights of plan E, computed: one with refused calls between its slots, one in which the LO job
+-- is met, and one in which it is discarded.
+use mathlib.Core.Path.{_≡_, refl}
+use mathlib.Core.List.{List, [], _∷_}
+use Prim.Native.Nat.{ℕ, _≤_}
+use native.Mathlib.Omega.{arith}
+use lib.Dec.{lit<, lit≤}
+use Rattle.base.specs.Sum.{sum}
+use Rattle.base.specs.Below
+use Rattle.plan.specs.Refusal.{clockAtEnd, speedAboveNormal, unsound, bufferTooShort}
+use Rattle.plan.specs.Rules.{noPlan, gradesHold, boundsHold}
+use Rattle.plan.specs.Boundaries.{insert, boundariesTo, come}
+use Rattle.plan.specs.declared.kinds.Plan.{Plan}
+use Rattle.plan.specs.Report.{Report}
+use Rattle.dispatch.specs.Order
+use Rattle.dispatch.specs.Step.{met, discarded, started, slotSound, slotFault, granted, added, advanced, stepped, outcome}
+use Rattle.promises.specs.Night.{Call, runAfter, latest, clockAt, had, hadInWindow, Allowed, Regular, HasRegular, none-yet, then-refused, then-regular, Kept, OutcomesKept, nightAt}
+use Rattle.promises.proofs.Cases.{tableOf, planE, tableE}
+use Rattle.promises.proofs.Demand2.{accepted-E}
+use Rattle.promises.proofs.Demand3.{promise-kept, enough-calls-meet}
+use Rattle.promises.proofs.Progress.{regular-allowed}
+use Rattle.promises.proofs.OutcomesKept.{outcomes-kept}
+use Rattle.promises.proofs.SameSlot.{elseE, elseTable, same-E}
+use Rattle.promises.proofs.Strategy.{same-self, night-allowed}
+
+-- The answers of a night's calls, the latest first.
+abbrev answers : Plan → List Call → List Report
+answers p [] = []
+answers p (c ∷ earlier) = latest p c earlier .answer ∷ answers p earlier
+
+-- A call with plan E at a speed.
+abbrev callE : ℕ → Call
+callE v = record { plan = planE; table = tableE; speed = v; row = 0 ∷ 0 ∷ [] }
+
+-- Calls that are refused: an unsound plan, no room for grants, a table that is too short, a speed
+-- above the normal rate.
+abbrev unsoundCall : Call
+unsoundCall = record { plan = noPlan; table = tableE; speed = 1; row = 0 ∷ 0 ∷ [] }
+
+abbrev withoutRoom : Call
+withoutRoom = record { plan = planE; table = tableE; speed = 1; row = 0 ∷ [] }
+
+abbrev withoutTable : Call
+withoutTable = record { plan = planE; table = []; speed = 1; row = 0 ∷ 0 ∷ [] }
+
+-- Plan E as another host holds it, at a speed.
+abbrev elseCall : ℕ → Call
+elseCall v = record { plan = elseE; table = elseTable; speed = v; row = 7 ∷ 7 ∷ 7 ∷ [] }
+
+-- Ten slots of plan E, at speeds 2 2 2 and then 1, with six refused calls before and between them;
+-- two of the slots come from another host. The latest is first.
+abbrev pub interrupted : List Call
+interrupted =
+    callE 1 ∷ callE 1 ∷ callE 1 ∷ withoutTable ∷ elseCall 1 ∷ callE 1 ∷ callE 1 ∷ withoutRoom ∷ unsoundCall
+    ∷ callE 1 ∷ callE 2 ∷ callE 3 ∷ elseCall 2 ∷ unsoundCall ∷ callE 2 ∷ callE 3 ∷ []
+
+-- Which of its calls are refused, and by which number; one more call comes too late.
+pub interrupted-answers : answers planE (callE 1 ∷ interrupted)
+    ≡ (clockAtEnd ∷ []) ∷ [] ∷ [] ∷ [] ∷ (bufferTooShort ∷ []) ∷ [] ∷ [] ∷ [] ∷ (bufferTooShort ∷ []) ∷ (unsound ∷ []) ∷ [] ∷ []
+    ∷ (speedAboveNormal ∷ []) ∷ [] ∷ (unsound ∷ []) ∷ [] ∷ (speedAboveNormal ∷ []) ∷ []
+unfolding tableOf sum Below.every Below.least Below.greatest gradesHold boundsHold insert boundariesTo come runAfter started slotSound slotFault granted Order.order Order.queue Order.enqueue Order.serve added advanced stepped
+interrupted-answers = refl
+
+-- A call with plan E, or with that of the other host, is regular at speeds from floor to normal.
+mine : (v : ℕ) → 1 ≤ v → v ≤ 2 → Regular planE tableE (callE v)
+mine v floor normal = record { same = same-self planE tableE; floor = floor; normal = normal; room = lit≤ tt }
+
+theirs : (v : ℕ) → 1 ≤ v → v ≤ 2 → Regular planE tableE (elseCall v)
+theirs v floor normal = record { same = same-E; floor = floor; normal = normal; room = lit≤ tt }
+
+-- Ten of its calls are regular.
+pub interrupted-regular : HasRegular planE tableE 10 interrupted
+unfolding tableOf sum Below.every Below.least Below.greatest gradesHold boundsHold insert boundariesTo come runAfter started slotSound slotFault granted Order.order Order.queue Order.enqueue Order.serve added advanced stepped
+interrupted-regular =
+    then-regular (mine 1 (lit≤ tt) (lit≤ tt)) (then-regular (mine 1 (lit≤ tt) (lit≤ tt)) (
+    then-regular (mine 1 (lit≤ tt) (lit≤ tt)) (then-refused refl (
+    then-regular (theirs 1 (lit≤ tt) (lit≤ tt)) (then-regular (mine 1 (lit≤ tt) (lit≤ tt)) (
+    then-regular (mine 1 (lit≤ tt) (lit≤ tt)) (then-refused refl (then-refused refl (
+    then-regular (mine 1 (lit≤ tt) (lit≤ tt)) (then-regular (mine 2 (lit≤ tt) (lit≤ tt)) (
+    then-refused refl (then-regular (theirs 2 (lit≤ tt) (lit≤ tt)) (then-refused refl (
+    then-regular (mine 2 (lit≤ tt) (lit≤ tt)) (then-refused refl (none-yet))))))))))))))))
+
+-- So the night is allowed, and `mirror-A` has had its eight units inside its window.
+pub interrupted-allowed : Allowed planE tableE interrupted
+interrupted-allowed = regular-allowed planE tableE accepted-E 10 interrupted interrupted-regular
+
+pub interrupted-meets : (had planE interrupted 1 ≡ 8) × (hadInWindow planE interrupted 1 ≡ 8)
+unfolding Below.least
+interrupted-meets = enough-calls-meet planE tableE accepted-E 10 interrupted interrupted-regular 1 (lit< tt) refl (lit≤ tt)
+
+-- So what is promised holds in it, of grants and of outcomes.
+pub interrupted-kept : Kept planE interrupted × OutcomesKept planE interrupted
+interrupted-kept = (
+  promise-kept planE tableE accepted-E interrupted interrupted-allowed,
+  outcomes-kept planE tableE accepted-E interrupted interrupted-allowed,
+)
+
+-- Its clock stands at the last deadline, and `mirror-A` has had its eight units and is met.
+pub interrupted-ends : (clockAt planE interrupted ≡ 10) × (had planE interrupted 1 ≡ 8) × (outcome planE (runAfter planE interrupted) 1 ≡ met)
+unfolding tableOf sum Below.every Below.least Below.greatest gradesHold boundsHold insert boundariesTo come runAfter started slotSound slotFault granted Order.order Order.queue Order.enqueue Order.serve added advanced stepped had outcome
+interrupted-ends = (refl, refl, refl)
+
+-- Five slots at the normal rate and five at the floor, the latest first: `Mirror-A`, the LO job, has
+-- had its six units by its deadline 5 and is met; so is `mirror-A`.
+abbrev pub slowAfterFive : List Call
+slowAfterFive = nightAt planE tableE (1 ∷ 1 ∷ 1 ∷ 1 ∷ 1 ∷ 2 ∷ 2 ∷ 2 ∷ 2 ∷ 2 ∷ [])
+
+pub other-job-met : (had planE slowAfterFive 0 ≡ 6) × (outcome planE (runAfter planE slowAfterFive) 0 ≡ met) × (had planE slowAfterFive 1 ≡ 8)
+    × (outcome planE (runAfter planE slowAfterFive) 1 ≡ met)
+unfolding tableOf sum Below.every Below.least Below.greatest gradesHold boundsHold insert boundariesTo come runAfter started slotSound slotFault granted Order.order Order.queue Order.enqueue Order.serve added advanced stepped had outcome
+other-job-met = (refl, refl, refl, refl)
+
+-- Three slots at the normal rate and seven at the floor: `Mirror-A` has had two units and is
+-- discarded, and `mirror-A` is met.
+abbrev pub slowAfterThree : List Call
+slowAfterThree = nightAt planE tableE (1 ∷ 1 ∷ 1 ∷ 1 ∷ 1 ∷ 1 ∷ 1 ∷ 2 ∷ 2 ∷ 2 ∷ [])
+
+pub other-job-discarded : (had planE slowAfterThree 0 ≡ 2) × (outcome planE (runAfter planE slowAfterThree) 0 ≡ discarded)
+    × (had planE slowAfterThree 1 ≡ 8) × (outcome planE (runAfter planE slowAfterThree) 1 ≡ met)
+unfolding tableOf sum Below.every Below.least Below.greatest gradesHold boundsHold insert boundariesTo come runAfter started slotSound slotFault granted Order.order Order.queue Order.enqueue Order.serve added advanced stepped had outcome
+other-job-discarded = (refl, refl, refl, refl)
+
+-- Both nights are allowed, so that what is promised of grants and of outcomes holds in them.
+pub slow-nights-kept : Kept planE slowAfterFive × OutcomesKept planE slowAfterFive × Kept planE slowAfterThree × OutcomesKept planE slowAfterThree
+slow-nights-kept =
+    let five = night-allowed planE tableE (1 ∷ 1 ∷ 1 ∷ 1 ∷ 1 ∷ 2 ∷ 2 ∷ 2 ∷ 2 ∷ 2 ∷ []) (omega arith) in
+    let three = night-allowed planE tableE (1 ∷ 1 ∷ 1 ∷ 1 ∷ 1 ∷ 1 ∷ 1 ∷ 2 ∷ 2 ∷ 2 ∷ []) (omega arith) in (
+      promise-kept planE tableE accepted-E slowAfterFive five,
+      outcomes-kept planE tableE accepted-E slowAfterFive five,
+      promise-kept planE tableE accepted-E slowAfterThree three,
+      outcomes-kept planE tableE accepted-E slowAfterThree three,
+    )

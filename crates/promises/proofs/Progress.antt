@@ -1,0 +1,188 @@
+-- Progress: in an allowed night of an accepted plan a regular call is done until the clock
+-- stands at the last deadline, so that enough of them bring every deadline.
+use mathlib.Core.Path.{_≡_, refl, sym, _∙_, ap, ap₂}
+use mathlib.Core.Logic.{inl, inr, ⊎-elim}
+use mathlib.Core.Bool.{Bool, true, false, _&&_, true≢false}
+use mathlib.Core.List.{List, [], _∷_}
+use Prim.Native.Nat.{ℕ, _+_, _≤_, _<_, min}
+use native.Mathlib.Omega.{arith}
+use borrow.Author.Tests.{le-leb, le-ltb, ne-eqb}
+use lib.ListN.{length, replicate, length-replicate}
+use Rattle.base.specs.Sum.{on}
+use Rattle.plan.specs.Edition.{places}
+use Rattle.plan.specs.Rules.{counted, size, deadline, release, ratesHold, countHolds, namesHold, namesDiffer, gradesHold, boundsHold, rulesHold}
+use Rattle.plan.specs.Boundaries.{firstRelease, lastDeadline}
+use Rattle.plan.specs.Table.{sound}
+use Rattle.plan.specs.Same.{Same}
+use Rattle.plan.specs.declared.kinds.Plan.{Plan}
+use Rattle.base.proofs.Below.{every-all, least-lower, greatest-upper}
+use Rattle.base.proofs.Logic.{and-left, and-right, if-true, if-less}
+use Rattle.judge.specs.Verdict.{judged}
+use Rattle.plan.specs.Report.{Report}
+use Rattle.dispatch.specs.declared.Run.{Run}
+use Rattle.dispatch.specs.Dues.{carriedOf}
+use Rattle.dispatch.specs.Step.{started, slotSound, slotFault, advanced, slotBy, stepped}
+use Rattle.promises.specs.Night.{Call, runAfter, latest, isDone, clockAt, Allowed, Regular, HasRegular, none-yet, then-refused, then-regular, slots, nightAt, Between}
+use Rattle.plan.proofs.Soundness.{Bounded, sound-bounded}
+use Rattle.promises.proofs.SameSlot.{done, same-slot, last-same}
+use Rattle.promises.proofs.NightInvariant.{carried-is-had, kept}
+use Rattle.promises.proofs.Demand2.{judge-is-exact}
+use Rattle.promises.proofs.Strategy.{same-self}
+
+-- The answer of a slot's call is its refusal.
+pub answer-is-fault : (p : Plan) (table : List ℕ) (run : Run) (v : ℕ) (row : List ℕ) → stepped p table run v row .answer ≡ slotFault p table run v row
+unfolding stepped
+answer-is-fault p table run v row = go (slotFault p table run v row)
+  where
+    go : (r : Report) → slotBy r p table run v row .answer ≡ r
+    go [] = refl
+    go (number ∷ rest) = refl
+
+-- A done call moves the clock by one slot, and a refused one leaves it.
+pub clock-moves : (p : Plan) (table : List ℕ) (run : Run) (v : ℕ) (row : List ℕ)
+    → stepped p table run v row .run .clock .0 ≡ run .clock .0 + on (isDone (stepped p table run v row .answer)) 1
+unfolding stepped advanced
+clock-moves p table run v row = go (slotFault p table run v row)
+  where
+    go : (r : Report) → slotBy r p table run v row .run .clock .0 ≡ run .clock .0 + on (isDone (slotBy r p table run v row .answer)) 1
+    go [] = refl
+    go (number ∷ rest) = omega arith
+
+done-empty : (r : Report) → isDone r ≡ true → r ≡ []
+done-empty [] e = refl
+done-empty (number ∷ rest) e = absurd (true≢false (sym e))
+
+-- After any night, allowed or not, the clock is the first release and the number of slots.
+pub clock-counts-slots : (p : Plan) (night : List Call) → clockAt p night ≡ firstRelease p + slots p night
+unfolding runAfter started slots
+clock-counts-slots p [] = omega arith
+clock-counts-slots p (c ∷ earlier) =
+    omega (arith, clock-counts-slots p earlier, clock-moves (c .plan) (c .table) (runAfter p earlier) (c .speed) (c .row))
+
+module _ (p : Plan) (table : List ℕ) (accepted : judged p table ≡ []) where
+  rules : Bounded p
+  rules = sound-bounded p table (judge-is-exact p table .0 accepted .1)
+
+  -- Rules 4, 5, 8 and 9, which a slot's call asks for.
+  slot-rules : (ratesHold p && countHolds p && gradesHold p && boundsHold p) ≡ true
+  unfolding sound rulesHold
+  slot-rules =
+      let r2 : Bool = ratesHold p && countHolds p in
+      let r3 : Bool = r2 && namesHold p in
+      let r4 : Bool = r3 && namesDiffer p in
+      let r5 : Bool = r4 && gradesHold p in
+      let all : (r5 && boundsHold p) ≡ true = and-left (r5 && boundsHold p) _ (judge-is-exact p table .0 accepted .1) in
+      let five : r5 ≡ true = and-left r5 (boundsHold p) all in
+      let two : r2 ≡ true = and-left r2 (namesHold p) (and-left r3 (namesDiffer p) (and-left r4 (gradesHold p) five)) in
+      ap₂ _&&_ (ap₂ _&&_ two (and-right r4 (gradesHold p) five)) (and-right r5 (boundsHold p) all)
+
+  first-to-last : firstRelease p ≤ lastDeadline p
+  first-to-last =
+      omega (
+        arith,
+        least-lower (release p) (counted p) 0 (rules .some),
+        rules .windows 0 (rules .some),
+        greatest-upper (deadline p) (counted p) 0 (rules .some),
+      )
+
+  -- The clock of an allowed night is never past the last deadline.
+  pub clock-not-past : (night : List Call) → Allowed p table night → clockAt p night ≤ lastDeadline p
+  unfolding runAfter started Allowed
+  clock-not-past [] a = first-to-last
+  clock-not-past (c ∷ earlier) a =
+      if-true (isDone (latest p c earlier .answer))
+      (λ e. ⊎-elim
+      (λ refused. absurd (true≢false (sym e ∙ refused)))
+      (λ w.
+      let before = done (c .plan) (c .table) (runAfter p earlier) (c .speed) (c .row)
+      (sym (answer-is-fault (c .plan) (c .table) (runAfter p earlier) (c .speed) (c .row)) ∙ done-empty _ e) .before-end in
+      let moves = clock-moves (c .plan) (c .table) (runAfter p earlier) (c .speed) (c .row) in
+      omega (arith, before, rw e at moves, last-same p table (c .plan) (c .table) (w .0)))
+      (a .1))
+      (λ e.
+      let moves = clock-moves (c .plan) (c .table) (runAfter p earlier) (c .speed) (c .row) in
+      omega (arith, rw e at moves, clock-not-past earlier (a .0)))
+
+  -- The run of an allowed night is sound for a slot.
+  pub sound-after : (night : List Call) → Allowed p table night → slotSound p (runAfter p night) ≡ true
+  unfolding slotSound
+  sound-after night a =
+      let w = judge-is-exact p table .0 accepted in
+      let run = runAfter p night in
+      ap₂ _&&_
+      (ap₂ _&&_
+      (ap₂ _&&_ slot-rules (le-leb (firstRelease p) (run .clock .0) (omega (arith, clock-counts-slots p night))))
+      (le-leb (run .clock .0) (lastDeadline p) (clock-not-past night a)))
+      (every-all _ (counted p)
+      (λ i h. le-leb (carriedOf run i) (size p i)
+      (omega (arith, carried-is-had p table rules (w .2) night a i h, kept p table rules (w .2) night a .no-more i h))))
+
+  -- Before the last deadline the accepted plan is not refused, if speed and grant row are allowed.
+  no-fault : (night : List Call) → Allowed p table night → (v : ℕ) (row : List ℕ) → v ≤ p .n .0 → counted p ≤ length row
+      → clockAt p night < lastDeadline p → slotFault p table (runAfter p night) v row ≡ []
+  unfolding slotFault
+  no-fault night a v row normal room early =
+      rw (
+        sound-after night a,
+        le-ltb (length table) places (judge-is-exact p table .0 accepted .0),
+        le-ltb (length row) (counted p) room,
+        ne-eqb (runAfter p night .clock .0) (lastDeadline p) (λ e. absurd (omega arith)),
+        le-ltb (p .n .0) v normal,
+      )
+      refl
+
+  -- In an allowed night a call with the accepted plan and table, or the same ones, a speed of at
+  -- most n and a place for each job's grant is not refused before the last deadline.
+  pub never-refused : (night : List Call) → Allowed p table night → (c : Call) → Same p table (c .plan) (c .table)
+      → c .speed ≤ p .n .0 → counted p ≤ length (c .row) → clockAt p night < lastDeadline p → latest p c night .answer ≡ []
+  never-refused night a c same normal room early =
+      ap (λ s. s .answer) (sym (same-slot p table (c .plan) (c .table) same (runAfter p night) (c .speed) (c .row)))
+      ∙ answer-is-fault p table (runAfter p night) (c .speed) (c .row)
+      ∙ no-fault night a (c .speed) (c .row) normal room early
+
+  -- A night of refused and regular calls is allowed.
+  pub regular-allowed : (k : ℕ) (night : List Call) → HasRegular p table k night → Allowed p table night
+  unfolding Allowed
+  regular-allowed k night none-yet = tt
+  regular-allowed k night (then-refused {k = m} {earlier = earlier} e h) = (regular-allowed m earlier h, inl e)
+  regular-allowed k night (then-regular {k = m} {earlier = earlier} r h) = (regular-allowed m earlier h, inr (r .same, r .floor, r .normal))
+
+  -- After refused calls and k regular ones the clock is the first release and k, up to the last
+  -- deadline.
+  pub clock-after-regular : (k : ℕ) (night : List Call) → HasRegular p table k night
+      → clockAt p night ≡ min (firstRelease p + k) (lastDeadline p)
+  unfolding runAfter started Allowed
+  clock-after-regular k night none-yet = omega (arith, first-to-last)
+  clock-after-regular k night (then-refused {k = m} {c = c} {earlier = earlier} e h) =
+      let moves = clock-moves (c .plan) (c .table) (runAfter p earlier) (c .speed) (c .row) in
+      omega (arith, rw e at moves, clock-after-regular m earlier h)
+  clock-after-regular k night (then-regular {k = m} {c = c} {earlier = earlier} r h) =
+      let allowed = regular-allowed m earlier h in
+      let so-far = clock-after-regular m earlier h in
+      let moves = clock-moves (c .plan) (c .table) (runAfter p earlier) (c .speed) (c .row) in
+      if-less (clockAt p earlier) (lastDeadline p)
+      (λ early.
+      let answer = never-refused earlier allowed c (r .same) (r .normal) (r .room) early in
+      omega (arith, so-far, rw answer at moves))
+      (λ late. omega (arith, so-far, moves, late, clock-not-past (c ∷ earlier) (allowed, inr (r .same, r .floor, r .normal))))
+
+  -- Hence such a night has reached a job's deadline once k slots reach from the first release to it.
+  pub deadline-reached : (k : ℕ) (night : List Call) → HasRegular p table k night → (i : ℕ) → i < counted p
+      → deadline p i ≤ firstRelease p + k → deadline p i ≤ clockAt p night
+  deadline-reached k night h i b long =
+      omega (arith, clock-after-regular k night h, greatest-upper (deadline p) (counted p) i b)
+
+  -- The calls of one plan at speeds from floor to normal are regular.
+  pub night-regular : (speeds : List ℕ) → Between (p .d .0) (p .n .0) speeds → HasRegular p table (length speeds) (nightAt p table speeds)
+  night-regular [] b = none-yet
+  night-regular (v ∷ speeds) b = then-regular (regular v (b .0) (b .1)) (night-regular speeds (b .2))
+    where
+      regular : (v : ℕ) → p .d .0 ≤ v → v ≤ p .n .0
+          → Regular p table (record { plan = p; table = table; speed = v; row = replicate (p .count) 0 })
+      regular v floor normal =
+          record {
+            same = same-self p table;
+            floor = floor;
+            normal = normal;
+            room = omega (arith, length-replicate {A = ℕ} (p .count) 0);
+          }
