@@ -114,20 +114,20 @@ function hottest(n, list, i, call, k, b, best, most) {
     }
     end()
 }
-function growth(k, m, n, names, shapes, s, input, list, i) {
+function growth(table, who, k, m, n, names, shapes, s, input, list, i) {
     m = split("1 2 4 8 16 32", names, " ")
     split("usual full file", shapes, " ")
     n = split("read write judge slack step", list, " ")
-    begin("growth")
-    print "| jobs | intervals | rows | file, bytes | read | write | judge | slack | step |"
-    print "|---|---|---|---|---|---|---|---|---|"
+    begin(table)
+    print "| plan | jobs | intervals | rows | file, bytes | read | write | judge | slack | step |"
+    print "|---|---|---|---|---|---|---|---|---|---|"
     for (s = 1; s <= 3; s++)
         for (k = 1; k <= m; k++) {
             input = shapes[s] " " names[k]
             # Of one job both shapes are the same plan.
             if (!(input in sizes) || input == "full 1") continue
-            printf "| %s |", sizes[input]
-            for (i = 1; i <= n; i++) printf " %s |", (input, list[i], "ours") in total ? with_commas(total[input, list[i], "ours"]) : "refused"
+            printf "| %s | %s |", shapes[s], sizes[input]
+            for (i = 1; i <= n; i++) printf " %s |", (input, list[i], who) in total ? with_commas(total[input, list[i], who]) : "refused"
             print ""
         }
     end()
@@ -175,7 +175,8 @@ END {
     speed()
     where()
     hottest()
-    growth()
+    growth("growth", "ours")
+    growth("growth-plain", "plain")
     factors()
     stack()
     if (strange) { print "tables.awk: the archive needs more than copying and filling memory" > "/dev/stderr"; exit 1 }
