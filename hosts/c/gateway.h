@@ -5,7 +5,12 @@
  *
  * No call relies on checks by the host: every content of the lent memory means exactly one plan or run, or is refused by 21. What no call
  * can check is the host's part: each pointer is valid for its length and aligned, buffers that are written overlap no other, and a single
- * number's pointer is valid. A call keeps no pointer and has no state of its own, so calls on different memory may run at the same time. */
+ * number's pointer is valid. A call keeps no pointer and has no state of its own, so calls on different memory may run at the same time.
+ *
+ * A buffer of length 0 may be NULL: nothing is read or written through it. An empty file is refused by 1, and any other empty buffer is too
+ * short (22; gateway_name answers 0). A single number's pointer (written, slack) is never NULL.
+ *
+ * A name that begins GATEWAY_INDEX_ is an index into a buffer and never the value there: run[GATEWAY_INDEX_CLOCK] is the clock. */
 #ifndef GATEWAY_H
 #define GATEWAY_H
 
@@ -30,29 +35,28 @@ extern "C" {
 #define GATEWAY_HEAD_WORDS 3
 #define GATEWAY_JOB_WORDS 5
 #define GATEWAY_PLAN_WORDS (GATEWAY_HEAD_WORDS + GATEWAY_JOB_WORDS * GATEWAY_MOST_JOBS)
-#define GATEWAY_NORMAL_RATE 0
-#define GATEWAY_FLOOR 1
-#define GATEWAY_JOB_COUNT 2
-/* Where the words of job i begin, and which of them says what. */
-#define GATEWAY_JOB(i) (GATEWAY_HEAD_WORDS + GATEWAY_JOB_WORDS * (size_t)(i))
-#define GATEWAY_JOB_NAME 0
-#define GATEWAY_JOB_GRADE 1
-#define GATEWAY_JOB_RELEASE 2
-#define GATEWAY_JOB_SIZE 3
-#define GATEWAY_JOB_DEADLINE 4
+#define GATEWAY_INDEX_NORMAL_RATE 0
+#define GATEWAY_INDEX_FLOOR 1
+#define GATEWAY_INDEX_JOB_COUNT 2
+/* Where the words of job i begin: the name, and after it grade, release, size and deadline. */
+#define GATEWAY_INDEX_JOB_NAME(i) (GATEWAY_HEAD_WORDS + GATEWAY_JOB_WORDS * (size_t)(i))
+#define GATEWAY_INDEX_JOB_GRADE(i) (GATEWAY_INDEX_JOB_NAME(i) + 1)
+#define GATEWAY_INDEX_JOB_RELEASE(i) (GATEWAY_INDEX_JOB_NAME(i) + 2)
+#define GATEWAY_INDEX_JOB_SIZE(i) (GATEWAY_INDEX_JOB_NAME(i) + 3)
+#define GATEWAY_INDEX_JOB_DEADLINE(i) (GATEWAY_INDEX_JOB_NAME(i) + 4)
 
-/* The table is made of words of 32 bits, one for each job and interval: GATEWAY_PLACE(i, j) is where job i's units in interval j are. */
+/* The table is made of words of 32 bits, one for each job and interval: job i's units in interval j are at this index. */
 #define GATEWAY_TABLE_PLACES (GATEWAY_MOST_JOBS * GATEWAY_MOST_INTERVALS)
-#define GATEWAY_PLACE(i, j) (GATEWAY_MOST_INTERVALS * (size_t)(i) + (size_t)(j))
+#define GATEWAY_INDEX_ALLOTMENT(i, j) (GATEWAY_MOST_INTERVALS * (size_t)(i) + (size_t)(j))
 
 /* A run lives in 35 words of 32 bits: the clock, the slow mark, the below-floor mark, and the units carried for each of 32 jobs.
  * A mark is 0 or 1; any other mark is refused by 21. */
 #define GATEWAY_MARK_WORDS 3
 #define GATEWAY_RUN_WORDS (GATEWAY_MARK_WORDS + GATEWAY_MOST_JOBS)
-#define GATEWAY_CLOCK 0
-#define GATEWAY_SLOW 1
-#define GATEWAY_BELOW_FLOOR 2
-#define GATEWAY_CARRIED(i) (GATEWAY_MARK_WORDS + (size_t)(i))
+#define GATEWAY_INDEX_CLOCK 0
+#define GATEWAY_INDEX_SLOW 1
+#define GATEWAY_INDEX_BELOW_FLOOR 2
+#define GATEWAY_INDEX_CARRIED(i) (GATEWAY_MARK_WORDS + (size_t)(i))
 
 /* A location has two words of 64 bits: with 15 job and interval, with 16 job and 0, with 17 interval and 0, with 18 interval and deadline,
  * with any other answer of judge and start 0 and 0. */
@@ -124,7 +128,7 @@ uint32_t gateway_slack(const uint64_t *plan, size_t plan_length, const uint32_t 
  * 22 for plan, run or location: nothing is touched. Any other refusal: run stays. */
 uint32_t gateway_start(const uint64_t *plan, size_t plan_length, const uint32_t *table, size_t table_length, uint32_t *run, size_t run_length, uint64_t *location, size_t location_length);
 
-/* Carries one slot at a speed in units.
+/* Carries one slot at a speed in units. A speed has 16 bits everywhere; gateway_speed below makes one of any measured number.
  * In: plan, table, run and speed. Out: the run, advanced in place, and for each job its grant. Answers 0, 22, 21, 19 or 20.
  * After any refusal run and grants stay. grants has at least as many places as the plan has jobs; places beyond stay. */
 uint32_t gateway_step(const uint64_t *plan, size_t plan_length, const uint32_t *table, size_t table_length, uint32_t *run, size_t run_length, uint16_t speed, uint32_t *grants, size_t grants_length);
@@ -132,6 +136,53 @@ uint32_t gateway_step(const uint64_t *plan, size_t plan_length, const uint32_t *
 /* How a job's transfer ended.
  * In: plan, run and the job's position. Answers GATEWAY_MET, GATEWAY_DISCARDED, GATEWAY_MISSED, GATEWAY_OPEN, 22 or 21. No buffer is changed. */
 uint32_t gateway_outcome(const uint64_t *plan, size_t plan_length, const uint32_t *run, size_t run_length, size_t position);
+
+/* The calls end here. What follows is the header's own, and the archive does not have it. */
+
+/* The speed to step with if the link will carry `measured` whole units in the slot: that number, but no more than the plan's normal rate. A
+ * link that carries more than the normal rate carries the normal rate too; a speed above it is refused by 20, and a number above 65,535 that
+ * is cut to 16 bits is another number. Round what was measured down. */
+static inline uint16_t gateway_speed(uint64_t measured, const uint64_t *plan)
+{
+    uint64_t most = plan[GATEWAY_INDEX_NORMAL_RATE] < UINT16_MAX ? plan[GATEWAY_INDEX_NORMAL_RATE] : UINT16_MAX;
+    return (uint16_t)(measured < most ? measured : most);
+}
+
+/* What an answer says, in words. */
+static inline const char *gateway_words(uint32_t answer)
+{
+    static const char *const refusals[] = {
+        "done",
+        "the file is empty or of another version",
+        "the file is shorter or longer than it says",
+        "a job or a row does not have its own length",
+        "the rates do not keep to their bounds",
+        "there is no job, or there are too many",
+        "a name holds a byte that no name may hold",
+        "two jobs share a name",
+        "a grade is neither LO nor HI",
+        "a release, a size or a deadline does not keep to its bounds",
+        "there are too many rows",
+        "a row is for no job of the plan",
+        "a row is for no interval of the plan",
+        "a row allots nothing",
+        "the rows do not rise by job and interval",
+        "a job is allotted units when it may not run",
+        "a job is not allotted exactly its size",
+        "an interval is allotted more than the normal rate carries",
+        "the floor cannot carry what is essential in time",
+        "the run is over",
+        "the speed is more than the normal rate",
+        "the plan or the run is not sound",
+        "a lent buffer has too few elements"
+    };
+    static const char *const results[] = { "no job is essential", "met", "discarded", "missed", "open" };
+    if (answer <= GATEWAY_BUFFER_TOO_SHORT)
+        return refusals[answer];
+    if (answer >= GATEWAY_NONE_ESSENTIAL && answer <= GATEWAY_OPEN)
+        return results[answer - GATEWAY_NONE_ESSENTIAL];
+    return "the library gives no such number";
+}
 
 #ifdef __cplusplus
 }

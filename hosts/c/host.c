@@ -1,6 +1,7 @@
 /* A small host in C: reads a plan file and then speeds from standard input, runs the plan slot by slot, and prints what runplan prints.
- * With --check it reads a plan file alone, and says whether the plan is accepted, how much slack it has, and whether it is written again as
- * the same file. Then the exit status is 0 for an accepted plan and 1 for any other. */
+ * With --check it reads a plan file alone, and says what the plan asks, whether it is accepted, how much slack it has, whether it is written
+ * again as the same file, and how each transfer of an accepted plan ends at the floor. Then the exit status is 0 for an accepted plan and 1
+ * for any other. With --refusals it prints what each refusal says. */
 #include <stdio.h>
 #include <string.h>
 
@@ -47,39 +48,25 @@ static void print_grants(size_t file_length, size_t jobs)
     puts(some ? "" : " -");
 }
 
-static const char *outcome_words(uint32_t outcome)
-{
-    switch (outcome) {
-    case GATEWAY_MET:
-        return "met";
-    case GATEWAY_DISCARDED:
-        return "discarded";
-    case GATEWAY_MISSED:
-        return "missed";
-    default:
-        return "open";
-    }
-}
-
 static void print_slot(size_t file_length, uint16_t speed)
 {
-    uint32_t clock = run[GATEWAY_CLOCK];
+    uint32_t clock = run[GATEWAY_INDEX_CLOCK];
     uint32_t refused = gateway_step(plan, GATEWAY_PLAN_WORDS, table, GATEWAY_TABLE_PLACES, run, GATEWAY_RUN_WORDS, speed, grants, GATEWAY_MOST_JOBS);
     if (refused != GATEWAY_DONE) {
         printf("%u %u R %u\n", (unsigned)clock, (unsigned)speed, (unsigned)refused);
         return;
     }
-    printf("%u %u %c", (unsigned)clock, (unsigned)speed, run[GATEWAY_SLOW] ? 'D' : 'N');
-    print_grants(file_length, (size_t)plan[GATEWAY_JOB_COUNT]);
+    printf("%u %u %c", (unsigned)clock, (unsigned)speed, run[GATEWAY_INDEX_SLOW] ? 'D' : 'N');
+    print_grants(file_length, (size_t)plan[GATEWAY_INDEX_JOB_COUNT]);
 }
 
 static void print_outcomes(size_t file_length)
 {
     puts("job outcome carried");
-    for (size_t i = 0; i < plan[GATEWAY_JOB_COUNT]; i++) {
+    for (size_t i = 0; i < plan[GATEWAY_INDEX_JOB_COUNT]; i++) {
         uint32_t outcome = gateway_outcome(plan, GATEWAY_PLAN_WORDS, run, GATEWAY_RUN_WORDS, i);
         print_name(file_length, i);
-        printf(" %s %u\n", outcome_words(outcome), (unsigned)run[GATEWAY_CARRIED(i)]);
+        printf(" %s %u\n", gateway_words(outcome), (unsigned)run[GATEWAY_INDEX_CARRIED(i)]);
     }
 }
 
@@ -104,29 +91,35 @@ static int night(void)
     return 0;
 }
 
+static void print_plan(size_t file_length)
+{
+    printf("rates: normal %u, floor %u\n", (unsigned)plan[GATEWAY_INDEX_NORMAL_RATE], (unsigned)plan[GATEWAY_INDEX_FLOOR]);
+    for (size_t i = 0; i < plan[GATEWAY_INDEX_JOB_COUNT]; i++) {
+        printf("job %u: ", (unsigned)i);
+        print_name(file_length, i);
+        printf(" %s, release %u, size %u, deadline %u\n", plan[GATEWAY_INDEX_JOB_GRADE(i)] ? "HI" : "LO", (unsigned)plan[GATEWAY_INDEX_JOB_RELEASE(i)],
+            (unsigned)plan[GATEWAY_INDEX_JOB_SIZE(i)], (unsigned)plan[GATEWAY_INDEX_JOB_DEADLINE(i)]);
+    }
+}
+
 static void print_verdict(uint32_t refused)
 {
     unsigned first = (unsigned)location[0];
     unsigned second = (unsigned)location[1];
-    switch (refused) {
-    case GATEWAY_DONE:
+    if (refused == GATEWAY_DONE) {
         puts("accepted");
-        break;
-    case GATEWAY_OUTSIDE_WINDOW:
-        printf("refused %u at job %u, interval %u\n", (unsigned)refused, first, second);
-        break;
-    case GATEWAY_WRONG_TOTAL:
-        printf("refused %u at job %u\n", (unsigned)refused, first);
-        break;
-    case GATEWAY_OVER_CAPACITY:
-        printf("refused %u at interval %u\n", (unsigned)refused, first);
-        break;
-    case GATEWAY_BELOW_FLOOR_RULE:
-        printf("refused %u at interval %u, deadline %u\n", (unsigned)refused, first, second);
-        break;
-    default:
-        printf("refused %u\n", (unsigned)refused);
+        return;
     }
+    printf("refused %u: %s", (unsigned)refused, gateway_words(refused));
+    if (refused == GATEWAY_OUTSIDE_WINDOW)
+        printf(" (job %u, interval %u)", first, second);
+    if (refused == GATEWAY_WRONG_TOTAL)
+        printf(" (job %u)", first);
+    if (refused == GATEWAY_OVER_CAPACITY)
+        printf(" (interval %u)", first);
+    if (refused == GATEWAY_BELOW_FLOOR_RULE)
+        printf(" (interval %u, deadline %u)", first, second);
+    putchar('\n');
 }
 
 static void print_slack(void)
@@ -136,7 +129,7 @@ static void print_slack(void)
     if (answer == GATEWAY_DONE)
         printf("slack %lld at interval %u, deadline %u\n", (long long)slack, (unsigned)location[0], (unsigned)location[1]);
     else
-        puts(answer == GATEWAY_NONE_ESSENTIAL ? "slack: no job is essential" : "slack: none, for the same reason");
+        printf("slack: %s\n", answer == GATEWAY_NONE_ESSENTIAL ? gateway_words(answer) : "none, for the same reason");
 }
 
 static void print_written(size_t length)
@@ -147,6 +140,17 @@ static void print_written(size_t length)
     printf("written again: %s %u bytes\n", same ? "the same" : "other", (unsigned)written);
 }
 
+/* Runs an accepted plan at its floor until a step is refused, which is at the last deadline. */
+static void print_floor_night(size_t file_length)
+{
+    uint16_t speed = gateway_speed(plan[GATEWAY_INDEX_FLOOR], plan);
+    uint32_t refused = gateway_start(plan, GATEWAY_PLAN_WORDS, table, GATEWAY_TABLE_PLACES, run, GATEWAY_RUN_WORDS, location, GATEWAY_LOCATION_WORDS);
+    while (refused == GATEWAY_DONE)
+        refused = gateway_step(plan, GATEWAY_PLAN_WORDS, table, GATEWAY_TABLE_PLACES, run, GATEWAY_RUN_WORDS, speed, grants, GATEWAY_MOST_JOBS);
+    printf("at the floor, until %s:\n", gateway_words(refused));
+    print_outcomes(file_length);
+}
+
 static int check(void)
 {
     size_t length = read_file();
@@ -155,11 +159,22 @@ static int check(void)
         print_verdict(refused);
         return 1;
     }
+    print_plan(length);
     refused = gateway_judge(plan, GATEWAY_PLAN_WORDS, table, GATEWAY_TABLE_PLACES, location, GATEWAY_LOCATION_WORDS);
     print_verdict(refused);
     print_slack();
     print_written(length);
-    return refused == GATEWAY_DONE ? 0 : 1;
+    if (refused != GATEWAY_DONE)
+        return 1;
+    print_floor_night(length);
+    return 0;
+}
+
+static int print_refusals(void)
+{
+    for (uint32_t number = GATEWAY_WRONG_VERSION; number <= GATEWAY_BUFFER_TOO_SHORT; number++)
+        printf("%u %s\n", (unsigned)number, gateway_words(number));
+    return 0;
 }
 
 int main(int count, char **words)
@@ -168,6 +183,8 @@ int main(int count, char **words)
         return night();
     if (count == 2 && strcmp(words[1], "--check") == 0)
         return check();
-    fputs("usage: host-c < PLAN-AND-SPEEDS\n       host-c --check < PLAN\n", stderr);
+    if (count == 2 && strcmp(words[1], "--refusals") == 0)
+        return print_refusals();
+    fputs("usage: host-c < PLAN-AND-SPEEDS\n       host-c --check < PLAN\n       host-c --refusals\n", stderr);
     return 2;
 }

@@ -1,20 +1,34 @@
 //! A safe wrapper over `libgateway.a`, without dependencies: plan files, judging and slots.
 //!
 //! A [`Plan`] and a [`Run`] own the memory that the library works on. Every refusal is a [`Refusal`] with its number, its location and its words.
+//! Both can be stored and sent as the words that the library keeps them in.
 
 /// The bare calls, for a host that lends memory of its own.
 pub mod calls;
 
 use std::fmt;
 
-pub use calls::MOST_JOBS;
+pub use calls::{MOST_JOBS, PLAN_WORDS, RUN_WORDS};
 use calls::*;
 
 pub const MOST_INTERVALS: usize = 63;
 pub const LARGEST_FILE: usize = 30_956;
 pub const NAME_BYTES: usize = 8;
 
-const TABLE_PLACES: usize = MOST_JOBS * MOST_INTERVALS;
+pub const TABLE_PLACES: usize = MOST_JOBS * MOST_INTERVALS;
+
+/// Where a run's words say what; job i's units carried are at `CARRIED + i`.
+pub mod index {
+    pub const CLOCK: usize = 0;
+    pub const SLOW: usize = 1;
+    pub const BELOW_FLOOR: usize = 2;
+    pub const CARRIED: usize = super::calls::MARK_WORDS;
+}
+
+// Where a plan's words say what.
+const NORMAL_RATE: usize = 0;
+const FLOOR: usize = 1;
+const JOB_COUNT: usize = 2;
 
 const DONE: u32 = 0;
 const NONE_ESSENTIAL: u32 = 256;
@@ -47,6 +61,35 @@ pub mod refusal {
     pub const SPEED_ABOVE_NORMAL: u8 = 20;
     pub const UNSOUND: u8 = 21;
     pub const BUFFER_TOO_SHORT: u8 = 22;
+
+    /// What a refusal's number says, as `gateway_words` of `gateway.h` says it.
+    pub fn words(number: u8) -> &'static str {
+        match number {
+            WRONG_VERSION => "the file is empty or of another version",
+            WRONG_EXTENT => "the file is shorter or longer than it says",
+            WRONG_RECORD_LENGTH => "a job or a row does not have its own length",
+            WRONG_RATES => "the rates do not keep to their bounds",
+            WRONG_JOB_COUNT => "there is no job, or there are too many",
+            WRONG_NAME_BYTE => "a name holds a byte that no name may hold",
+            NAME_TAKEN => "two jobs share a name",
+            WRONG_GRADE => "a grade is neither LO nor HI",
+            WRONG_JOB_BOUNDS => "a release, a size or a deadline does not keep to its bounds",
+            TOO_MANY_ROWS => "there are too many rows",
+            ROW_WITHOUT_JOB => "a row is for no job of the plan",
+            ROW_WITHOUT_INTERVAL => "a row is for no interval of the plan",
+            ROW_WITHOUT_UNITS => "a row allots nothing",
+            ROW_OUT_OF_ORDER => "the rows do not rise by job and interval",
+            OUTSIDE_WINDOW => "a job is allotted units when it may not run",
+            WRONG_TOTAL => "a job is not allotted exactly its size",
+            OVER_CAPACITY => "an interval is allotted more than the normal rate carries",
+            BELOW_FLOOR_RULE => "the floor cannot carry what is essential in time",
+            CLOCK_AT_END => "the run is over",
+            SPEED_ABOVE_NORMAL => "the speed is more than the normal rate",
+            UNSOUND => "the plan or the run is not sound",
+            BUFFER_TOO_SHORT => "a lent buffer has too few elements",
+            _ => "the library gives no such number",
+        }
+    }
 }
 
 /// What a refusal names beside its number.
@@ -93,31 +136,7 @@ impl Refusal {
 
     /// What the number says.
     pub fn words(&self) -> &'static str {
-        match self.number {
-            refusal::WRONG_VERSION => "the file is empty or of another version",
-            refusal::WRONG_EXTENT => "the file is shorter or longer than it says",
-            refusal::WRONG_RECORD_LENGTH => "a job or a row does not have its own length",
-            refusal::WRONG_RATES => "the rates do not keep to their bounds",
-            refusal::WRONG_JOB_COUNT => "there is no job, or there are too many",
-            refusal::WRONG_NAME_BYTE => "a name holds a byte that no name may hold",
-            refusal::NAME_TAKEN => "two jobs share a name",
-            refusal::WRONG_GRADE => "a grade is neither LO nor HI",
-            refusal::WRONG_JOB_BOUNDS => "a release, a size or a deadline does not keep to its bounds",
-            refusal::TOO_MANY_ROWS => "there are too many rows",
-            refusal::ROW_WITHOUT_JOB => "a row is for no job of the plan",
-            refusal::ROW_WITHOUT_INTERVAL => "a row is for no interval of the plan",
-            refusal::ROW_WITHOUT_UNITS => "a row allots nothing",
-            refusal::ROW_OUT_OF_ORDER => "the rows do not rise by job and interval",
-            refusal::OUTSIDE_WINDOW => "a job is allotted units when it may not run",
-            refusal::WRONG_TOTAL => "a job is not allotted exactly its size",
-            refusal::OVER_CAPACITY => "an interval is allotted more than the normal rate carries",
-            refusal::BELOW_FLOOR_RULE => "the floor cannot carry what is essential in time",
-            refusal::CLOCK_AT_END => "the run is over",
-            refusal::SPEED_ABOVE_NORMAL => "the speed is more than the normal rate",
-            refusal::UNSOUND => "the plan or the run is not sound",
-            refusal::BUFFER_TOO_SHORT => "a lent buffer has too few elements",
-            _ => "the library gives no such number",
-        }
+        refusal::words(self.number)
     }
 }
 
@@ -143,13 +162,49 @@ pub enum Grade {
 }
 
 /// A transfer as a plan asks for it.
-#[derive(Clone, Copy, Debug, PartialEq, Eq)]
+#[derive(Clone, Copy, PartialEq, Eq)]
 pub struct Job {
     pub name: [u8; NAME_BYTES],
     pub grade: Grade,
     pub release: u32,
     pub size: u64,
     pub deadline: u32,
+}
+
+impl Job {
+    /// The name as text. Bytes that no name may have are escaped.
+    pub fn name_text(&self) -> String {
+        self.name.escape_ascii().to_string()
+    }
+
+    fn to_words(self) -> [u64; JOB_WORDS] {
+        let grade = (self.grade == Grade::Hi).into();
+        [u64::from_be_bytes(self.name), grade, self.release.into(), self.size, self.deadline.into()]
+    }
+
+    /// The job that words say; none where a word is too large for what it says.
+    fn from_words(words: &[u64]) -> Option<Job> {
+        let grade = match words[1] {
+            0 => Grade::Lo,
+            1 => Grade::Hi,
+            _ => return None,
+        };
+        let release = words[2].try_into().ok()?;
+        let deadline = words[4].try_into().ok()?;
+        Some(Job { name: words[0].to_be_bytes(), grade, release, size: words[3], deadline })
+    }
+}
+
+impl fmt::Debug for Job {
+    fn fmt(&self, f: &mut fmt::Formatter<'_>) -> fmt::Result {
+        f.debug_struct("Job")
+            .field("name", &self.name_text())
+            .field("grade", &self.grade)
+            .field("release", &self.release)
+            .field("size", &self.size)
+            .field("deadline", &self.deadline)
+            .finish()
+    }
 }
 
 /// The tightest interval and deadline of a plan, and by how much the floor carries more than they ask.
@@ -168,9 +223,21 @@ pub enum Outcome {
     Open,
 }
 
+impl fmt::Display for Outcome {
+    fn fmt(&self, f: &mut fmt::Formatter<'_>) -> fmt::Result {
+        f.write_str(match self {
+            Outcome::Met => "met",
+            Outcome::Discarded => "discarded",
+            Outcome::Missed => "missed",
+            Outcome::Open => "open",
+        })
+    }
+}
+
 /// A plan with its table.
 #[derive(Clone)]
 pub struct Plan {
+    // Both rates fit 16 bits, the count is at most MOST_JOBS, and each counted job's words say a job.
     words: [u64; PLAN_WORDS],
     table: [u32; TABLE_PLACES],
 }
@@ -182,14 +249,35 @@ impl Plan {
             return Err(Refusal::nowhere(refusal::WRONG_JOB_COUNT));
         }
         let mut plan = Plan { words: [0; PLAN_WORDS], table: [0; TABLE_PLACES] };
-        plan.words[0] = normal_rate.into();
-        plan.words[1] = floor.into();
-        plan.words[2] = jobs.len() as u64;
+        plan.words[NORMAL_RATE] = normal_rate.into();
+        plan.words[FLOOR] = floor.into();
+        plan.words[JOB_COUNT] = jobs.len() as u64;
         for (job, words) in jobs.iter().zip(plan.words[HEAD_WORDS..].chunks_exact_mut(JOB_WORDS)) {
-            let grade = (job.grade == Grade::Hi).into();
-            words.copy_from_slice(&[u64::from_be_bytes(job.name), grade, job.release.into(), job.size, job.deadline.into()]);
+            words.copy_from_slice(&job.to_words());
         }
         Ok(plan)
+    }
+
+    /// The plan that stored words and a stored table say. Too few of either are refused by 22. Words that no plan has (a rate, a count, a
+    /// grade or a time too large for what it says) are refused by 21, as every call on them would be. Nothing else is judged yet.
+    pub fn from_words(words: &[u64], table: &[u32]) -> Result<Plan, Refusal> {
+        let lent = words.get(..PLAN_WORDS).and_then(|w| w.try_into().ok()).zip(table.get(..TABLE_PLACES).and_then(|t| t.try_into().ok()));
+        let (words, table) = lent.ok_or(Refusal::nowhere(refusal::BUFFER_TOO_SHORT))?;
+        let plan = Plan { words, table };
+        let is_plan = [NORMAL_RATE, FLOOR].iter().all(|&at| u16::try_from(plan.words[at]).is_ok())
+            && plan.words[JOB_COUNT] <= MOST_JOBS as u64
+            && plan.job_words().all(|words| Job::from_words(words).is_some());
+        if is_plan { Ok(plan) } else { Err(Refusal::nowhere(refusal::UNSOUND)) }
+    }
+
+    /// The plan's words, to store beside its [`table`](Plan::table).
+    pub fn words(&self) -> &[u64; PLAN_WORDS] {
+        &self.words
+    }
+
+    /// The allotments, those of a job in a row of [`MOST_INTERVALS`].
+    pub fn table(&self) -> &[u32; TABLE_PLACES] {
+        &self.table
     }
 
     /// Reads a plan file.
@@ -240,8 +328,36 @@ impl Plan {
         if number == DONE { Ok(run) } else { Err(Refusal::new(number, location)) }
     }
 
+    pub fn normal_rate(&self) -> u16 {
+        self.words[NORMAL_RATE] as u16
+    }
+
+    pub fn floor(&self) -> u16 {
+        self.words[FLOOR] as u16
+    }
+
+    /// The speed to step with if the link will carry `measured` units in the slot: that number, but no more than the normal rate. A link that
+    /// carries more than the normal rate carries the normal rate too.
+    pub fn speed(&self, measured: u64) -> u16 {
+        measured.min(self.words[NORMAL_RATE]) as u16
+    }
+
     pub fn job_count(&self) -> usize {
-        self.words[2] as usize
+        self.words[JOB_COUNT] as usize
+    }
+
+    /// The jobs in the order of their positions.
+    pub fn jobs(&self) -> impl Iterator<Item = Job> + '_ {
+        self.job_words().filter_map(Job::from_words)
+    }
+
+    /// The job at a position; none where the plan has no such job.
+    pub fn job(&self, position: usize) -> Option<Job> {
+        self.jobs().nth(position)
+    }
+
+    fn job_words(&self) -> impl Iterator<Item = &[u64]> {
+        self.words[HEAD_WORDS..].chunks_exact(JOB_WORDS).take(self.job_count())
     }
 
     /// The allotment of a job in an interval; none where the table has no such place.
@@ -252,6 +368,19 @@ impl Plan {
     /// Sets an allotment. Whether there is such a place.
     pub fn allot(&mut self, job: usize, interval: usize, units: u32) -> bool {
         place_of(job, interval).map(|at| self.table[at] = units).is_some()
+    }
+}
+
+impl fmt::Debug for Plan {
+    fn fmt(&self, f: &mut fmt::Formatter<'_>) -> fmt::Result {
+        let allotted = |&(_, &units): &(usize, &u32)| units > 0;
+        let row = |(place, units)| (place / MOST_INTERVALS, place % MOST_INTERVALS, units);
+        f.debug_struct("Plan")
+            .field("normal_rate", &self.normal_rate())
+            .field("floor", &self.floor())
+            .field("jobs", &self.jobs().collect::<Vec<_>>())
+            .field("allotments", &self.table.iter().enumerate().filter(allotted).map(row).collect::<Vec<_>>())
+            .finish()
     }
 }
 
@@ -271,12 +400,27 @@ pub fn name(file: &[u8], position: usize) -> Option<&[u8]> {
 }
 
 /// A run of a plan.
-#[derive(Clone, Debug, PartialEq, Eq)]
+#[derive(Clone, PartialEq, Eq)]
 pub struct Run {
+    // Each mark is 0 or 1.
     words: [u32; RUN_WORDS],
 }
 
 impl Run {
+    /// The run that stored words say. Too few are refused by 22, and a mark that is neither 0 nor 1 by 21, as every call on it would be.
+    /// Whether the run fits a plan is for each call to say.
+    pub fn from_words(words: &[u32]) -> Result<Run, Refusal> {
+        let words: Option<[u32; RUN_WORDS]> = words.get(..RUN_WORDS).and_then(|w| w.try_into().ok());
+        let words = words.ok_or(Refusal::nowhere(refusal::BUFFER_TOO_SHORT))?;
+        let marks_hold = words[index::SLOW] <= 1 && words[index::BELOW_FLOOR] <= 1;
+        if marks_hold { Ok(Run { words }) } else { Err(Refusal::nowhere(refusal::UNSOUND)) }
+    }
+
+    /// The run's words, to store; [`index`] says which of them says what.
+    pub fn words(&self) -> &[u32; RUN_WORDS] {
+        &self.words
+    }
+
     /// Carries one slot at a speed; the grant of each of the plan's jobs. A refusal leaves the run as it was.
     pub fn step(&mut self, plan: &Plan, speed: u16) -> Result<Vec<u32>, Refusal> {
         let mut grants = vec![0; MOST_JOBS];
@@ -301,20 +445,34 @@ impl Run {
         }
     }
 
+    /// The slot that the next step carries.
     pub fn clock(&self) -> u32 {
-        self.words[0]
+        self.words[index::CLOCK]
     }
 
+    /// Whether some slot was slower than the normal rate. LO jobs get nothing from then on.
     pub fn is_slow(&self) -> bool {
-        self.words[1] == 1
+        self.words[index::SLOW] == 1
     }
 
+    /// Whether some slot was slower than the floor. Nothing is promised from then on, to HI jobs neither.
     pub fn is_below_floor(&self) -> bool {
-        self.words[2] == 1
+        self.words[index::BELOW_FLOOR] == 1
     }
 
     /// The units carried for a job; none where there is no such place.
     pub fn carried(&self, job: usize) -> Option<u32> {
-        self.words[MARK_WORDS..].get(job).copied()
+        self.words[index::CARRIED..].get(job).copied()
+    }
+}
+
+impl fmt::Debug for Run {
+    fn fmt(&self, f: &mut fmt::Formatter<'_>) -> fmt::Result {
+        f.debug_struct("Run")
+            .field("clock", &self.clock())
+            .field("slow", &self.is_slow())
+            .field("below_floor", &self.is_below_floor())
+            .field("carried", &&self.words[index::CARRIED..])
+            .finish()
     }
 }

@@ -1,8 +1,9 @@
 //! A small host in Rust: reads a plan file and then speeds from standard input, runs the plan slot by slot, and prints what runplan prints.
-//! With `--check` it reads a plan file alone, and says whether the plan is accepted, how much slack it has, and whether it is written again
-//! as the same file. Then the exit status is 0 for an accepted plan and 1 for any other.
+//! With `--check` it reads a plan file alone, and says what the plan asks, whether it is accepted, how much slack it has, whether it is
+//! written again as the same file, and how each transfer of an accepted plan ends at the floor. Then the exit status is 0 for an accepted
+//! plan and 1 for any other. With `--refusals` it prints what each refusal says.
 
-use gateway::{Outcome, Location, Plan, Refusal, Run, LARGEST_FILE};
+use gateway::{refusal, Grade, Plan, Refusal, Run, LARGEST_FILE};
 use std::io::{self, Read, Write};
 use std::process::ExitCode;
 
@@ -43,10 +44,7 @@ fn slot_line(file: &[u8], run: &mut Run, plan: &Plan, speed: u16) -> String {
 
 fn outcome_line(file: &[u8], run: &Run, plan: &Plan, job: usize) -> String {
     let outcome = match run.outcome(plan, job) {
-        Ok(Outcome::Met) => "met".to_string(),
-        Ok(Outcome::Discarded) => "discarded".to_string(),
-        Ok(Outcome::Missed) => "missed".to_string(),
-        Ok(Outcome::Open) => "open".to_string(),
+        Ok(outcome) => outcome.to_string(),
         Err(refusal) => refusal.to_string(),
     };
     format!("{} {outcome} {}", name(file, job), run.carried(job).unwrap_or_default())
@@ -66,25 +64,35 @@ fn night(file: &[u8], speeds: &[u8], out: &mut impl Write) -> io::Result<()> {
     if stray {
         writeln!(out, "stray byte")?;
     }
+    write_outcomes(file, &run, &plan, out)
+}
+
+fn write_outcomes(file: &[u8], run: &Run, plan: &Plan, out: &mut impl Write) -> io::Result<()> {
     writeln!(out, "job outcome carried")?;
     for job in 0..plan.job_count() {
-        writeln!(out, "{}", outcome_line(file, &run, &plan, job))?;
+        writeln!(out, "{}", outcome_line(file, run, plan, job))?;
     }
     Ok(())
 }
 
-fn verdict_line(verdict: Result<(), Refusal>) -> String {
-    let refusal = match verdict {
-        Ok(()) => return "accepted".to_string(),
-        Err(refusal) => refusal,
-    };
-    let number = refusal.number();
-    match refusal.location() {
-        Location::Nowhere => format!("refused {number}"),
-        Location::JobAndInterval(job, interval) => format!("refused {number} at job {job}, interval {interval}"),
-        Location::Job(job) => format!("refused {number} at job {job}"),
-        Location::Interval(interval) => format!("refused {number} at interval {interval}"),
-        Location::IntervalAndDeadline(interval, deadline) => format!("refused {number} at interval {interval}, deadline {deadline}"),
+fn write_plan(plan: &Plan, out: &mut impl Write) -> io::Result<()> {
+    writeln!(out, "rates: normal {}, floor {}", plan.normal_rate(), plan.floor())?;
+    for (i, job) in plan.jobs().enumerate() {
+        let grade = if job.grade == Grade::Hi { "HI" } else { "LO" };
+        writeln!(out, "job {i}: {} {grade}, release {}, size {}, deadline {}", job.name_text(), job.release, job.size, job.deadline)?;
+    }
+    Ok(())
+}
+
+/// Runs a plan at its floor until a step is refused, which is at the last deadline. Between two slots the run is kept as words.
+fn floor_night(plan: &Plan) -> Result<(Run, Refusal), Refusal> {
+    let mut run = plan.start()?;
+    loop {
+        if let Err(refusal) = run.step(plan, plan.floor()) {
+            return Ok((run, refusal));
+        }
+        let stored = run.words().to_vec();
+        run = Run::from_words(&stored)?;
     }
 }
 
@@ -99,27 +107,44 @@ fn slack_line(plan: &Plan) -> String {
 fn check(file: &[u8], out: &mut impl Write) -> io::Result<bool> {
     let plan = match Plan::read(file) {
         Ok(plan) => plan,
-        Err(refusal) => return writeln!(out, "{}", verdict_line(Err(refusal))).map(|()| false),
+        Err(refusal) => return writeln!(out, "{refusal}").map(|()| false),
     };
-    let verdict = plan.judge();
+    write_plan(&plan, out)?;
+    match plan.judge() {
+        Ok(()) => writeln!(out, "accepted")?,
+        Err(refusal) => writeln!(out, "{refusal}")?,
+    }
     let again = plan.write().unwrap_or_default();
-    writeln!(out, "{}", verdict_line(verdict))?;
     writeln!(out, "{}", slack_line(&plan))?;
     writeln!(out, "written again: {} {} bytes", if again == file { "the same" } else { "other" }, again.len())?;
-    Ok(verdict.is_ok())
+    let (run, end) = match floor_night(&plan) {
+        Ok(night) => night,
+        Err(_) => return Ok(false),
+    };
+    writeln!(out, "at the floor, until {}:", end.words())?;
+    write_outcomes(file, &run, &plan, out)?;
+    Ok(true)
+}
+
+fn write_refusals(out: &mut impl Write) -> io::Result<()> {
+    (refusal::WRONG_VERSION..=refusal::BUFFER_TOO_SHORT).try_for_each(|number| writeln!(out, "{number} {}", refusal::words(number)))
 }
 
 fn main() -> io::Result<ExitCode> {
     let words: Vec<String> = std::env::args().skip(1).collect();
-    let checks = words == ["--check"];
-    if !checks && !words.is_empty() {
-        eprintln!("usage: host-rust < PLAN-AND-SPEEDS\n       host-rust --check < PLAN");
-        return Ok(ExitCode::from(2));
-    }
+    let mut out = io::stdout().lock();
+    let checks = match words.iter().map(String::as_str).collect::<Vec<_>>()[..] {
+        [] => false,
+        ["--check"] => true,
+        ["--refusals"] => return write_refusals(&mut out).map(|()| ExitCode::SUCCESS),
+        _ => {
+            eprintln!("usage: host-rust < PLAN-AND-SPEEDS\n       host-rust --check < PLAN\n       host-rust --refusals");
+            return Ok(ExitCode::from(2));
+        }
+    };
     let mut input = Vec::new();
     io::stdin().read_to_end(&mut input)?;
     let (file, speeds) = input.split_at(file_length(&input));
-    let mut out = io::stdout().lock();
     if checks {
         let is_accepted = check(file, &mut out)?;
         return Ok(ExitCode::from(u8::from(!is_accepted)));

@@ -1,0 +1,104 @@
+/* What gateway.h says at the edges: buffers of length 0 that are NULL, speeds above 16 bits, answers in words. It prints each sentence that
+ * does not hold; the exit status is then 1. */
+#include <stdio.h>
+
+#include "gateway.h"
+
+static uint8_t out[GATEWAY_LARGEST_FILE];
+static uint64_t plan[GATEWAY_PLAN_WORDS];
+static uint32_t table[GATEWAY_TABLE_PLACES];
+static uint32_t run[GATEWAY_RUN_WORDS];
+static uint32_t grants[GATEWAY_MOST_JOBS];
+static uint64_t location[GATEWAY_LOCATION_WORDS];
+static int failed;
+
+static void expect(int holds, const char *sentence)
+{
+    if (holds)
+        return;
+    puts(sentence);
+    failed = 1;
+}
+
+static void too_short(uint32_t answer, const char *call)
+{
+    expect(answer == GATEWAY_BUFFER_TOO_SHORT, call);
+}
+
+/* One essential job of one unit, allotted: 21 is no ground to refuse it. */
+static void make_plan(void)
+{
+    plan[GATEWAY_INDEX_NORMAL_RATE] = 2;
+    plan[GATEWAY_INDEX_FLOOR] = 1;
+    plan[GATEWAY_INDEX_JOB_COUNT] = 1;
+    plan[GATEWAY_INDEX_JOB_NAME(0)] = UINT64_C(0x6D6972726F722D41);
+    plan[GATEWAY_INDEX_JOB_GRADE(0)] = 1;
+    plan[GATEWAY_INDEX_JOB_RELEASE(0)] = 0;
+    plan[GATEWAY_INDEX_JOB_SIZE(0)] = 1;
+    plan[GATEWAY_INDEX_JOB_DEADLINE(0)] = 1;
+    table[GATEWAY_INDEX_ALLOTMENT(0, 0)] = 1;
+}
+
+static void reading_of_nothing(void)
+{
+    too_short(gateway_read(NULL, 0, NULL, 0, table, GATEWAY_TABLE_PLACES), "read: no plan");
+    too_short(gateway_read(NULL, 0, plan, GATEWAY_PLAN_WORDS, NULL, 0), "read: no table");
+    expect(gateway_read(NULL, 0, plan, GATEWAY_PLAN_WORDS, table, GATEWAY_TABLE_PLACES) == GATEWAY_WRONG_VERSION, "read: an empty file is refused by 1");
+    expect(gateway_name(NULL, 0, 0) == 0, "name: an empty file shows none");
+}
+
+static void writing_of_nothing(void)
+{
+    size_t written = 1;
+    too_short(gateway_write(NULL, 0, table, GATEWAY_TABLE_PLACES, out, GATEWAY_LARGEST_FILE, &written), "write: no plan");
+    expect(written == 0, "write: a refused file has no bytes");
+    too_short(gateway_write(plan, GATEWAY_PLAN_WORDS, NULL, 0, out, GATEWAY_LARGEST_FILE, &written), "write: no table");
+    too_short(gateway_write(plan, GATEWAY_PLAN_WORDS, table, GATEWAY_TABLE_PLACES, NULL, 0, &written), "write: no room");
+}
+
+static void judging_of_nothing(void)
+{
+    int64_t slack = 0;
+    too_short(gateway_judge(NULL, 0, table, GATEWAY_TABLE_PLACES, location, GATEWAY_LOCATION_WORDS), "judge: no plan");
+    too_short(gateway_judge(plan, GATEWAY_PLAN_WORDS, NULL, 0, location, GATEWAY_LOCATION_WORDS), "judge: no table");
+    too_short(gateway_judge(plan, GATEWAY_PLAN_WORDS, table, GATEWAY_TABLE_PLACES, NULL, 0), "judge: no location");
+    too_short(gateway_slack(NULL, 0, table, GATEWAY_TABLE_PLACES, &slack, location, GATEWAY_LOCATION_WORDS), "slack: no plan");
+    too_short(gateway_slack(plan, GATEWAY_PLAN_WORDS, NULL, 0, &slack, location, GATEWAY_LOCATION_WORDS), "slack: no table");
+    too_short(gateway_slack(plan, GATEWAY_PLAN_WORDS, table, GATEWAY_TABLE_PLACES, &slack, NULL, 0), "slack: no location");
+}
+
+static void slots_of_nothing(void)
+{
+    too_short(gateway_start(NULL, 0, table, GATEWAY_TABLE_PLACES, run, GATEWAY_RUN_WORDS, location, GATEWAY_LOCATION_WORDS), "start: no plan");
+    too_short(gateway_start(plan, GATEWAY_PLAN_WORDS, NULL, 0, run, GATEWAY_RUN_WORDS, location, GATEWAY_LOCATION_WORDS), "start: no table");
+    too_short(gateway_start(plan, GATEWAY_PLAN_WORDS, table, GATEWAY_TABLE_PLACES, NULL, 0, location, GATEWAY_LOCATION_WORDS), "start: no run");
+    too_short(gateway_start(plan, GATEWAY_PLAN_WORDS, table, GATEWAY_TABLE_PLACES, run, GATEWAY_RUN_WORDS, NULL, 0), "start: no location");
+    too_short(gateway_step(NULL, 0, table, GATEWAY_TABLE_PLACES, run, GATEWAY_RUN_WORDS, 1, grants, GATEWAY_MOST_JOBS), "step: no plan");
+    too_short(gateway_step(plan, GATEWAY_PLAN_WORDS, table, GATEWAY_TABLE_PLACES, NULL, 0, 1, grants, GATEWAY_MOST_JOBS), "step: no run");
+    too_short(gateway_step(plan, GATEWAY_PLAN_WORDS, NULL, 0, run, GATEWAY_RUN_WORDS, 1, grants, GATEWAY_MOST_JOBS), "step: no table");
+    too_short(gateway_step(plan, GATEWAY_PLAN_WORDS, table, GATEWAY_TABLE_PLACES, run, GATEWAY_RUN_WORDS, 1, NULL, 0), "step: no grants");
+    too_short(gateway_outcome(NULL, 0, run, GATEWAY_RUN_WORDS, 0), "outcome: no plan");
+    too_short(gateway_outcome(plan, GATEWAY_PLAN_WORDS, NULL, 0, 0), "outcome: no run");
+}
+
+static void speeds_and_words(void)
+{
+    expect(gateway_speed(0, plan) == 0 && gateway_speed(1, plan) == 1 && gateway_speed(2, plan) == 2, "speed: up to the normal rate as measured");
+    expect(gateway_speed(3, plan) == 2 && gateway_speed(UINT64_C(65537), plan) == 2, "speed: the normal rate if more is measured");
+    plan[GATEWAY_INDEX_NORMAL_RATE] = UINT64_MAX;
+    expect(gateway_speed(UINT64_MAX, plan) == UINT16_MAX, "speed: at most 65,535 whatever the plan says");
+    expect(gateway_words(GATEWAY_BUFFER_TOO_SHORT + 1) == gateway_words(GATEWAY_OPEN + 1), "words: a number that is no answer");
+}
+
+int main(void)
+{
+    reading_of_nothing();
+    make_plan();
+    expect(gateway_start(plan, GATEWAY_PLAN_WORDS, table, GATEWAY_TABLE_PLACES, run, GATEWAY_RUN_WORDS, location, GATEWAY_LOCATION_WORDS) == GATEWAY_DONE,
+        "start: the plan is accepted");
+    writing_of_nothing();
+    judging_of_nothing();
+    slots_of_nothing();
+    speeds_and_words();
+    return failed;
+}

@@ -1,0 +1,143 @@
+//! The wrapper as a project of one's own sees it: what goes in comes out, and what no plan or run can be is refused in words.
+
+use gateway::{index, refusal, Grade, Job, Outcome, Plan, Run, MOST_JOBS, PLAN_WORDS, RUN_WORDS, TABLE_PLACES};
+
+const ESSENTIAL: usize = 1;
+
+fn jobs() -> [Job; 2] {
+    [
+        Job { name: *b"Mirror-A", grade: Grade::Lo, release: 0, size: 6, deadline: 5 },
+        Job { name: *b"mirror-A", grade: Grade::Hi, release: 1, size: 8, deadline: 10 },
+    ]
+}
+
+/// Plan E of docs/RULES.md.
+fn plan_e() -> Plan {
+    let mut plan = Plan::new(2, 1, &jobs()).unwrap();
+    for (job, interval, units) in [(0, 0, 2), (0, 1, 4), (1, 1, 4), (1, 2, 4)] {
+        assert!(plan.allot(job, interval, units));
+    }
+    plan
+}
+
+#[test]
+fn rates_and_jobs_come_out_as_they_went_in() {
+    let plan = plan_e();
+    assert_eq!((plan.normal_rate(), plan.floor(), plan.job_count()), (2, 1, 2));
+    assert!(plan.jobs().eq(jobs()));
+    assert_eq!(plan.job(ESSENTIAL), Some(jobs()[ESSENTIAL]));
+    assert_eq!(plan.job(2), None);
+    assert_eq!(plan.allotment(1, 2), Some(4));
+}
+
+#[test]
+fn a_plan_is_taken_back_from_its_words() {
+    let plan = plan_e();
+    let again = Plan::from_words(plan.words(), plan.table()).unwrap();
+    assert_eq!(again.write(), plan.write());
+    assert_eq!(again.words(), plan.words());
+}
+
+#[test]
+fn words_that_no_plan_has_are_refused() {
+    let plan = plan_e();
+    let number = |words: &[u64], table: &[u32]| Plan::from_words(words, table).unwrap_err().number();
+    assert_eq!(number(&plan.words()[1..], plan.table()), refusal::BUFFER_TOO_SHORT);
+    assert_eq!(number(plan.words(), &plan.table()[1..]), refusal::BUFFER_TOO_SHORT);
+    // Normal rate, floor and count; of the first job grade, release and deadline.
+    for at in [0, 1, 2, 4, 5, 7] {
+        let mut words = *plan.words();
+        words[at] = u64::MAX;
+        assert_eq!(number(&words, plan.table()), refusal::UNSOUND, "word {at}");
+    }
+    // Words of a job that is not counted are not looked at.
+    let mut words = *plan.words();
+    words[PLAN_WORDS - 1] = u64::MAX;
+    assert!(Plan::from_words(&words, &[0; TABLE_PLACES]).is_ok());
+}
+
+#[test]
+fn a_run_is_taken_back_from_its_words_in_any_slot() {
+    let plan = plan_e();
+    let (mut kept, mut stored) = (plan.start().unwrap(), plan.start().unwrap());
+    for speed in [2, 2, 2, 1, 1, 1, 1, 1, 1, 1] {
+        stored = Run::from_words(stored.words()).unwrap();
+        assert_eq!(kept.step(&plan, speed), stored.step(&plan, speed));
+        assert_eq!(kept, stored);
+    }
+    assert_eq!(kept.outcome(&plan, ESSENTIAL), Ok(Outcome::Met));
+    assert_eq!(kept.step(&plan, 1).unwrap_err().number(), refusal::CLOCK_AT_END);
+}
+
+#[test]
+fn words_that_no_run_has_are_refused() {
+    let words = *plan_e().start().unwrap().words();
+    assert_eq!(Run::from_words(&words[1..]).unwrap_err().number(), refusal::BUFFER_TOO_SHORT);
+    for mark in [index::SLOW, index::BELOW_FLOOR] {
+        let mut wrong = words;
+        wrong[mark] = 2;
+        assert_eq!(Run::from_words(&wrong).unwrap_err().number(), refusal::UNSOUND);
+    }
+    assert_eq!(RUN_WORDS, index::CARRIED + MOST_JOBS);
+}
+
+#[test]
+fn a_measured_speed_is_at_most_the_normal_rate() {
+    let plan = plan_e();
+    let measured = [0, 1, 2, 3, 65_536, 65_537, u64::MAX];
+    assert_eq!(measured.map(|units| plan.speed(units)), [0, 1, 2, 2, 2, 2, 2]);
+}
+
+/// The link carried 1 unit of the 2 that were said, and it was one of the essential transfer's. At 1 the step grants just that unit, so the
+/// night goes on from the run before the slot, and what is essential ends in time at the floor.
+#[test]
+fn a_slot_is_told_again_if_the_lesser_speed_grants_what_went() {
+    let plan = plan_e();
+    let mut run = plan.start().unwrap();
+    run.step(&plan, 2).unwrap();
+    let before = run.clone();
+    assert_eq!(run.step(&plan, 2), Ok(vec![0, 2]));
+    run = before;
+    assert_eq!(run.step(&plan, 1), Ok(vec![0, 1]));
+    while run.step(&plan, plan.floor()).is_ok() {}
+    assert_eq!(run.outcome(&plan, ESSENTIAL), Ok(Outcome::Met));
+    assert!(!run.is_below_floor());
+}
+
+/// Units that did not go are taken back: they are granted again, and the outcome tells what really went.
+#[test]
+fn units_that_did_not_go_are_granted_again() {
+    let plan = plan_e();
+    let mut run = plan.start().unwrap();
+    run.step(&plan, 2).unwrap();
+    run.step(&plan, 2).unwrap();
+    let mut words = *run.words();
+    words[index::CARRIED + ESSENTIAL] -= 2;
+    words[index::SLOW] = 1;
+    words[index::BELOW_FLOOR] = 1;
+    run = Run::from_words(&words).unwrap();
+    assert_eq!(run.carried(ESSENTIAL), Some(0));
+    assert_eq!(run.step(&plan, 2), Ok(vec![0, 2]));
+    while run.step(&plan, 1).is_ok() {}
+    assert_eq!(run.outcome(&plan, ESSENTIAL), Ok(Outcome::Met));
+    assert!(run.is_below_floor());
+}
+
+#[test]
+fn what_is_shown_can_be_read() {
+    let plan = plan_e();
+    let shown = format!("{plan:?}");
+    assert!(shown.contains(r#"normal_rate: 2, floor: 1, jobs: [Job { name: "Mirror-A", grade: Lo, release: 0, size: 6, deadline: 5 }"#), "{shown}");
+    assert!(shown.ends_with("allotments: [(0, 0, 2), (0, 1, 4), (1, 1, 4), (1, 2, 4)] }"), "{shown}");
+    let shown = format!("{:?}", plan.start().unwrap());
+    assert!(shown.starts_with("Run { clock: 0, slow: false, below_floor: false, carried: [0, 0,"), "{shown}");
+}
+
+#[test]
+fn a_refusal_says_what_and_where() {
+    let mut plan = plan_e();
+    plan.allot(1, 1, 2);
+    plan.allot(1, 2, 6);
+    let refusal = plan.judge().unwrap_err();
+    assert_eq!(refusal.to_string(), "refused 18: the floor cannot carry what is essential in time (interval 2, deadline 10)");
+}
