@@ -1,7 +1,7 @@
 -- The views of the answers of reader and lookup, and the contracts of both.
 use mathlib.Core.Path.{_≡_}
 use mathlib.Core.List.{List, [], _∷_}
-use Prim.Native.Nat.{ℕ}
+use Prim.Native.Nat.{ℕ, _+_}
 use Rattle.plan.specs.Kinds.{Bytes, Position, Table}
 use Rattle.planfile.specs.declared.reader.Answer.{Answer}
 use Rattle.planfile.specs.declared.reader.Answer.the-variants as answer
@@ -28,3 +28,8 @@ Finds file position r = r ≡ rule.nameFound file position
 -- The contract of `name_of`: the part that it returns is the one of `nameShown`.
 abbrev pub Shows : (file : Bytes) (position : Position) (part : List ℕ) → Type 0
 Shows file position part = part ≡ rule.nameShown file position
+
+-- And where that part begins: in the caller's own file, at the offset of `nameFound`. A pointer is a
+-- block of memory and an offset into it.
+abbrev pub ShownAt : (start : ℕ × ℕ) (file : Bytes) (position : Position) (r : ℕ × ℕ) → Type 0
+ShownAt start file position r = r ≡ (start .0, rule.nameFound file position + start .1)

@@ -5,7 +5,7 @@ use plan::edition::Edition;
 use planfields::layout::Layout;
 ghost use mathlib.Core.Path.{_≡_};
 ghost use Rattle.planfile.specs.Reader.{readFile};
-ghost use Rattle.planfile.specs.Answers.{Finds, Shows};
+ghost use Rattle.planfile.specs.Answers.{Finds, Shows, ShownAt};
 ghost use Rattle.planfile.specs.inner.Parts.{countOf};
 
 // The job count of a file, or 0 if the reader would refuse the file.
@@ -37,6 +37,7 @@ pub fn name_at(file: &[u8], position: usize) -> usize
 // an empty part if the reader would refuse the file or if it has no such job.
 pub fn name_of(file: &[u8], position: usize) -> &[u8]
     ensures { λ r. ⌜ Shows (now (file .entry)) position (now r) ⌝ }
+    ensures { λ r. ⌜ ShownAt (file .entry .ptr) (now (file .entry)) position (r .ptr) ⌝ }
 {
     let from = name_at(file, position);
     if from == 0 {
