@@ -19,13 +19,6 @@ fn is_served(job: Job, clock: Slots, slow: bool) -> bool
     (release.0 <= clock.0) & (clock.0 < deadline.0) & ((job.grade == HI) | !slow)
 }
 
-// A stored 32-bit number as units.
-pub(crate) fn units(stored: u32) -> Units
-    ensures { λ r. ⌜ r ≡ record { 0 = stored } ⌝ }
-{
-    Units(stored as u64)
-}
-
 // The goal of a job: its size under the slow mark, otherwise
 // its allotments so far but at most its size.
 fn goal_of(slow: bool, size: Units, allotted: Units) -> Units

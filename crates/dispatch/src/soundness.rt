@@ -1,12 +1,12 @@
 // The readiness of a plan and a run for a slot: unsound, at the plan's end, or running.
 use crate::Run;
-use crate::claims::units;
 use plan::boundaries::first_release;
 use plan::boundaries::last_deadline;
 use plan::boundaries::present_of;
 use plan::edition::Edition;
 use plan::kinds::Plan;
 use plan::kinds::Slots;
+use plan::kinds::as_units;
 use plan::rules::bounds_hold;
 use plan::rules::count_allowed;
 use plan::rules::counted_of;
@@ -40,7 +40,7 @@ fn carried_within(p: Plan, carried: &[u32; Edition::MOST_JOBS]) -> bool
     while i < jobs {
         let job = p.jobs[i];
         let size = job.size;
-        let had = units(carried[i]);
+        let had = as_units(carried[i]);
         within = within & (had.0 <= size.0);
         i += 1;
     }
@@ -109,7 +109,7 @@ pub(crate) fn begun_in(s: Readiness) -> u32
 }
 
 // Whether a plan and a run are sound for a slot.
-pub fn slot_sound(p: Plan, run: Run) -> bool
+pub(crate) fn slot_sound(p: Plan, run: Run) -> bool
     ensures { λ r. ⌜ r ≡ slotSound p run ⌝ }
 {
     let carried = run.carried;

@@ -2,7 +2,6 @@
 use crate::Run;
 use crate::answers::Answer;
 use crate::claims::claim_of;
-use crate::claims::units;
 use crate::ranks::rank_of;
 use crate::slot::grant_all;
 use crate::slot::mark_after;
@@ -17,6 +16,7 @@ use plan::kinds::Plan;
 use plan::kinds::Rate;
 use plan::kinds::Slots;
 use plan::kinds::Units;
+use plan::kinds::as_units;
 use plan::refusal::BUFFER_TOO_SHORT;
 use plan::refusal::CLOCK_AT_END;
 use plan::refusal::SPEED_ABOVE_NORMAL;
@@ -94,7 +94,7 @@ pub fn step(p: Plan, table: &[u32], run: Run, v: u16, grants: &mut [u32]) -> Ste
         let job = p.jobs[i];
         ranks[i] = rank_of(job.grade, job.deadline, i);
         let allotted = Units(sum_of(table, Edition::MOST_INTERVALS * i, 1, begun));
-        claims[i] = claim_of(job, clock, slow, allotted, units(carried[i]), v);
+        claims[i] = claim_of(job, clock, slow, allotted, as_units(carried[i]), v);
         i += 1;
     }
     grant_all(&ranks, &claims, jobs, v, &mut carried, grants);

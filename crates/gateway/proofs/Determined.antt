@@ -19,14 +19,14 @@ pub some-read : (file plan table : List ℕ) → (r : ℕ) × (words : List ℕ)
 some-read file plan table = let c = readCall file plan table in (c .number, c .plan, c .table, refl)
 
 -- `gateway_write`.
-pub one-write : (plan table out : List ℕ) (r s : ℕ) (left other : List ℕ) (length long : ℕ) → HostWrites plan table out r left length
-    → HostWrites plan table out s other long → (r ≡ s) × (left ≡ other) × (length ≡ long)
-one-write plan table out r s left other length long d e =
+pub one-write : (plan table out : List ℕ) (was r s : ℕ) (left other : List ℕ) (length long : ℕ) → HostWrites plan table out was r left length
+    → HostWrites plan table out was s other long → (r ≡ s) × (left ≡ other) × (length ≡ long)
+one-write plan table out was r s left other length long d e =
     let same = d ∙ sym e in
     (ap (λ (x : HostWriteEffect). x .number) same, ap (λ (x : HostWriteEffect). x .out) same, ap (λ (x : HostWriteEffect). x .length) same)
 
-pub some-write : (plan table out : List ℕ) → (r : ℕ) × (left : List ℕ) × (length : ℕ) × HostWrites plan table out r left length
-some-write plan table out = let c = writeCall plan table out in (c .number, c .out, c .length, refl)
+pub some-write : (plan table out : List ℕ) (was : ℕ) → (r : ℕ) × (left : List ℕ) × (length : ℕ) × HostWrites plan table out was r left length
+some-write plan table out was = let c = writeCall plan table out was in (c .number, c .out, c .length, refl)
 
 -- `gateway_name`.
 pub one-name : (file : List ℕ) (position r s : ℕ) → HostShows file position r → HostShows file position s → r ≡ s

@@ -14,9 +14,9 @@ HostReads file plan table r plan-left table-left =
 
 -- The contract of `gateway_write`: the number, the length and
 -- the output, whatever the length was before.
-abbrev pub HostWrites : (plan : Words) (table : Table) (out : Bytes) (r : ℕ) (out-left : Bytes) (length-left : ℕ) → Type 0
-HostWrites plan table out r out-left length-left =
-    record { number = r; length = length-left; out = out-left } ≡ writeCall plan table out
+abbrev pub HostWrites : (plan : Words) (table : Table) (out : Bytes) (length : ℕ) (r : ℕ) (out-left : Bytes) (length-left : ℕ) → Type 0
+HostWrites plan table out length r out-left length-left =
+    record { number = r; length = length-left; out = out-left } ≡ writeCall plan table out length
 
 -- The contract of `gateway_name`: the offset of the name in the file, or 0.
 abbrev pub HostShows : (file : Bytes) (position : Position) (r : ℕ) → Type 0

@@ -209,8 +209,8 @@ writtenLength (writing.refused number) = 0
 abbrev pub wroteWords : writing.WriteEffect → HostWriteEffect
 wroteWords o = record { number = writtenNumber (o .answer); length = writtenLength (o .answer); out = o .out }
 
--- The write's call: 22 if the plan is too short, with length 0 and the output
+-- The write's call: 22 if the plan is too short, with the length and the output
 -- unchanged; otherwise the effect of the writer.
-unfoldable pub writeCall : (plan : Words) (table : Table) (out : Bytes) → HostWriteEffect
-writeCall plan table out =
-    cond (shortPlan plan) (record { number = bufferTooShort; length = 0; out = out }) (wroteWords (writing.writer (planOf plan) table out))
+unfoldable pub writeCall : (plan : Words) (table : Table) (out : Bytes) (length : ℕ) → HostWriteEffect
+writeCall plan table out length =
+    cond (shortPlan plan) (record { number = bufferTooShort; length = length; out = out }) (wroteWords (writing.writer (planOf plan) table out))

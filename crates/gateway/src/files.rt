@@ -34,11 +34,10 @@ pub extern "C" fn gateway_write(
     out: &mut [u8],
     length: &mut usize,
 ) -> u32
-    ensures { λ r. ⌜ HostWrites (now (plan .entry)) (now (table .entry)) (now (out .entry)) r (now (out .exit)) (now (length .exit)) ⌝ }
+    ensures { λ r. ⌜ HostWrites (now (plan .entry)) (now (table .entry)) (now (out .entry)) (now (length .entry)) r (now (out .exit)) (now (length .exit)) ⌝ }
 {
     if plan.len() < Sizes::PLAN {
-        *length = 0;
-        return BUFFER_TOO_SHORT as u32;
+        return BUFFER_TOO_SHORT as u32; // the length stays too
     }
     let written = write(plan_of(plan), table, out);
     *length = written_length(written);

@@ -1,11 +1,11 @@
 // The judge's calls for hosts.
 use crate::answers::first_of;
-use crate::answers::verdict_number;
 use crate::answers::second_of;
 use crate::answers::slack_figure;
 use crate::answers::slack_first;
 use crate::answers::slack_number;
 use crate::answers::slack_second;
+use crate::answers::verdict_number;
 use hostmemory::plans::plan_of;
 use hostmemory::sizes::Sizes;
 use judge::figure::slack;

@@ -1,9 +1,9 @@
 // The calls for hosts on a run.
 use crate::answers::answer_number;
 use crate::answers::first_of;
-use crate::answers::verdict_number;
 use crate::answers::outcome_number;
 use crate::answers::second_of;
+use crate::answers::verdict_number;
 use dispatch::outcome::outcome;
 use dispatch::start::start;
 use dispatch::step::step;

@@ -7,7 +7,7 @@ use crate::windows::outside_window;
 use plan::edition::Edition;
 use plan::kinds::Plan;
 use plan::rules::counted_of;
-use plan::table::sound_of;
+use plan::table::sound_within;
 ghost use mathlib.Core.Path.{_≡_};
 ghost use Prim.Native.Nat.{_<_, _≤_};
 ghost use lib.ListN.{length};
@@ -28,7 +28,7 @@ fn in_hand(p: Plan, table: &[u32], count: usize) -> Verdict
     if count == 0 {
         return Verdict::Unsound;
     }
-    if !sound_of(p, table, count - 1) {
+    if !sound_within(p, table, count - 1) {
         return Verdict::Unsound;
     }
     Verdict::Accepted

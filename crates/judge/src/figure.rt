@@ -44,7 +44,7 @@ pub fn slack_of(p: Plan, table: &[u32], interval: usize, deadline: Slots) -> i64
 {
     let start = start_of(p, interval);
     let d = p.d;
-    let carries = capacity(d, start.0, deadline.0);
+    let carries = capacity(d, start, deadline);
     let asked = demand_of(p, table, interval, deadline);
     slack_from(carries, asked)
 }
@@ -86,7 +86,7 @@ fn column_taken_in(due: bool, d: Rate, sums: &[u64], times: &[u32], m: usize, kn
     if !due | (m == 0) {
         return known;
     }
-    let time = times[m];
+    let time = Slots(times[m]);
     let mut best = i64::MAX;
     let mut at = m;
     let mut asked = Units(0);
@@ -94,12 +94,12 @@ fn column_taken_in(due: bool, d: Rate, sums: &[u64], times: &[u32], m: usize, kn
     while l > 0 {
         l -= 1;
         asked = Units(asked.0 + sums[l]);
-        let carries = capacity(d, times[l], time);
+        let carries = capacity(d, Slots(times[l]), time);
         let slack = slack_from(carries, asked);
         at = pick(slack <= best, l, at);
         best = lesser_of(slack, best);
     }
-    sooner_of(known, best, at, Slots(time))
+    sooner_of(known, best, at, time)
 }
 
 // The least slack over all pairs, in one pass over the boundaries: at each, the rows of the HI jobs
@@ -113,7 +113,7 @@ fn least_slack(p: Plan, table: &[u32], times: &[u32], spans: usize) -> Slack
     let mut best = Slack::NoneEssential;
     let mut m = 0;
     while m <= spans {
-        let time = times[m];
+        let time = Slots(times[m]);
         let due = add_rows(&mut sums, table, &deadlines, spans, time);
         let d = p.d;
         best = column_taken_in(due, d, &sums, times, m, best);

@@ -35,14 +35,14 @@ fn lowered(due: bool, d: Rate, sums: &[u64], times: &[u32], m: usize, other: usi
     if !due {
         return other;
     }
-    let time = times[m];
+    let time = Slots(times[m]);
     let mut low = other;
     let mut asked = Units(0);
     let mut l = m;
     while l > 0 {
         l -= 1;
         asked = Units(asked.0 + sums[l]);
-        let carries = capacity(d, times[l], time);
+        let carries = capacity(d, Slots(times[l]), time);
         low = pick(carries.0 < asked.0, l, low);
     }
     pick(low < other, low, other)
@@ -72,7 +72,7 @@ pub(crate) fn below_floor(p: Plan, table: &[u32], times: &[u32], spans: usize) -
     let mut until = 0;
     let mut m = 0;
     while m <= spans {
-        let time = times[m];
+        let time = Slots(times[m]);
         let due = add_rows(&mut sums, table, &deadlines, spans, time);
         let d = p.d;
         let here = lowered(due, d, &sums, times, m, low);

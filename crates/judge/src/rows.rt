@@ -4,6 +4,7 @@ use plan::boundaries::is_absent_time;
 use plan::edition::Edition;
 use plan::kinds::HI;
 use plan::kinds::Plan;
+use plan::kinds::Slots;
 use plan::kinds::Units;
 use plan::rules::counted_of;
 ghost use mathlib.Core.Path.{_≡_};
@@ -40,17 +41,17 @@ pub(crate) fn add_rows(
     table: &[u32],
     deadlines: &[u32],
     spans: usize,
-    time: u32,
+    time: Slots,
 ) -> bool
     requires { ⌜ (spans ≤ length (now sums)) × (length (now deadlines) ≤ mostJobs) × (spans ≤ mostIntervals) × (places ≤ length (now table)) × ((j : ℕ) → j < spans → getD (now sums) j 0 ≤ mostJobs * mostAtPlace) ⌝ }
-    ensures { λ r. ⌜ (r ≡ not (isAbsent (now (deadlines .entry)) time)) × (length (now (sums .exit)) ≡ length (now (sums .entry))) × ((j : ℕ) → j < spans → getD (now (sums .exit)) j 0 ≡ getD (now (sums .entry)) j 0 + sum (λ i. on (eqb (getD (now (deadlines .entry)) i 0) time) (units (now (table .entry)) i j)) (length (now (deadlines .entry)))) ⌝ }
+    ensures { λ r. ⌜ (r ≡ not (isAbsent (now (deadlines .entry)) (time .0))) × (length (now (sums .exit)) ≡ length (now (sums .entry))) × ((j : ℕ) → j < spans → getD (now (sums .exit)) j 0 ≡ getD (now (sums .entry)) j 0 + sum (λ i. on (eqb (getD (now (deadlines .entry)) i 0) (time .0)) (units (now (table .entry)) i j)) (length (now (deadlines .entry)))) ⌝ }
 {
-    if is_absent_time(deadlines, time) {
+    if is_absent_time(deadlines, time.0) {
         return false;
     }
     let mut i = 0;
     while i < deadlines.len() {
-        let wanted = deadlines[i] == time;
+        let wanted = deadlines[i] == time.0;
         add_row(sums, wanted, table, Edition::MOST_INTERVALS * i, spans);
         i += 1;
     }
@@ -58,10 +59,10 @@ pub(crate) fn add_rows(
 }
 
 // The deadline if wanted, otherwise a time that no sound plan reaches.
-fn deadline_if(wanted: bool, deadline: u32) -> u32
-    ensures { λ r. ⌜ r ≡ cond wanted deadline never ⌝ }
+fn deadline_if(wanted: bool, deadline: Slots) -> Slots
+    ensures { λ r. ⌜ r .0 ≡ cond wanted (deadline .0) never ⌝ }
 {
-    if wanted { deadline } else { u32::MAX }
+    if wanted { deadline } else { Slots(u32::MAX) }
 }
 
 // The deadline of each counted HI job at its record's index; other
@@ -75,7 +76,8 @@ pub(crate) fn hi_deadlines_of(p: Plan) -> [u32; Edition::MOST_JOBS]
     while i < Edition::MOST_JOBS {
         let job = p.jobs[i];
         let deadline = job.deadline;
-        row[i] = deadline_if((i < jobs) & (job.grade == HI), deadline.0);
+        let kept = deadline_if((i < jobs) & (job.grade == HI), deadline);
+        row[i] = kept.0;
         i += 1;
     }
     row

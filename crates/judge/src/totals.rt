@@ -24,19 +24,19 @@ ghost use Rattle.plan.specs.Report.{first, fault};
 ghost use Rattle.judge.specs.Answers.{verdictView};
 
 // The slots from one time to another; 0 if the second is earlier.
-fn elapsed(from: u32, to: u32) -> Slots
-    ensures { λ r. ⌜ r ≡ record { 0 = to - from } ⌝ }
+fn elapsed(from: Slots, to: Slots) -> Slots
+    ensures { λ r. ⌜ r ≡ record { 0 = to .0 - from .0 } ⌝ }
 {
-    if from <= to {
-        Slots(to - from)
+    if from.0 <= to.0 {
+        Slots(to.0 - from.0)
     } else {
         Slots(0)
     }
 }
 
 // The capacity of a rate from one time to another.
-pub(crate) fn capacity(rate: Rate, from: u32, to: u32) -> Units
-    ensures { λ r. ⌜ (r .0 ≡ rate .0 * (to - from)) × (r .0 < mostSide) ⌝ }
+pub(crate) fn capacity(rate: Rate, from: Slots, to: Slots) -> Units
+    ensures { λ r. ⌜ (r .0 ≡ rate .0 * (to .0 - from .0)) × (r .0 < mostSide) ⌝ }
 {
     rate.over(elapsed(from, to))
 }
@@ -62,9 +62,9 @@ pub(crate) fn wrong_total(p: Plan, table: &[u32], spans: usize) -> Verdict
 
 // Whether the units of the first `jobs` jobs in interval j exceed a
 // rate's capacity from one time to another.
-fn is_over(n: Rate, jobs: usize, table: &[u32], from: u32, to: u32, j: usize) -> bool
+fn is_over(n: Rate, jobs: usize, table: &[u32], from: Slots, to: Slots, j: usize) -> bool
     requires { ⌜ jobs ≤ mostJobs ⌝ }
-    ensures { λ r. ⌜ r ≡ ltb (n .0 * (to - from)) (sum (λ i. units (now (table .entry)) i j) jobs) ⌝ }
+    ensures { λ r. ⌜ r ≡ ltb (n .0 * (to .0 - from .0)) (sum (λ i. units (now (table .entry)) i j) jobs) ⌝ }
 {
     let most = capacity(n, from, to);
     let load = Units(sum_of(table, j, Edition::MOST_INTERVALS, jobs as u32));
@@ -84,7 +84,7 @@ pub(crate) fn over_capacity(
 {
     let mut j = 0;
     while j < spans {
-        let over = is_over(n, jobs, table, times[j], times[j + 1], j);
+        let over = is_over(n, jobs, table, Slots(times[j]), Slots(times[j + 1]), j);
         if over {
             return Verdict::OverCapacity(j);
         }

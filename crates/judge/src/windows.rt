@@ -2,6 +2,9 @@
 use crate::answers::Verdict;
 use plan::edition::Edition;
 use plan::kinds::Plan;
+use plan::kinds::Slots;
+use plan::kinds::Units;
+use plan::kinds::as_units;
 use plan::rules::counted_of;
 ghost use mathlib.Core.Path.{_≡_};
 ghost use mathlib.Core.Bool.{not, _&&_, _||_};
@@ -19,10 +22,10 @@ ghost use Rattle.plan.specs.Report.{first, fault};
 ghost use Rattle.judge.specs.Answers.{verdictView};
 
 // Whether the interval between two times lies inside a window or has 0 units.
-fn place_inside(from: u32, to: u32, units: u32, release: u32, deadline: u32) -> bool
-    ensures { λ r. ⌜ r ≡ (leb release from && leb to deadline || eqb units 0) ⌝ }
+fn place_inside(from: Slots, to: Slots, units: Units, release: Slots, deadline: Slots) -> bool
+    ensures { λ r. ⌜ r ≡ (leb (release .0) (from .0) && leb (to .0) (deadline .0) || eqb (units .0) 0) ⌝ }
 {
-    (release <= from) & (to <= deadline) | (units == 0)
+    (release.0 <= from.0) & (to.0 <= deadline.0) | (units.0 == 0)
 }
 
 // Whether every interval of a row lies inside the window or has 0 units. It tests them
@@ -32,16 +35,19 @@ fn row_inside(
     start: usize,
     times: &[u32],
     spans: usize,
-    release: u32,
-    deadline: u32,
+    release: Slots,
+    deadline: Slots,
 ) -> bool
     requires { ⌜ (spans < length (now times)) × (start + spans ≤ length (now table)) ⌝ }
-    ensures { λ r. ⌜ r ≡ every (λ j. within (now (times .entry)) release deadline j || eqb (getD (now (table .entry)) (start + j) 0) 0) spans ⌝ }
+    ensures { λ r. ⌜ r ≡ every (λ j. within (now (times .entry)) (release .0) (deadline .0) j || eqb (getD (now (table .entry)) (start + j) 0) 0) spans ⌝ }
 {
     let mut inside = true;
     let mut j = 0;
     while j < spans {
-        inside = inside & place_inside(times[j], times[j + 1], table[start + j], release, deadline);
+        let from = Slots(times[j]);
+        let to = Slots(times[j + 1]);
+        let stored = as_units(table[start + j]);
+        inside = inside & place_inside(from, to, stored, release, deadline);
         j += 1;
     }
     inside
@@ -54,12 +60,12 @@ fn outside_in_row(
     start: usize,
     times: &[u32],
     spans: usize,
-    release: u32,
-    deadline: u32,
+    release: Slots,
+    deadline: Slots,
     i: usize,
 ) -> Verdict
     requires { ⌜ (spans < length (now times)) × (start + spans ≤ length (now table)) ⌝ }
-    ensures { λ r. ⌜ verdictView r ≡ first (λ j. fault (not (within (now (times .entry)) release deadline j || eqb (getD (now (table .entry)) (start + j) 0) 0)) (outsideWindow ∷ i ∷ j ∷ [])) spans ⌝ }
+    ensures { λ r. ⌜ verdictView r ≡ first (λ j. fault (not (within (now (times .entry)) (release .0) (deadline .0) j || eqb (getD (now (table .entry)) (start + j) 0) 0)) (outsideWindow ∷ i ∷ j ∷ [])) spans ⌝ }
 {
     let mut j = 0;
     while j < spans {
@@ -84,9 +90,9 @@ pub(crate) fn outside_window(p: Plan, table: &[u32], times: &[u32], spans: usize
         let release = job.release;
         let deadline = job.deadline;
         let start = Edition::MOST_INTERVALS * i;
-        let inside = row_inside(table, start, times, spans, release.0, deadline.0);
+        let inside = row_inside(table, start, times, spans, release, deadline);
         if !inside {
-            return outside_in_row(table, start, times, spans, release.0, deadline.0, i);
+            return outside_in_row(table, start, times, spans, release, deadline, i);
         }
         i += 1;
     }

@@ -1,25 +1,45 @@
 -- Laws of names: the list of a plan's names, and the equality of names byte by byte.
 use mathlib.Core.Path.{_≡_, refl, sym, _∙_, ap, ap₂}
 use mathlib.Core.Bool.{not}
-use mathlib.Core.List.{List}
+use mathlib.Core.List.{List, map}
 use mathlib.Core.Logic.{_↔_}
-use Prim.Native.Nat.{ℕ, zero, suc, _+_, _*_, _%_, _^_, _≤_, _<_}
+use Prim.Native.Nat.{ℕ, zero, suc, _+_, _*_, _-_, _%_, _^_, _≤_, _<_}
 use native.Mathlib.Nat.{mod-eq-of-lt, mod-one, one-le-pow, pow-succ'}
 use lib.Arith.{mod-mul}
 use native.Mathlib.Omega.{arith}
 use lib.Dec.{eqb, lit<}
-use lib.ListN.{length, getD, take, List·getD-map}
+use lib.ListN.{length, getD, take, replicate, length-append, length-map, length-take, length-replicate, List·getD-map, List·getD-eq-default}
 use lib.Seq.{length-take-le, getD-take}
 use Rattle.base.specs.Below.{every}
-use Rattle.plan.specs.Rules.{names, jobOf, noJob, isAbsent, byteOf}
+use Rattle.plan.specs.Rules.{names, name, counted, noJob, isAbsent, byteOf}
 use Rattle.plan.specs.declared.kinds.Job.{Job}
 use Rattle.plan.specs.declared.kinds.Plan.{Plan}
 use Rattle.base.proofs.Below.{every-ext}
+use Rattle.base.proofs.Padding.{getD-pad}
+use Rattle.plan.specs.Edition.{mostJobs}
 
--- Entry k of `names p` is the name in record k.
-pub name-at : (p : Plan) (k : ℕ) → getD (names p) k 0 ≡ jobOf p k .name .0
+-- The names of the first records, without what follows them.
+pub prefix-at : (p : Plan) (k : ℕ) → getD (names p) k 0 ≡ getD (take (counted p) (p .jobs)) k noJob .name .0
 unfolding names
-name-at p k = List·getD-map (λ (j : Job). j .name .0) (p .jobs) k noJob
+prefix-at p k =
+    let of : Job → ℕ = λ j. j .name .0 in
+    getD-pad (map of (take (counted p) (p .jobs))) (mostJobs - counted p) k 0 ∙ List·getD-map of (take (counted p) (p .jobs)) k noJob
+
+-- Entry k of `names p` is the name of job k, and 0 from the job count on.
+pub name-at : (p : Plan) (k : ℕ) → k < counted p → getD (names p) k 0 ≡ name p k
+name-at p k h = prefix-at p k ∙ ap (λ (j : Job). j .name .0) (getD-take (counted p) (p .jobs) k noJob h)
+
+pub name-past : (p : Plan) (k : ℕ) → counted p ≤ k → getD (names p) k 0 ≡ 0
+name-past p k h =
+    prefix-at p k
+    ∙ ap (λ (j : Job). j .name .0) (List·getD-eq-default (take (counted p) (p .jobs)) noJob {n = k} (omega (arith, length-take (counted p) (p .jobs))))
+
+pub names-long : (p : Plan) → length (p .jobs) ≡ mostJobs → length (names p) ≡ mostJobs
+unfolding names
+names-long p records =
+    let of : Job → ℕ = λ j. j .name .0 in
+    length-append (map of (take (counted p) (p .jobs))) (replicate (mostJobs - counted p) 0)
+    ∙ omega (arith, length-map (take (counted p) (p .jobs)) of, length-take-le (counted p) (p .jobs) (omega (arith, records)), length-replicate {A = ℕ} (mostJobs - counted p) 0)
 
 -- x is absent from the prefix of length i exactly when none of the first i elements is x.
 pub absent-before : (l : List ℕ) (i x : ℕ) → i ≤ length l → isAbsent (take i l) x ≡ every (λ k. not (eqb (getD l k 0) x)) i

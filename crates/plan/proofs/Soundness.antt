@@ -79,11 +79,11 @@ bounded p r c b =
     let one = leb-true 1 (p .count) (number .0) in
     let most = leb-true (p .count) mostJobs (number .1) in
     let job : (i : ℕ) → i < counted p → (windowAllowed (release p i) (deadline p i) ≡ true) × (sizeAllowed (size p i) ≡ true)
-          = λ i h. both (windowAllowed (release p i) (deadline p i)) (sizeAllowed (size p i)) (job-bounds p b i h) in
+    = λ i h. both (windowAllowed (release p i) (deadline p i)) (sizeAllowed (size p i)) (job-bounds p b i h) in
     let window : (i : ℕ) → i < counted p → (ltb (release p i) (deadline p i) ≡ true) × (leb (deadline p i) mostDeadline ≡ true)
-          = λ i h. both (ltb (release p i) (deadline p i)) (leb (deadline p i) mostDeadline) (job i h .0) in
+    = λ i h. both (ltb (release p i) (deadline p i)) (leb (deadline p i) mostDeadline) (job i h .0) in
     let deadlines : (i : ℕ) → i < counted p → deadline p i ≤ mostDeadline
-          = λ i h. leb-true (deadline p i) mostDeadline (window i h .1) in
+    = λ i h. leb-true (deadline p i) mostDeadline (window i h .1) in
     record {
       rates = ltb-true (p .d .0) (p .n .0) (both (leb 1 (p .d .0)) (ltb (p .d .0) (p .n .0)) (speeds .0) .1);
       rate = leb-true (p .n .0) mostRate (speeds .1);

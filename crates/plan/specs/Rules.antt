@@ -1,10 +1,10 @@
 -- Rules 4 to 9: which rates, job counts, names, grades, windows and sizes are allowed,
 -- by themselves and over a plan in hand.
 use mathlib.Core.Bool.{Bool, not, _&&_, _||_}
-use mathlib.Core.List.{List, map}
-use Prim.Native.Nat.{ℕ, _/_, _%_, _^_, min}
+use mathlib.Core.List.{List, map, _++_}
+use Prim.Native.Nat.{ℕ, _-_, _/_, _%_, _^_, min}
 use lib.Dec.{leb, ltb, eqb}
-use lib.ListN.{length, getD, replicate}
+use lib.ListN.{length, getD, take, replicate}
 use Rattle.plan.specs.Kinds.{Amount, Position, Time}
 use Rattle.plan.specs.Edition.{nameBytes, mostJobs, mostRate, mostDeadline, mostSize}
 use Rattle.base.specs.Below.{every}
@@ -92,9 +92,9 @@ isHi p i = eqb (jobOf p i .grade) hi
 abbrev pub counted : Plan → ℕ
 counted p = min (p .count) mostJobs
 
--- The names of all records, in order.
+-- The names of the counted jobs, in order, then zeros to `mostJobs` entries.
 unfoldable pub names : Plan → List ℕ
-names p = map (λ (j : Job). j .name .0) (p .jobs)
+names p = map (λ (j : Job). j .name .0) (take (counted p) (p .jobs)) ++ replicate (mostJobs - counted p) 0
 
 -- Rule 4 over a plan in hand.
 abbrev pub ratesHold : Plan → Bool

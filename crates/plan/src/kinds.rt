@@ -38,6 +38,13 @@ pub struct Plan {
     pub jobs: [Job; Edition::MOST_JOBS],
 }
 
+// A stored 32-bit number as units.
+pub fn as_units(stored: u32) -> Units
+    ensures { λ r. ⌜ r ≡ record { 0 = stored } ⌝ }
+{
+    Units(stored as u64)
+}
+
 impl Rate {
     // The units carried at this rate in a length of time.
     // No other expression multiplies a rate by slots.

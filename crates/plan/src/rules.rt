@@ -87,13 +87,14 @@ pub fn counted_of(p: Plan) -> usize
     }
 }
 
-// The names of all records, in order, as numbers.
+// The names of the counted jobs, in order, as numbers; then zeros.
 pub fn names_of(p: Plan) -> [u64; Edition::MOST_JOBS]
     ensures { λ r. ⌜ r ≡ names p ⌝ }
 {
+    let count = counted_of(p);
     let mut row = [0u64; Edition::MOST_JOBS];
     let mut i = 0;
-    while i < Edition::MOST_JOBS {
+    while i < count {
         let job = p.jobs[i];
         let name = job.name;
         row[i] = name.0;
@@ -103,7 +104,7 @@ pub fn names_of(p: Plan) -> [u64; Edition::MOST_JOBS]
 }
 
 // Rule 6 over a plan in hand.
-pub fn names_hold(p: Plan) -> bool
+pub(crate) fn names_hold(p: Plan) -> bool
     ensures { λ r. ⌜ r ≡ namesHold p ⌝ }
 {
     let count = counted_of(p);
@@ -118,7 +119,7 @@ pub fn names_hold(p: Plan) -> bool
 }
 
 // Rule 7 over a plan in hand.
-pub fn names_differ(p: Plan) -> bool
+pub(crate) fn names_differ(p: Plan) -> bool
     ensures { λ r. ⌜ r ≡ namesDiffer p ⌝ }
 {
     let count = counted_of(p);
@@ -165,7 +166,7 @@ pub fn bounds_hold(p: Plan) -> bool
 }
 
 // Rules 4 to 9 together: what judge and writer require of a plan, apart from its table.
-pub fn rules_hold(p: Plan) -> bool
+pub(crate) fn rules_hold(p: Plan) -> bool
     ensures { λ r. ⌜ r ≡ rulesHold p ⌝ }
 {
     rates_allowed(p.n, p.d)

@@ -52,7 +52,7 @@ fn no_stray(table: &[u32], jobs: usize, spans: usize) -> bool
 }
 
 // Whether a plan with its table is sound for judge and writer, given its number of intervals.
-pub fn sound_of(p: Plan, table: &[u32], spans: usize) -> bool
+pub fn sound_within(p: Plan, table: &[u32], spans: usize) -> bool
     ensures { λ r. ⌜ r ≡ soundWithin (min spans mostIntervals) p (now (table .entry)) ⌝ }
 {
     let held = at_most(spans, Edition::MOST_INTERVALS);

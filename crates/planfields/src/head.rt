@@ -1,9 +1,9 @@
 // Reading the fields before the jobs: version, length, both rates and the job count.
-use crate::layout::Layout;
 use crate::field::Field;
 use crate::field::NONE;
 use crate::field::field_refusal;
 use crate::field::read_field;
+use crate::layout::Layout;
 use plan::kinds::Rate;
 use plan::refusal::WRONG_EXTENT;
 use plan::refusal::WRONG_JOB_COUNT;

@@ -1,10 +1,10 @@
 // Reading one job.
-use crate::layout::Layout;
 use crate::field::Field;
 use crate::field::NONE;
 use crate::field::field_refusal;
 use crate::field::read_field;
 use crate::field::read_named;
+use crate::layout::Layout;
 use plan::kinds::Job;
 use plan::kinds::Name;
 use plan::kinds::Slots;

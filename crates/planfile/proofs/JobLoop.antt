@@ -49,7 +49,7 @@ names-next jobs j i first n h =
 
 -- The loop invariant after i jobs: the names and the plan hold the i jobs read,
 -- and reading the remaining ones from `next` gives the result of the whole.
-pub record Roll (file : List ℕ) (at : ℕ) (first : List ℕ) (count : ℕ) (blank : Plan) (names : List ℕ) (plan : Plan) (next i : ℕ) : Type 0 where
+pub record JobsRead (file : List ℕ) (at : ℕ) (first : List ℕ) (count : ℕ) (blank : Plan) (names : List ℕ) (plan : Plan) (next i : ℕ) : Type 0 where
   pub jobs : List Job
   pub many : length jobs ≡ i
   pub kept : names ≡ namesOf jobs ++ drop i first
@@ -71,14 +71,14 @@ pub jobs-done : (jobs : List Job) (file : List ℕ) (at : ℕ) → allJobs zero 
 unfolding allJobs
 jobs-done jobs file at = refl
 
-pub roll-start : (file : List ℕ) (at : ℕ) (first : List ℕ) (count : ℕ) (h : Head) → Roll file at first count (planFrom h []) first (planFrom h []) at 0
-roll-start file at first count h =
+pub jobs-read-start : (file : List ℕ) (at : ℕ) (first : List ℕ) (count : ℕ) (h : Head) → JobsRead file at first count (planFrom h []) first (planFrom h []) at 0
+jobs-read-start file at first count h =
     record { jobs = []; many = refl; kept = refl; made = refl; left = ap (λ n. allJobs n [] file at) (sub-zero count) }
 
 module _ {file : List ℕ} {at : ℕ} {first : List ℕ} {count : ℕ} {blank : Plan} {names : List ℕ} {plan : Plan} {next i : ℕ}
-    (so : Roll file at first count blank names plan next i) where
-  pub roll-names : length first ≡ mostJobs → i ≤ mostJobs → length names ≡ mostJobs
-  roll-names n h =
+    (so : JobsRead file at first count blank names plan next i) where
+  pub jobs-read-names : length first ≡ mostJobs → i ≤ mostJobs → length names ≡ mostJobs
+  jobs-read-names n h =
       rw (so .kept, length-append (namesOf (so .jobs)) (drop i first), names-length (so .jobs), length-drop i first)
       (omega (arith, so .many))
 
@@ -89,10 +89,10 @@ module _ {file : List ℕ} {at : ℕ} {first : List ℕ} {count : ℕ} {blank : 
   count-on : i < count → count - i ≡ suc (count - suc i)
   count-on h = omega arith
 
-  pub roll-next : i < count → i < mostJobs → length first ≡ mostJobs → {j : Job} {after : ℕ} → oneJob (take i names) file next ≡ got j after
-      → Roll file at first count blank (set names i (j .name .0))
+  pub jobs-read-next : i < count → i < mostJobs → length first ≡ mostJobs → {j : Job} {after : ℕ} → oneJob (take i names) file next ≡ got j after
+      → JobsRead file at first count blank (set names i (j .name .0))
       (record { n = plan .n; d = plan .d; count = plan .count; jobs = set (plan .jobs) i j }) after (suc i)
-  roll-next more fits n {j} {after} e =
+  jobs-read-next more fits n {j} {after} e =
       record {
         jobs = so .jobs ++ (j ∷ []);
         many = length-snoc (so .jobs) j ∙ ap suc (so .many);
@@ -105,11 +105,11 @@ module _ {file : List ℕ} {at : ℕ} {first : List ℕ} {count : ℕ} {blank : 
             ∙ ap (λ n. allJobs n (so .jobs) file next) (sym (count-on more)) ∙ so .left;
       }
 
-  pub roll-refused : i < count → {x : ℕ} → oneJob (take i names) file next ≡ no x → allJobs count [] file at ≡ no x
-  roll-refused more e =
+  pub jobs-read-refused : i < count → {x : ℕ} → oneJob (take i names) file next ≡ no x → allJobs count [] file at ≡ no x
+  jobs-read-refused more e =
       sym (so .left) ∙ ap (λ n. allJobs n (so .jobs) file next) (count-on more)
       ∙ jobs-stop (count - suc i) (so .jobs) file next (rw earlier at e)
 
-  pub roll-end : i ≡ count → allJobs count [] file at ≡ got (so .jobs) next
-  roll-end e =
+  pub jobs-read-end : i ≡ count → allJobs count [] file at ≡ got (so .jobs) next
+  jobs-read-end e =
       sym (so .left) ∙ ap (λ n. allJobs n (so .jobs) file next) (omega (arith, e)) ∙ jobs-done (so .jobs) file next

@@ -8,7 +8,7 @@ use plan::kinds::Plan;
 use plan::refusal::BUFFER_TOO_SHORT;
 use plan::refusal::UNSOUND;
 use plan::rules::names_of;
-use plan::table::sound_of;
+use plan::table::sound_within;
 use planfields::layout::Layout;
 ghost use mathlib.Core.Path.{_≡_};
 ghost use mathlib.Core.Bool.{true, cond};
@@ -134,7 +134,7 @@ pub fn write(p: Plan, table: &[u32], out: &mut [u8]) -> Written
         return Written::Refused(BUFFER_TOO_SHORT);
     }
     let spans = intervals_of(p);
-    if !sound_of(p, table, spans) {
+    if !sound_within(p, table, spans) {
         return Written::Refused(UNSOUND);
     }
     let rows = rows_in(&table[..Edition::PLACES]);

@@ -196,7 +196,7 @@ one-number : (p : Plan) (table : List ℕ) (run : Run) (v : ℕ) (grants : List 
 unfolding slotFault stepped
 one-number p table run v grants =
     let a = by (not (slotSound p run)) (ltb (length table) places || ltb (length grants) (counted p)) (eqb (run .clock .0) (lastDeadline p)) (ltb (p .n .0) v) in
-    (a .0, a .1 ∙ told (slotFault p table run v grants))
+    (a .0, a .1 ∙ by-answer (slotFault p table run v grants))
   where
     by : (a b c d : Bool)
         → (r : Answer)
@@ -209,9 +209,9 @@ one-number p table run v grants =
     by false false false true = (slot-answer.Refused speedAboveNormal, refl)
     by false false false false = (slot-answer.Done, refl)
 
-    told : (l : Report) → l ≡ slotBy l p table run v grants .answer
-    told [] = refl
-    told (number ∷ rest) = refl
+    by-answer : (l : Report) → l ≡ slotBy l p table run v grants .answer
+    by-answer [] = refl
+    by-answer (number ∷ rest) = refl
 
 pub some-step : (p : Plan) (table : List ℕ) (run : Run) (v : ℕ) (grants : List ℕ)
     → (r : Stepped) × (left : List ℕ) × Steps p table run v grants r left

@@ -72,23 +72,24 @@ host-read-numbers file plan table = by (shortPlan plan)
     by false = report-one numbers (reader file table .answer) (reader-numbers file table)
 
 -- `gateway_write`: 0, 21, 22.
-pub host-write-numbers : (plan table out : List ℕ) → isOneOf (doneNumber ∷ unsound ∷ bufferTooShort ∷ []) (writeCall plan table out .number) ≡ true
+pub host-write-numbers : (plan table out : List ℕ) (was : ℕ)
+    → isOneOf (doneNumber ∷ unsound ∷ bufferTooShort ∷ []) (writeCall plan table out was .number) ≡ true
 unfolding writeCall
-host-write-numbers plan table out = by (shortPlan plan)
+host-write-numbers plan table out was = by (shortPlan plan)
   where
     numbers : List ℕ
     numbers = unsound ∷ bufferTooShort ∷ []
 
-    told : (a : writing.Answer) → writer (planOf plan) table out .answer ≡ a → isOneOf (doneNumber ∷ numbers) (writtenNumber a) ≡ true
-    told (writing.wrote n) e = refl
-    told (writing.refused number) e = or-one number doneNumber numbers (writer-numbers (planOf plan) table out number e)
+    by-answer : (a : writing.Answer) → writer (planOf plan) table out .answer ≡ a → isOneOf (doneNumber ∷ numbers) (writtenNumber a) ≡ true
+    by-answer (writing.wrote n) e = refl
+    by-answer (writing.refused number) e = or-one number doneNumber numbers (writer-numbers (planOf plan) table out number e)
 
     by : (b : Bool)
         → isOneOf (doneNumber ∷ numbers)
-        (cond b (record { number = bufferTooShort; length = 0; out = out }) (wroteWords (writer (planOf plan) table out)) .number)
+        (cond b (record { number = bufferTooShort; length = was; out = out }) (wroteWords (writer (planOf plan) table out)) .number)
         ≡ true
     by true = refl
-    by false = told (writer (planOf plan) table out .answer) refl
+    by false = by-answer (writer (planOf plan) table out .answer) refl
 
 -- `gateway_judge`: 0, 15 to 18, 21, 22.
 abbrev judgeNumbers : List ℕ
@@ -132,10 +133,10 @@ host-slack-numbers plan table was location = by (shortPlan plan || shortLocation
     numbers : List ℕ
     numbers = outsideWindow ∷ wrongTotal ∷ overCapacity ∷ unsound ∷ bufferTooShort ∷ []
 
-    told : (f : slack.Figure) → slackFigure (planOf plan) table ≡ f → isOneOf (doneNumber ∷ noneNumber ∷ numbers) (figureNumber f) ≡ true
-    told slack.noneEssential e = refl
-    told (slack.least s l D) e = refl
-    told (slack.refused report) e =
+    by-answer : (f : slack.Figure) → slackFigure (planOf plan) table ≡ f → isOneOf (doneNumber ∷ noneNumber ∷ numbers) (figureNumber f) ≡ true
+    by-answer slack.noneEssential e = refl
+    by-answer (slack.least s l D) e = refl
+    by-answer (slack.refused report) e =
         let r = slack-numbers (planOf plan) table report e in
         ap (λ x. isOneOf (doneNumber ∷ noneNumber ∷ numbers) (numberOf x)) (r .2)
         ∙ or-one (r .0) doneNumber (noneNumber ∷ numbers) (or-one (r .0) noneNumber numbers (r .3))
@@ -145,7 +146,7 @@ host-slack-numbers plan table was location = by (shortPlan plan || shortLocation
         (cond b (record { number = bufferTooShort; slack = was; location = location }) (slackWords (slackFigure (planOf plan) table) location) .number)
         ≡ true
     by true = refl
-    by false = told (slackFigure (planOf plan) table) refl
+    by false = by-answer (slackFigure (planOf plan) table) refl
 
 -- `gateway_step`: 0, 19 to 22.
 pub host-step-numbers : (plan table run : List ℕ) (v : ℕ) (grants : List ℕ)
@@ -177,17 +178,17 @@ host-outcome-numbers plan run position = by (shortPlan plan || shortRun run) (no
     numbers : List ℕ
     numbers = metNumber ∷ discardedNumber ∷ missedNumber ∷ openNumber ∷ unsound ∷ bufferTooShort ∷ []
 
-    told : (e : Ending) → outcome (planOf plan) (runOf run) position ≡ e → isOneOf numbers (endingNumber e) ≡ true
-    told step.met e = refl
-    told step.discarded e = refl
-    told step.missed e = refl
-    told step.stillOpen e = refl
-    told (step.refused number) e = ap (isOneOf numbers) (outcome-numbers (planOf plan) (runOf run) position number e)
+    by-answer : (e : Ending) → outcome (planOf plan) (runOf run) position ≡ e → isOneOf numbers (endingNumber e) ≡ true
+    by-answer step.met e = refl
+    by-answer step.discarded e = refl
+    by-answer step.missed e = refl
+    by-answer step.stillOpen e = refl
+    by-answer (step.refused number) e = ap (isOneOf numbers) (outcome-numbers (planOf plan) (runOf run) position number e)
 
     by : (b c : Bool) → isOneOf numbers (cond b bufferTooShort (cond c unsound (endingNumber (outcome (planOf plan) (runOf run) position)))) ≡ true
     by true c = refl
     by false true = refl
-    by false false = told (outcome (planOf plan) (runOf run) position) refl
+    by false false = by-answer (outcome (planOf plan) (runOf run) position) refl
 
 -- `gateway_read`: 22 leaves the table unchanged; any other refusal leaves zeros in its own
 -- places, and the words of a plan of zeros.
@@ -198,13 +199,13 @@ host-read-22-leaves file plan table = by (shortPlan plan)
     left : Bool → HostReadEffect
     left b = cond b (record { number = bufferTooShort; plan = plan; table = table }) (readWords (reader file table) plan)
 
-    told : (r : Report) → reader file table .answer ≡ r → numberOf r ≡ bufferTooShort → reader file table .table ≡ table
-    told [] e n = absurd (omega (arith, n))
-    told (number ∷ rest) e n = reader-22-leaves file table rest (e ∙ ap (λ x. x ∷ rest) n) .0
+    by-answer : (r : Report) → reader file table .answer ≡ r → numberOf r ≡ bufferTooShort → reader file table .table ≡ table
+    by-answer [] e n = absurd (omega (arith, n))
+    by-answer (number ∷ rest) e n = reader-22-leaves file table rest (e ∙ ap (λ x. x ∷ rest) n) .0
 
     by : (b : Bool) → left b .number ≡ bufferTooShort → left b .table ≡ table
     by true n = refl
-    by false n = told (reader file table .answer) refl n
+    by false n = by-answer (reader file table .answer) refl n
 
 pub host-read-other-leaves : (file plan table : List ℕ) → readCall file plan table .number ≢ doneNumber → readCall file plan table .number ≢ bufferTooShort
     → (readCall file plan table .table ≡ replicate places 0 ++ drop places table) × (readCall file plan table .plan ≡ planPut plan noPlan)
@@ -214,33 +215,34 @@ host-read-other-leaves file plan table = by (shortPlan plan)
     left : Bool → HostReadEffect
     left b = cond b (record { number = bufferTooShort; plan = plan; table = table }) (readWords (reader file table) plan)
 
-    told : (r : Report) → reader file table .answer ≡ r → numberOf r ≢ doneNumber → numberOf r ≢ bufferTooShort
+    by-answer : (r : Report) → reader file table .answer ≡ r → numberOf r ≢ doneNumber → numberOf r ≢ bufferTooShort
         → (reader file table .table ≡ replicate places 0 ++ drop places table) × (planPut plan (reader file table .plan) ≡ planPut plan noPlan)
-    told [] e busy other = absurd (busy refl)
-    told (number ∷ rest) e busy other =
+    by-answer [] e busy other = absurd (busy refl)
+    by-answer (number ∷ rest) e busy other =
         let l = reader-other-leaves file table number rest e other in
         (l .0, ap (planPut plan) (l .1))
 
     by : (b : Bool) → left b .number ≢ doneNumber → left b .number ≢ bufferTooShort
         → (left b .table ≡ replicate places 0 ++ drop places table) × (left b .plan ≡ planPut plan noPlan)
     by true busy other = absurd (other refl)
-    by false busy other = told (reader file table .answer) refl busy other
+    by false busy other = by-answer (reader file table .answer) refl busy other
 
 -- `gateway_write`: a refusal leaves the output unchanged.
-pub host-write-leaves : (plan table out : List ℕ) → writeCall plan table out .number ≢ doneNumber → writeCall plan table out .out ≡ out
+pub host-write-leaves : (plan table out : List ℕ) (was : ℕ) → writeCall plan table out was .number ≢ doneNumber
+    → writeCall plan table out was .out ≡ out
 unfolding writeCall
-host-write-leaves plan table out = by (shortPlan plan)
+host-write-leaves plan table out was = by (shortPlan plan)
   where
     left : Bool → HostWriteEffect
-    left b = cond b (record { number = bufferTooShort; length = 0; out = out }) (wroteWords (writer (planOf plan) table out))
+    left b = cond b (record { number = bufferTooShort; length = was; out = out }) (wroteWords (writer (planOf plan) table out))
 
-    told : (a : writing.Answer) → writer (planOf plan) table out .answer ≡ a → writtenNumber a ≢ doneNumber → writer (planOf plan) table out .out ≡ out
-    told (writing.wrote n) e busy = absurd (busy refl)
-    told (writing.refused number) e busy = writer-refused-leaves (planOf plan) table out number e
+    by-answer : (a : writing.Answer) → writer (planOf plan) table out .answer ≡ a → writtenNumber a ≢ doneNumber → writer (planOf plan) table out .out ≡ out
+    by-answer (writing.wrote n) e busy = absurd (busy refl)
+    by-answer (writing.refused number) e busy = writer-refused-leaves (planOf plan) table out number e
 
     by : (b : Bool) → left b .number ≢ doneNumber → left b .out ≡ out
     by true busy = refl
-    by false busy = told (writer (planOf plan) table out .answer) refl busy
+    by false busy = by-answer (writer (planOf plan) table out .answer) refl busy
 
 -- `gateway_start`: a refusal leaves the run's words unchanged. (`refused-step-stays` of gateway
 -- says the same of `gateway_step`, and of the grants.)
@@ -292,9 +294,9 @@ module _ (plan table other-plan other : List ℕ) (same : Same (planOf plan) tab
   unfolding outcomeCall
   same-host-outcome run position = rw (both, same-outcome (planOf plan) table (planOf other-plan) other same (runOf run) position) refl
 
-  pub same-host-write : (out : List ℕ) → writeCall plan table out ≡ writeCall other-plan other out
+  pub same-host-write : (out : List ℕ) (was : ℕ) → writeCall plan table out was ≡ writeCall other-plan other out was
   unfolding writeCall
-  same-host-write out = rw (both, same-written (planOf plan) table (planOf other-plan) other same out) refl
+  same-host-write out was = rw (both, same-written (planOf plan) table (planOf other-plan) other same out) refl
 
 -- Two lists of words for plan E encode the same plan.
 abbrev wordsE : List ℕ
@@ -321,9 +323,9 @@ short-table-host-stays : readCall [] wordsE (7 ∷ []) .table ≡ 7 ∷ []
 unfolding reader readCall jobsOut planOut
 short-table-host-stays = host-read-22-leaves [] wordsE (7 ∷ []) refl
 
-no-room-host-stays : writeCall [] tableE (7 ∷ []) .out ≡ 7 ∷ []
+no-room-host-stays : (writeCall [] tableE (7 ∷ []) 5 .out ≡ 7 ∷ []) × (writeCall [] tableE (7 ∷ []) 5 .length ≡ 5)
 unfolding writeCall
-no-room-host-stays = host-write-leaves [] tableE (7 ∷ []) (λ e. absurd (omega (arith, e)))
+no-room-host-stays = (host-write-leaves [] tableE (7 ∷ []) 5 (λ e. absurd (omega (arith, e))), refl)
 
 no-location-host-stays : startCall wordsE tableE (7 ∷ []) [] .run ≡ 7 ∷ []
 unfolding startCall jobsOut planOut

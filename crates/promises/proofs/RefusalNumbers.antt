@@ -308,7 +308,7 @@ step-numbers p table run v grants number rest e =
     (within-fault numbers short bufferTooShort [] refl)
     (within-or numbers (fault ends (clockAtEnd ∷ [])) (fault fast (speedAboveNormal ∷ [])) (within-fault numbers ends clockAtEnd [] refl)
     (within-fault numbers fast speedAboveNormal [] refl))))
-    (told (slotFault p table run v grants) ∙ e)
+    (by-answer (slotFault p table run v grants) ∙ e)
   where
     numbers : List ℕ
     numbers = clockAtEnd ∷ speedAboveNormal ∷ unsound ∷ bufferTooShort ∷ []
@@ -322,9 +322,9 @@ step-numbers p table run v grants number rest e =
     fast : Bool
     fast = ltb (p .n .0) v
 
-    told : (l : Report) → l ≡ slotBy l p table run v grants .answer
-    told [] = refl
-    told (number ∷ rest) = refl
+    by-answer : (l : Report) → l ≡ slotBy l p table run v grants .answer
+    by-answer [] = refl
+    by-answer (number ∷ rest) = refl
 
 -- An outcome is refused only by 21.
 pub outcome-numbers : (p : Plan) (run : Run) (position number : ℕ) → outcome p run position ≡ step.refused number → number ≡ unsound

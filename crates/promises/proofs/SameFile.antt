@@ -34,7 +34,7 @@ module _ (p : Plan) (table : List ℕ) (q : Plan) (other : List ℕ) (same : Sam
       → rowsBytes mostIntervals (names p) 0 (take places table) ≡ rowsBytes mostIntervals (names q) 0 (take places other)
   rows-bytes e =
       rows-counted (counted p) (intervals p) (names p) (names q)
-      (λ k h. name-at p k ∙ ap (λ j. j .name .0) (same .jobs k h) ∙ sym (name-at q k)) 0 (take places table) (sound-parts p table e .clear)
+      (λ k h. name-at p k h ∙ ap (λ j. j .name .0) (same .jobs k h) ∙ sym (name-at q k (rw (counted-same p table q other same) at h))) 0 (take places table) (sound-parts p table e .clear)
       ∙ ap (rowsBytes mostIntervals (names q) 0) (same .cells)
 
   body-same : sound p table ≡ true → body p (take places table) ≡ body q (take places other)

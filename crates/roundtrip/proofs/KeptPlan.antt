@@ -3,24 +3,26 @@ use mathlib.Core.Path.{_≡_, refl, sym, _∙_, ap, ap₂}
 use mathlib.Core.List.{List, [], _∷_, _++_}
 use Prim.Native.Nat.{ℕ, zero, suc, _-_, _/_, _<_}
 use native.Mathlib.Omega.{arith}
-use lib.ListN.{length, getD, take, List·getD-map}
-use lib.Seq.{getD-take}
+use lib.ListN.{length, getD, take, replicate, List·getD-map}
+use lib.Seq.{getD-take, take-at}
 use Rattle.plan.specs.Edition.{mostJobs}
 use Rattle.plan.specs.Rules.{noJob, jobOf, counted, names, name}
 use Rattle.plan.specs.Boundaries.{insert, boundariesTo, intervals}
 use Rattle.plan.specs.declared.kinds.Job.{Job}
 use Rattle.plan.specs.declared.kinds.Plan.{Plan}
-use Rattle.plan.proofs.Names.{name-at}
+use Rattle.plan.proofs.Names.{prefix-at}
 use Rattle.planfields.specs.Fields.{Head}
 use Rattle.planfile.specs.Reader.{namesOf, planFrom}
 use Rattle.planwriter.specs.Writing.{rowAt, rowsBytes}
 use Rattle.base.proofs.Padding.{getD-pad}
 
 -- The names of a plan that was read are those of its jobs, then zeros.
-pub names-read : (h : Head) (jobs : List Job) (k : ℕ) → getD (names (planFrom h jobs)) k 0 ≡ getD (namesOf jobs) k 0
-names-read h jobs k =
-    name-at (planFrom h jobs) k ∙ ap (λ (j : Job). j .name .0) (getD-pad jobs (mostJobs - length jobs) k noJob)
-    ∙ sym (List·getD-map (λ (j : Job). j .name .0) jobs k noJob)
+pub names-read : (h : Head) (jobs : List Job) → length jobs ≡ h .count → h .count ≤ mostJobs → (k : ℕ)
+    → getD (names (planFrom h jobs)) k 0 ≡ getD (namesOf jobs) k 0
+names-read h jobs many few k =
+    let all : take (counted (planFrom h jobs)) (planFrom h jobs .jobs) ≡ jobs
+    = take-at jobs (replicate (mostJobs - length jobs) noJob) (counted (planFrom h jobs)) (omega arith) in
+    prefix-at (planFrom h jobs) k ∙ ap (λ l. getD l k noJob .name .0) all ∙ sym (List·getD-map (λ (j : Job). j .name .0) jobs k noJob)
 
 -- Lists of names with equal entries give the same bytes of rows.
 pub rows-names : (width : ℕ) (a b : List ℕ) → ((k : ℕ) → getD a k 0 ≡ getD b k 0) → (q : ℕ) (l : List ℕ) → rowsBytes width a q l ≡ rowsBytes width b q l

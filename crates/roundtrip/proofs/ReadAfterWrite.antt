@@ -225,7 +225,7 @@ module _ (p : Plan) (table : List ℕ) (sound-is : sound p table ≡ true) (exac
       let clear : noStray mostIntervals (p .count) (intervals p) 0 table ≡ true
       = ap (λ k. noStray mostIntervals k (intervals p) 0 table) (sym (counted-is p few)) ∙ (rw own at (parts .clear)) in
       let same : (k : ℕ) → k < p .count → getD counted-names k 0 ≡ getD (names p) k 0
-      = λ k h. names-prefix (p .jobs) (p .count) k h ∙ sym (name-at p k) in
+      = λ k h. names-prefix (p .jobs) (p .count) k h ∙ sym (name-at p k (rw (counted-is p few) h)) in
       let stands = stands-as (stands-rest after-rows (rowsBytes mostIntervals (names p) 0 table) body-parts)
       (sym (rows-counted (p .count) (intervals p) counted-names (names p) same 0 table clear)) in
       rw (kept-intervals p)

@@ -37,8 +37,8 @@ mul-units c = search needs
 element-copy-out-units : tie.Need-element-copy-out-units Inv-loop μ-loop
 element-copy-out-units c = search needs
 
-units-requires : tie.Need-units-requires Inv-loop μ-loop
-units-requires c κs = search needs
+as-units-requires : tie.Need-as-units-requires Inv-loop μ-loop
+as-units-requires c κs = search needs
 
 add-i : tie.Need-add-i Inv-loop μ-loop
 add-i c = search needs
@@ -49,7 +49,7 @@ loop-less c = search needs
 loop-again : tie.Need-loop-again Inv-loop μ-loop
 loop-again c =
     let here = c .before .before .before .before .before .before .before .loop in
-    (omega arith, every-next _ (here .i) (here .inv .1) (ap (λ (u : Units). leb (u .0) (size (c .before .before .before .before .before .before .before .before .before .args .t1) (here .i))) (c .before .before .units .ensures)))
+    (omega arith, every-next _ (here .i) (here .inv .1) (ap (λ (u : Units). leb (u .0) (size (c .before .before .before .before .before .before .before .before .before .args .t1) (here .i))) (c .before .before .as-units .ensures)))
 
 returns : tie.Need-returns Inv-loop μ-loop
 returns c =
@@ -68,7 +68,7 @@ carried-within-spec =
     element-copy-out-job
     mul-units
     element-copy-out-units
-    units-requires
+    as-units-requires
     add-i
     loop-less
     loop-again

@@ -177,8 +177,8 @@ mul-units c = search needs
 array-read-units : tie.Need-array-read-units Inv-loop μ-loop
 array-read-units c = omega arith
 
-units-requires : tie.Need-units-requires Inv-loop μ-loop
-units-requires c κs = search needs
+as-units-requires : tie.Need-as-units-requires Inv-loop μ-loop
+as-units-requires c κs = search needs
 
 claim-of-requires : tie.Need-claim-of-requires Inv-loop μ-loop
 claim-of-requires c κs = search needs
@@ -210,7 +210,7 @@ loop-again c =
       filled-next (rank (p at)) (loop .i) (replicate mostJobs 0) (loop .inv .1) (at-rank-of .rank-of .ensures),
       filled-next (capped (p at) (table at) (run at) (at-mark-after .mark-after .result) (v at)) (loop .i) (replicate mostJobs 0) (loop .inv .2)
           (one-claim (p at) (table at) (run at) (at-mark-after .mark-after .result) (v at) (loop .i)
-          (c .claim-of .ensures) (at-units .units .ensures) (at-sum-of .sum-of .ensures) (spans (c-7))),
+          (c .claim-of .ensures) (at-units .as-units .ensures) (at-sum-of .sum-of .ensures) (spans (c-7))),
     )
 
 -- After the loop both rows are complete.
@@ -302,7 +302,7 @@ step-spec =
     sum-of-requires
     mul-units
     array-read-units
-    units-requires
+    as-units-requires
     claim-of-requires
     mul-claims
     array-write-claims

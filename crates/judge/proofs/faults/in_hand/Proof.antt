@@ -25,18 +25,18 @@ returns-2 c =
     ap₂ (λ x y. orElse (fault x (bufferTooShort ∷ [])) (fault y (unsound ∷ []))) (sym (le-ltb _ _ (c .before .if1 .left)))
     (sym (ap not (unbounded (a .p) (a .table .now) (omega (arith, c .before .before .before .pre, c .if2 .taken)))))
 
-sub-sound-of : tie.Need-sub-sound-of
-sub-sound-of c = search needs
+sub-sound-within : tie.Need-sub-sound-within
+sub-sound-within c = search needs
 
-sound-of-requires : tie.Need-sound-of-requires
-sound-of-requires c κs = search needs
+sound-within-requires : tie.Need-sound-within-requires
+sound-within-requires c κs = search needs
 
--- The result of `sound_of` is whether the plan is sound.
-tested : (c : tie.After-sound-of) → c .sound-of .result ≡ sound (c .before .before .before .before .args .p) (c .before .before .before .before .args .table .now)
+-- The result of `sound_within` is whether the plan is sound.
+tested : (c : tie.After-sound-within) → c .sound-within .result ≡ sound (c .before .before .before .before .args .p) (c .before .before .before .before .args .table .now)
 tested c =
     let entry = c .before .before .before .before in
     let a = entry .args in
-    c .sound-of .ensures ∙ sound-told (a .p) (a .table .now) (a .count - 1) (ap (λ n. n - 1) (entry .pre))
+    c .sound-within .ensures ∙ sound-told (a .p) (a .table .now) (a .count - 1) (ap (λ n. n - 1) (entry .pre))
 
 returns-3 : tie.Need-returns-3
 returns-3 c =
@@ -50,4 +50,4 @@ returns-4 c =
 
 pub in-hand-spec : {M : Type 1} → statement M
 in-hand-spec =
-    tie.close (tie.spec returns returns-2 sub-sound-of sound-of-requires returns-3 returns-4)
+    tie.close (tie.spec returns returns-2 sub-sound-within sound-within-requires returns-3 returns-4)

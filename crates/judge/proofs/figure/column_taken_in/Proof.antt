@@ -35,11 +35,11 @@ returns c =
     let a = c .before .before .before .args in
     taken-none (a .due) (a .d .0) (a .sums .now) (a .times .now) (a .m) (slackView (a .known)) (c .if1 .taken)
 
-mul-time : tie.Need-mul-time Inv-loop μ-loop
-mul-time c = search needs
+mul-t17 : tie.Need-mul-t17 Inv-loop μ-loop
+mul-t17 c = search needs
 
-shared-slice-read-time : tie.Need-shared-slice-read-time Inv-loop μ-loop
-shared-slice-read-time c = search needs
+shared-slice-read-t19 : tie.Need-shared-slice-read-t19 Inv-loop μ-loop
+shared-slice-read-t19 c = search needs
 
 loop-holds : tie.Need-loop-holds Inv-loop μ-loop
 loop-holds c =
@@ -67,11 +67,11 @@ small c =
 add-t24 : tie.Need-add-t24 Inv-loop μ-loop
 add-t24 c = omega (arith, small (c .before .before))
 
-mul-capacity : tie.Need-mul-capacity Inv-loop μ-loop
-mul-capacity c = omega (arith, c .before .before .before .loop .inv .0, c .before .before .before .before .before .before .before .before .pre .2)
+mul-t21-2 : tie.Need-mul-t21-2 Inv-loop μ-loop
+mul-t21-2 c = omega (arith, c .before .before .before .loop .inv .0, c .before .before .before .before .before .before .before .before .pre .2)
 
-shared-slice-read-capacity : tie.Need-shared-slice-read-capacity Inv-loop μ-loop
-shared-slice-read-capacity c = omega (arith, c .before .before .before .loop-test .taken, c .before .before .before .before .loop .inv .0, c .before .before .before .before .before .before .before .before .before .pre .0)
+shared-slice-read-t26 : tie.Need-shared-slice-read-t26 Inv-loop μ-loop
+shared-slice-read-t26 c = omega (arith, c .before .before .before .loop-test .taken, c .before .before .before .before .loop .inv .0, c .before .before .before .before .before .before .before .before .before .pre .0)
 
 capacity-requires : tie.Need-capacity-requires Inv-loop μ-loop
 capacity-requires c κs = search needs
@@ -144,15 +144,15 @@ column-taken-in-spec =
     Inv-loop
     μ-loop
     returns
-    mul-time
-    shared-slice-read-time
+    mul-t17
+    shared-slice-read-t19
     loop-holds
     sub-l
     mul-t21
     shared-slice-read-t23
     add-t24
-    mul-capacity
-    shared-slice-read-capacity
+    mul-t21-2
+    shared-slice-read-t26
     capacity-requires
     slack-from-requires
     pick-requires

@@ -30,11 +30,11 @@ returns c =
     let a = c .before .before .before .args in
     sym (ap (λ b. cond b (min (a .other) (lowest (asksMore (a .d .0) (a .sums .now) (a .times .now) (a .m)) (a .other) 0 (a .m))) (a .other)) (not-true (a .due) (c .if1 .taken)))
 
-mul-time : tie.Need-mul-time Inv-loop μ-loop
-mul-time c = search needs
+mul-t13 : tie.Need-mul-t13 Inv-loop μ-loop
+mul-t13 c = search needs
 
-shared-slice-read-time : tie.Need-shared-slice-read-time Inv-loop μ-loop
-shared-slice-read-time c = search needs
+shared-slice-read-t15 : tie.Need-shared-slice-read-t15 Inv-loop μ-loop
+shared-slice-read-t15 c = search needs
 
 loop-holds : tie.Need-loop-holds Inv-loop μ-loop
 loop-holds c =
@@ -57,11 +57,11 @@ add-t20 c =
     let entry = at-loop .before .before .before .before .before in
     omega (arith, entry .pre .3 (at-loop .loop .l - 1) (omega (arith, at-loop-test .loop-test .taken, at-loop .loop .inv .0)), mul-le-mul-right {m = entry .args .m - at-loop .loop .l} {n = mostIntervals} (mostJobs * mostAtPlace) (omega (arith, entry .pre .2)), at-loop .loop .inv .2)
 
-mul-capacity : tie.Need-mul-capacity Inv-loop μ-loop
-mul-capacity c = omega (arith, c .before .before .before .loop .inv .0, c .before .before .before .before .before .before .before .before .pre .2)
+mul-t17-2 : tie.Need-mul-t17-2 Inv-loop μ-loop
+mul-t17-2 c = omega (arith, c .before .before .before .loop .inv .0, c .before .before .before .before .before .before .before .before .pre .2)
 
-shared-slice-read-capacity : tie.Need-shared-slice-read-capacity Inv-loop μ-loop
-shared-slice-read-capacity c = omega (arith, c .before .before .before .loop-test .taken, c .before .before .before .before .loop .inv .0, c .before .before .before .before .before .before .before .before .before .pre .0)
+shared-slice-read-t22 : tie.Need-shared-slice-read-t22 Inv-loop μ-loop
+shared-slice-read-t22 c = omega (arith, c .before .before .before .loop-test .taken, c .before .before .before .before .loop .inv .0, c .before .before .before .before .before .before .before .before .before .pre .0)
 
 capacity-requires : tie.Need-capacity-requires Inv-loop μ-loop
 capacity-requires c κs = search needs
@@ -114,15 +114,15 @@ lowered-spec =
     Inv-loop
     μ-loop
     returns
-    mul-time
-    shared-slice-read-time
+    mul-t13
+    shared-slice-read-t15
     loop-holds
     sub-l
     mul-t17
     shared-slice-read-t19
     add-t20
-    mul-capacity
-    shared-slice-read-capacity
+    mul-t17-2
+    shared-slice-read-t22
     capacity-requires
     pick-requires
     loop-less

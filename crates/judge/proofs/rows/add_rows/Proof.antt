@@ -25,7 +25,7 @@ dueOf table deadlines time j k = on (eqb (getD deadlines k 0) time) (units table
 
 abbrev Inv-loop : tie.InvT-loop
 Inv-loop sums₀ table deadlines spans time i₀ sums i =
-    (i ≤ length deadlines) × (length sums ≡ length sums₀) × ((j : ℕ) → j < spans → getD sums j 0 ≡ getD sums₀ j 0 + sum (dueOf table deadlines time j) i)
+    (i ≤ length deadlines) × (length sums ≡ length sums₀) × ((j : ℕ) → j < spans → getD sums j 0 ≡ getD sums₀ j 0 + sum (dueOf table deadlines (time .0) j) i)
 
 abbrev μ-loop : tie.MeasureT-loop
 μ-loop sums₀ table deadlines spans time i₀ sums i = length deadlines - i
@@ -39,7 +39,7 @@ returns c =
     let none = sym (c .before .is-absent-time .ensures) ∙ c .if1 .taken in (
       sym (ap not none),
       refl,
-      λ j l. sym (ap (λ s. getD (a .sums .now) j 0 + s) (none-due (a .deadlines .now) (a .time) (λ k. units (a .table .now) k j) none) ∙ add-zero _),
+      λ j l. sym (ap (λ s. getD (a .sums .now) j 0 + s) (none-due (a .deadlines .now) (a .time .0) (λ k. units (a .table .now) k j) none) ∙ add-zero _),
     )
 
 loop-holds : tie.Need-loop-holds Inv-loop μ-loop
@@ -53,11 +53,11 @@ shared-slice-read-wanted : tie.Need-shared-slice-read-wanted Inv-loop μ-loop
 shared-slice-read-wanted c = c .before .loop-test .taken
 
 mul-add-row : tie.Need-mul-add-row Inv-loop μ-loop
-mul-add-row c = omega (arith, c .before .before .loop-test .taken, c .before .before .before .before .before .before .before .before .before .pre .1)
+mul-add-row c = omega (arith, c .before .before .before .loop-test .taken, c .before .before .before .before .before .before .before .before .before .before .pre .1)
 
 add-row-requires : tie.Need-add-row-requires Inv-loop μ-loop
 add-row-requires c κs =
-    let at-loop-test = c .before .before in
+    let at-loop-test = c .before .before .before in
     let at-loop = at-loop-test .before in
     let at-shared-slice-known = at-loop .before .before .before .before in
     let entry = at-shared-slice-known .before .before in
@@ -71,27 +71,27 @@ add-row-requires c κs =
         entry .pre .4 j l,
         at-loop-test .loop-test .taken,
         entry .pre .1,
-        sum-bound (dueOf (a .table .now) (a .deadlines .now) (a .time) j) mostAtPlace i
-            (λ k b. on-at-most (eqb (getD (a .deadlines .now) k 0) (a .time)) (units (a .table .now) k j) mostAtPlace (omega (arith, at-shared-slice-known .shared-slice-known .given (mostIntervals * k + j)))),
+        sum-bound (dueOf (a .table .now) (a .deadlines .now) (a .time .0) j) mostAtPlace i
+            (λ k b. on-at-most (eqb (getD (a .deadlines .now) k 0) (a .time .0)) (units (a .table .now) k j) mostAtPlace (omega (arith, at-shared-slice-known .shared-slice-known .given (mostIntervals * k + j)))),
       ),
     )
 
 add-i : tie.Need-add-i Inv-loop μ-loop
-add-i c = omega (arith, c .before .before .before .before .before .loop-test .taken, c .before .before .before .before .before .before .before .before .before .before .before .before .pre .1)
+add-i c = omega (arith, c .before .before .before .before .before .before .loop-test .taken, c .before .before .before .before .before .before .before .before .before .before .before .before .before .pre .1)
 
 loop-less : tie.Need-loop-less Inv-loop μ-loop
-loop-less c = omega (arith, c .before .before .before .before .before .loop-test .taken)
+loop-less c = omega (arith, c .before .before .before .before .before .before .loop-test .taken)
 
 loop-again : tie.Need-loop-again Inv-loop μ-loop
 loop-again c =
     let at-add-row = c .before .before in
-    let at-loop-test = at-add-row .before .before .before in
+    let at-loop-test = at-add-row .before .before .before .before in
     let at-loop = at-loop-test .before in
     let entry = at-loop .before .before .before .before .before .before in
     let a = entry .args in (
       omega (arith, at-loop-test .loop-test .taken),
       at-add-row .add-row .ensures .0 ∙ at-loop .loop .inv .1,
-      λ j l. omega (arith, at-add-row .add-row .ensures .1 j l, at-loop .loop .inv .2 j l, sum-step (dueOf (a .table .now) (a .deadlines .now) (a .time) j) (at-loop .loop .i)),
+      λ j l. omega (arith, at-add-row .add-row .ensures .1 j l, at-loop .loop .inv .2 j l, sum-step (dueOf (a .table .now) (a .deadlines .now) (a .time .0) j) (at-loop .loop .i)),
     )
 
 same-length : tie.Need-same-length Inv-loop μ-loop
@@ -107,7 +107,7 @@ returns-2 c =
     let end : at-loop .loop .i ≡ length (a .deadlines .now) = omega (arith, c .loop-test .left, at-loop .loop .inv .0) in (
       sym (ap not (sym (at-is-absent-time .is-absent-time .ensures) ∙ at-if1 .if1 .left)),
       at-loop .loop .inv .1,
-      λ j l. at-loop .loop .inv .2 j l ∙ ap (λ n. getD (a .sums .now) j 0 + sum (dueOf (a .table .now) (a .deadlines .now) (a .time) j) n) end,
+      λ j l. at-loop .loop .inv .2 j l ∙ ap (λ n. getD (a .sums .now) j 0 + sum (dueOf (a .table .now) (a .deadlines .now) (a .time .0) j) n) end,
     )
 
 pub add-rows-spec : {M : Type 1} → statement M

@@ -18,9 +18,9 @@ over-requires c κs = search needs
 returns : tie.Need-returns
 returns c =
     let a = c .before .before .args in
-    let is : c .over .result .0 ≡ a .rate .0 * (a .to - a .from)
+    let is : c .over .result .0 ≡ a .rate .0 * (a .to .0 - a .from .0)
     = ap (λ (u : Units). u .0) (c .over .ensures) ∙ ap (λ (t : Slots). a .rate .0 * t .0) (c .before .elapsed .ensures) in
-    (is, omega (arith, is, mul-le-mul {n₁ = a .rate .0} {m₁ = a .to - a .from} {n₂ = 65535} {m₂ = 4294967295} (omega arith) (omega arith)))
+    (is, omega (arith, is, mul-le-mul {n₁ = a .rate .0} {m₁ = a .to .0 - a .from .0} {n₂ = 65535} {m₂ = 4294967295} (omega arith) (omega arith)))
 
 pub capacity-spec : {M : Type 1} → statement M
 capacity-spec = tie.close (tie.spec elapsed-requires over-requires returns)

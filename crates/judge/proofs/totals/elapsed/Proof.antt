@@ -11,7 +11,7 @@ returns c = search needs
 
 returns-2 : tie.Need-returns-2
 returns-2 c =
-    let none : 0 ≡ c .before .args .to - c .before .args .from = omega arith in
+    let none : 0 ≡ c .before .before .before .args .to .0 - c .before .before .before .args .from .0 = omega arith in
     λ t. record { 0 = none t }
 
 pub elapsed-spec : {M : Type 1} → statement M

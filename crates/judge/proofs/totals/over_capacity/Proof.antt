@@ -26,20 +26,20 @@ abbrev μ-loop : tie.MeasureT-loop
 loop-holds : tie.Need-loop-holds Inv-loop μ-loop
 loop-holds c = (omega arith, first-start _)
 
-mul-is-over : tie.Need-mul-is-over Inv-loop μ-loop
-mul-is-over c = search needs
+mul-t9 : tie.Need-mul-t9 Inv-loop μ-loop
+mul-t9 c = search needs
 
-shared-slice-read-is-over : tie.Need-shared-slice-read-is-over Inv-loop μ-loop
-shared-slice-read-is-over c = omega (arith, c .before .loop-test .taken, c .before .before .before .before .before .pre .1)
+shared-slice-read-t11 : tie.Need-shared-slice-read-t11 Inv-loop μ-loop
+shared-slice-read-t11 c = omega (arith, c .before .loop-test .taken, c .before .before .before .before .before .pre .1)
 
-add-is-over : tie.Need-add-is-over Inv-loop μ-loop
-add-is-over c = search needs
+add-t13 : tie.Need-add-t13 Inv-loop μ-loop
+add-t13 c = search needs
 
-mul-is-over-2 : tie.Need-mul-is-over-2 Inv-loop μ-loop
-mul-is-over-2 c = search needs
+mul-t14 : tie.Need-mul-t14 Inv-loop μ-loop
+mul-t14 c = search needs
 
-shared-slice-read-is-over-2 : tie.Need-shared-slice-read-is-over-2 Inv-loop μ-loop
-shared-slice-read-is-over-2 c = omega (arith, c .before .before .loop-test .taken, c .before .before .before .before .before .before .pre .1)
+shared-slice-read-t16 : tie.Need-shared-slice-read-t16 Inv-loop μ-loop
+shared-slice-read-t16 c = omega (arith, c .before .before .loop-test .taken, c .before .before .before .before .before .before .pre .1)
 
 is-over-requires : tie.Need-is-over-requires Inv-loop μ-loop
 is-over-requires c κs = search needs
@@ -62,12 +62,11 @@ loop-again : tie.Need-loop-again Inv-loop μ-loop
 loop-again c =
     let at-is-over = c .before in
     let at-loop-test = at-is-over .before .before .before in
-    let at-loop = at-loop-test .before in
- (
-  omega (arith, at-loop-test .loop-test .taken),
-  first-next _ (at-loop .loop .j) (at-loop .loop .inv .1)
-      (ap (λ b. fault b (overCapacity ∷ at-loop .loop .j ∷ [])) (sym (rw add-one at (at-is-over .is-over .ensures)) ∙ c .if1 .left)),
-)
+    let at-loop = at-loop-test .before in (
+      omega (arith, at-loop-test .loop-test .taken),
+      first-next _ (at-loop .loop .j) (at-loop .loop .inv .1)
+          (ap (λ b. fault b (overCapacity ∷ at-loop .loop .j ∷ [])) (sym (rw add-one at (at-is-over .is-over .ensures)) ∙ c .if1 .left)),
+    )
 
 returns-2 : tie.Need-returns-2 Inv-loop μ-loop
 returns-2 c =
@@ -81,11 +80,11 @@ over-capacity-spec =
     Inv-loop
     μ-loop
     loop-holds
-    mul-is-over
-    shared-slice-read-is-over
-    add-is-over
-    mul-is-over-2
-    shared-slice-read-is-over-2
+    mul-t9
+    shared-slice-read-t11
+    add-t13
+    mul-t14
+    shared-slice-read-t16
     is-over-requires
     returns
     add-j

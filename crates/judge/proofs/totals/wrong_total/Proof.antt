@@ -82,12 +82,11 @@ loop-again : tie.Need-loop-again Inv-loop μ-loop
 loop-again c =
     let c-3 = c .before .before .before in
     let at-loop-test = c-3 .before .before .before in
-    let at-loop = at-loop-test .before in
- (
-  omega (arith, at-loop-test .loop-test .taken),
-  first-next _ (at-loop .loop .i) (at-loop .loop .inv .1)
-      (ap (λ b. fault (not b) (wrongTotal ∷ at-loop .loop .i ∷ [])) (eq-eqb _ _ (sym (summed (c-3)) ∙ c .if1 .left))),
-)
+    let at-loop = at-loop-test .before in (
+      omega (arith, at-loop-test .loop-test .taken),
+      first-next _ (at-loop .loop .i) (at-loop .loop .inv .1)
+          (ap (λ b. fault (not b) (wrongTotal ∷ at-loop .loop .i ∷ [])) (eq-eqb _ _ (sym (summed (c-3)) ∙ c .if1 .left))),
+    )
 
 returns-2 : tie.Need-returns-2 Inv-loop μ-loop
 unfolding totalFault

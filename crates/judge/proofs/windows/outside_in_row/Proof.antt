@@ -20,7 +20,7 @@ use Rattle.judge.proofs.windows.outside_in_row.Tie as tie
 
 abbrev Inv-loop : tie.InvT-loop
 Inv-loop table start times spans release deadline i j₀ j =
-    (j ≤ spans) × (every (λ k. within times release deadline k || eqb (getD table (start + k) 0) 0) j ≡ true)
+    (j ≤ spans) × (every (λ k. within times (release .0) (deadline .0) k || eqb (getD table (start + k) 0) 0) j ≡ true)
 
 abbrev μ-loop : tie.MeasureT-loop
 μ-loop table start times spans release deadline i j₀ j = spans - j

@@ -79,7 +79,7 @@ returns c =
     let whole : at-loop .loop .i ≡ counted p = omega arith in
     rw (at-names-of .names-of .ensures) at (at-loop .loop .inv .1) ∙ ap (every _) whole
     ∙ every-ext _ _ (counted p)
-    (λ j l. every-ext _ _ j (λ k l′. rw (name-at p k, name-at p j) refl))
+    (λ j l. every-ext _ _ j (λ k l′. rw (name-at p k (omega arith), name-at p j l) refl))
 
 pub names-differ-spec : {M : Type 1} → statement M
 names-differ-spec =

@@ -1,28 +1,52 @@
--- `plan::rules::names_of` meets its contract:
--- after i iterations the first i entries are the first i names.
+-- `plan::rules::names_of` meets its contract: after i iterations the first i entries are the names
+-- of the first i jobs, and the others are 0.
 use mathlib.Core.Path.{_≡_, refl, sym, _∙_, ap}
-use mathlib.Core.List.{List, map}
+use mathlib.Core.List.{List}
 use Prim.Native.Nat.{ℕ, _+_, _-_, _≤_, _<_}
-use native.Mathlib.Numerals.{add-one}
 use native.Mathlib.Omega.{arith}
 use borrow.Author.Needs.{needs}
-use lib.ListN.{length, take, set, length-map, length-set, List·getD-map}
-use lib.Seq.{take-suc, take-suc-set, take-all}
+use lib.ListN.{length, getD, set, length-map, length-set}
+use lib.Seq.{getD-set-same, getD-set-other, ext-getD}
+use Rattle.base.proofs.Logic.{if-same, if-less}
+use Rattle.base.proofs.Padding.{getD-replicate}
 use Rattle.plan.specs.Edition.{mostJobs}
-use Rattle.plan.specs.Rules.{names, jobOf, noJob}
-use Rattle.plan.specs.declared.kinds.Job.{Job}
+use Rattle.plan.specs.Rules.{names, name, counted}
 use Rattle.plan.specs.declared.kinds.Plan.{Plan}
+use Rattle.plan.proofs.Names.{name-at, name-past, names-long}
 use Rattle.plan.proofs.rules.names_of.Statement.{statement}
 use Rattle.plan.proofs.rules.names_of.Tie as tie
 
+-- The first i entries of a row are the names of the first i jobs, and the others are 0.
+record NamedTo (p : Plan) (row : List ℕ) (i : ℕ) : Type 0 where
+  long : length row ≡ mostJobs
+  named : (k : ℕ) → k < i → getD row k 0 ≡ name p k
+  rest : (k : ℕ) → i ≤ k → getD row k 0 ≡ 0
+
+one-more : (p : Plan) (row : List ℕ) (i : ℕ) → i < length row → NamedTo p row i → NamedTo p (set row i (name p i)) (i + 1)
+one-more p row i l so = record {
+  long = length-set row i (name p i) ∙ so .long;
+  named = λ k h.
+      if-same k i (λ e. rw e (getD-set-same row i (name p i) 0 l))
+      (λ other. getD-set-other row i k (name p i) 0 other ∙ so .named k (omega (arith, other)));
+  rest = λ k h. getD-set-other row i k (name p i) 0 (λ e. absurd (omega (arith, e))) ∙ so .rest k (omega arith);
+}
+
+all-named : (p : Plan) (row : List ℕ) → length (p .jobs) ≡ mostJobs → NamedTo p row (counted p) → row ≡ names p
+all-named p row records so =
+    ext-getD 0 row (names p) (so .long ∙ sym (names-long p records))
+    (λ k h. if-less k (counted p) (λ l. so .named k l ∙ sym (name-at p k l)) (λ m. so .rest k m ∙ sym (name-past p k m)))
+
 abbrev Inv-loop : tie.InvT-loop
-Inv-loop p row₀ i₀ row i = (i ≤ mostJobs) × (length row ≡ mostJobs) × (take i row ≡ take i (names p))
+Inv-loop p count row₀ i₀ row i = (i ≤ count) × NamedTo p row i
 
 abbrev μ-loop : tie.MeasureT-loop
-μ-loop p row₀ i₀ row i = mostJobs - i
+μ-loop p count row₀ i₀ row i = count - i
+
+counted-of-requires : tie.Need-counted-of-requires Inv-loop μ-loop
+counted-of-requires c κs = search needs
 
 loop-holds : tie.Need-loop-holds Inv-loop μ-loop
-loop-holds c = (omega arith, refl, refl)
+loop-holds c = (omega arith, record { long = refl; named = λ k h. absurd (omega arith); rest = λ k h. getD-replicate mostJobs k 0 })
 
 mul-job : tie.Need-mul-job Inv-loop μ-loop
 mul-job c = search needs
@@ -42,34 +66,20 @@ add-i c = search needs
 loop-less : tie.Need-loop-less Inv-loop μ-loop
 loop-less c = omega arith
 
--- Storing the name of record i extends the prefix of names to length i + 1.
-one-more : (p : Plan) (row : List ℕ) (i : ℕ) → i < length (p .jobs) → i < length row → take i row ≡ take i (names p)
-    → take (i + 1) (set row i (jobOf p i .name .0)) ≡ take (i + 1) (names p)
-unfolding names
-one-more p row i l m e =
-    let name : Job → ℕ = λ j. j .name .0 in
-    let l′ : i < length (map name (p .jobs)) = rw length-map l in
-    rw (add-one, take-suc-set row i, e, take-suc (map name (p .jobs)) i 0, List·getD-map name (p .jobs) i noJob) refl
-
 loop-again : tie.Need-loop-again Inv-loop μ-loop
 loop-again c =
     let at-loop = c .before .before .before in
-    let entry = at-loop .before in
     let inv = at-loop .loop .inv in
-    let p = entry .args .t1 in
-    let n : length (p .jobs) ≡ mostJobs
-    = sym (length-map (p .jobs) _) ∙ entry .good .0 .1 .1 .1 .1 .1 .0 .1 .0 .1 in
-    (omega arith, simp length-set (inv .1), one-more p (at-loop .loop .row) (at-loop .loop .i) (omega arith) (omega arith) (inv .2))
+    (omega arith, one-more (at-loop .before .before .args .t1) (at-loop .loop .row) (at-loop .loop .i) (omega (arith, inv .1 .long)) (inv .1))
 
 returns : tie.Need-returns Inv-loop μ-loop
-unfolding names
 returns c =
-    let inv = c .before .loop .inv in
-    let p = c .before .before .args .t1 in
-    let n : length (p .jobs) ≡ mostJobs = sym (length-map (p .jobs) _) ∙ c .before .before .good .0 .1 .1 .1 .1 .1 .0 .1 .0 .1 in
-    let whole : c .before .loop .i ≡ mostJobs = omega arith in
-    sym (take-all mostJobs _ (omega arith)) ∙ ap (λ i. take i (c .before .loop .row)) (sym whole) ∙ inv .2
-    ∙ ap (λ i. take i (names p)) whole ∙ take-all mostJobs _ (omega (arith, length-map (p .jobs) (λ (j : Job). j .name .0)))
+    let at-loop = c .before in
+    let entry = at-loop .before .before in
+    let p = entry .args .t1 in
+    let records : length (p .jobs) ≡ mostJobs = sym (length-map (p .jobs) _) ∙ entry .good .0 .1 .1 .1 .1 .1 .0 .1 .0 .1 in
+    let whole : at-loop .loop .i ≡ counted p = omega arith in
+    all-named p (at-loop .loop .row) records (rw whole at (at-loop .loop .inv .1))
 
 pub names-of-spec : {M : Type 1} → statement M
 names-of-spec =
@@ -77,6 +87,7 @@ names-of-spec =
     (tie.spec
     Inv-loop
     μ-loop
+    counted-of-requires
     loop-holds
     mul-job
     element-copy-out-job

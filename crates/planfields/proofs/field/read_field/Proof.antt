@@ -63,11 +63,10 @@ sub-if2 c = search needs
 
 returns-2 : tie.Need-returns-2 Inv-loop μ-loop
 returns-2 c =
-    let entry = c .before .before in
- (
-  field-cut (entry .args .w) (entry .args .file .now) (entry .args .at) (omega arith),
-  one-le-pow (entry .args .w) 256 (lit< tt),
-)
+    let entry = c .before .before in (
+      field-cut (entry .args .w) (entry .args .file .now) (entry .args .at) (omega arith),
+      one-le-pow (entry .args .w) 256 (lit< tt),
+    )
 
 loop-holds : tie.Need-loop-holds Inv-loop μ-loop
 loop-holds c =

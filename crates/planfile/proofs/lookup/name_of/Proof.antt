@@ -44,9 +44,10 @@ returns : tie.Need-returns
 unfolding nameFound nameShown
 returns c =
     let a = c .before .before .before .before .args in
-    let none = found-above (readFile (a .file .now)) (a .position) (sym (c .before .before .name-at .ensures) ∙ c .before .if1 .taken) in
-    (sym (shown-none (readFile (a .file .now)) (a .file .now) (a .position) none),
-    ap (λ n. (a .file .ptr .0, n + a .file .ptr .1)) (sym (c .before .if1 .taken) ∙ c .before .before .name-at .ensures))
+    let none = found-above (readFile (a .file .now)) (a .position) (sym (c .before .before .name-at .ensures) ∙ c .before .if1 .taken) in (
+      sym (shown-none (readFile (a .file .now)) (a .file .now) (a .position) none),
+      ap (λ n. (a .file .ptr .0, n + a .file .ptr .1)) (sym (c .before .if1 .taken) ∙ c .before .before .name-at .ensures),
+    )
 
 add-result : tie.Need-add-result
 add-result c = record { fits = omega (arith, inside c, from-is c) }
@@ -68,10 +69,11 @@ returns-2 c =
     let entry = at-name-at .before .before in
     let a = entry .args in
     let from = at-name-at .name-at .result in
-    let eight : from + 8 - from ≡ 8 = omega arith in
-    (ap₂ (λ n at. take n (drop at (a .file .now))) eight (from-is (c .before))
-    ∙ sym (shown-part (readFile (a .file .now)) (a .file .now) (a .position) (below (c .before))),
-    ap (λ n. (a .file .ptr .0, n + a .file .ptr .1)) (c .before .before .name-at .ensures))
+    let eight : from + 8 - from ≡ 8 = omega arith in (
+      ap₂ (λ n at. take n (drop at (a .file .now))) eight (from-is (c .before))
+          ∙ sym (shown-part (readFile (a .file .now)) (a .file .now) (a .position) (below (c .before))),
+      ap (λ n. (a .file .ptr .0, n + a .file .ptr .1)) (c .before .before .name-at .ensures),
+    )
 
 pub name-of-spec : {M : Type 1} → statement M
 name-of-spec =

@@ -10,12 +10,12 @@ use lib.Seq.{length-take-le}
 use Rattle.plan.specs.Edition.{mostJobs}
 use Rattle.planfields.specs.Answers.{jobView, jobRefusal, headOf}
 use Rattle.planfields.proofs.ParserLaws.{so, refused}
-use Rattle.planfile.proofs.JobLoop.{Roll, roll-start, roll-names, roll-next, roll-refused, roll-end}
+use Rattle.planfile.proofs.JobLoop.{JobsRead, jobs-read-start, jobs-read-names, jobs-read-next, jobs-read-refused, jobs-read-end}
 use Rattle.planfile.proofs.preamble.read_jobs.Statement.{statement}
 use Rattle.planfile.proofs.preamble.read_jobs.Tie as tie
 
 abbrev Inv-loop : tie.InvT-loop
-Inv-loop file at names₀ count plan₀ next₀ i₀ names plan next i = (i ≤ count) × Roll file at names₀ count plan₀ names plan next i
+Inv-loop file at names₀ count plan₀ next₀ i₀ names plan next i = (i ≤ count) × JobsRead file at names₀ count plan₀ names plan next i
 
 abbrev μ-loop : tie.MeasureT-loop
 μ-loop file at names₀ count plan₀ next₀ i₀ names plan next i = count - i
@@ -25,7 +25,7 @@ at-head : (c : tie.At-loop Inv-loop μ-loop) → (length (c .loop .names) ≡ mo
 at-head c =
     let entry = c .before .before .before .before in
     let most = entry .pre .1 in
-    (roll-names (c .loop .inv .1) (entry .pre .0) (omega arith), omega arith)
+    (jobs-read-names (c .loop .inv .1) (entry .pre .0) (omega arith), omega arith)
 
 plan-with-requires : tie.Need-plan-with-requires Inv-loop μ-loop
 plan-with-requires c κs = search needs
@@ -33,7 +33,7 @@ plan-with-requires c κs = search needs
 loop-holds : tie.Need-loop-holds Inv-loop μ-loop
 loop-holds c =
     let a = c .before .before .before .args in
-    (omega arith, rw (c .plan-with .ensures) (roll-start (a .file .now) (a .at) (a .names .now) (a .head .count) (headOf (a .head))))
+    (omega arith, rw (c .plan-with .ensures) (jobs-read-start (a .file .now) (a .at) (a .names .now) (a .head .count) (headOf (a .head))))
 
 slice-reshare-prefix-read-job : tie.Need-slice-reshare-prefix-read-job Inv-loop μ-loop
 slice-reshare-prefix-read-job c = omega (arith, at-head (c .before))
@@ -61,7 +61,7 @@ same-length c =
 
 returns : tie.Need-returns Inv-loop μ-loop
 returns c =
-    rw (roll-refused (c .before .before .before .before .before .before .loop .inv .1) (omega arith)
+    rw (jobs-read-refused (c .before .before .before .before .before .before .loop .inv .1) (omega arith)
     (refused jobView jobRefusal (c .before .before .before .read-job .ensures) (c .before .enum-told .given .1) refl refl (c .job-refusal .ensures))) refl
 
 mul-names : tie.Need-mul-names Inv-loop μ-loop
@@ -92,7 +92,7 @@ loop-again c =
     let entry = at-loop .before .before .before .before in
     let most = entry .pre .1 in (
       omega arith,
-      rw add-one (roll-next (at-loop .loop .inv .1) (omega arith) (omega arith) (entry .pre .0)
+      rw add-one (jobs-read-next (at-loop .loop .inv .1) (omega arith) (omega arith) (entry .pre .0)
           (so jobView (at-read-job .read-job .ensures) (at-read .read .given .1))),
     )
 
@@ -103,7 +103,7 @@ returns-2 : tie.Need-returns-2 Inv-loop μ-loop
 returns-2 c =
     let roll = c .before .loop .inv .1 in
     let whole : c .before .loop .i ≡ c .before .before .before .before .before .args .head .count = omega arith in
-    rw (roll-end roll whole)
+    rw (jobs-read-end roll whole)
     (refl, rw (c .before .before .plan-with .ensures) at (roll .made), rw whole at (roll .kept))
 
 pub read-jobs-spec : {M : Type 1} → statement M

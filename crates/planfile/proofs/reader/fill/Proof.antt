@@ -45,10 +45,10 @@ passed-here : (c : tie.After-store-rows)
     (rowsOf (preamble-here (c .before .before .before .before) .0) (replicate places 0)
     (c .before .before .before .before .before .before .before .before .before .before .before .before .before .args .file .now) (c .before .before .before .before .before .counted .given .0 .1 .0))
 passed-here c =
-    let told = c .before .before .before .before in
-    let entry = told .before .before .before .before .before .before .before .before .before in
-    let f = preamble-here told .0 in
-    let at = told .before .counted .given .0 .1 .0 in
+    let matched = c .before .before .before .before in
+    let entry = matched .before .before .before .before .before .before .before .before .before in
+    let f = preamble-here matched .0 in
+    let at = matched .before .counted .given .0 .1 .0 in
     rows-passed (c .store-rows .result) (c .store-rows .last .1 .1 .1 .1 .1 .0) (rowsOf f (entry .args .table .now) (entry .args .file .now) at) (rows-here c)
     ∙ rows-only (f .rows) mostIntervals (f .names) (intervals (f .plan)) 0 (entry .args .table .now) (replicate places 0) (entry .args .file .now) at
 
@@ -107,9 +107,9 @@ same-length c = search needs
 returns-2 : tie.Need-returns-2
 returns-2 c =
     let at-store-rows = c .before .before .before .before .before in
-    let told = at-store-rows .before .before .before .before in
-    let file = told .before .before .before .before .before .before .before .before .before .args .file .now in
-    rw (no-rows file (preamble-here told .1)
+    let matched = at-store-rows .before .before .before .before in
+    let file = matched .before .before .before .before .before .before .before .before .before .args .file .now in
+    rw (no-rows file (preamble-here matched .1)
     (only-refused _ (passed-here at-store-rows) (passed-number (c .before .enum-told2 .given .1) (c .passed-refusal .ensures)))) refl
 
 read-end-requires : tie.Need-read-end-requires
@@ -132,10 +132,10 @@ returns-3 c =
     let at-read-end = c .before .before .before in
     let next = at-read-end .before in
     let at-store-rows = next .before .before .before .before .before in
-    let told = at-store-rows .before .before .before .before in
-    let file = told .before .before .before .before .before .before .before .before .before .args .file .now in
+    let matched = at-store-rows .before .before .before .before in
+    let file = matched .before .before .before .before .before .before .before .before .before .args .file .now in
     let rows = only-got _ (passed-here at-store-rows) (next .before .stored .given .1) in
-    rw (no-end file (preamble-here told .1) (rows .1)
+    rw (no-end file (preamble-here matched .1) (rows .1)
     (refused passedView passedRefusal (at-read-end .read-end .ensures) (c .before .enum-told4 .given .1) refl refl (c .passed-refusal2 .ensures))) refl
 
 same-length-3 : tie.Need-same-length-3
@@ -146,12 +146,12 @@ returns-4 c =
     let at-read-end = c .before .before in
     let next = at-read-end .before in
     let at-store-rows = next .before .before .before .before .before in
-    let told = at-store-rows .before .before .before .before in
-    let entry = told .before .before .before .before .before .before .before .before .before in
+    let matched = at-store-rows .before .before .before .before in
+    let entry = matched .before .before .before .before .before .before .before .before .before in
     let file = entry .args .file .now in
-    let g = preamble-here told in
+    let g = preamble-here matched in
     let rows = only-got _ (passed-here at-store-rows) (next .before .stored .given .1) in
-    let at = told .before .counted .given .0 .1 .0 in
+    let at = matched .before .counted .given .0 .1 .0 in
     rw (file-whole file (g .1) (rows .1) (so passedView (at-read-end .read-end .ensures) (c .enum-told3 .given .1)))
     (refl, g .3, λ zeros. rows-left _ _ (rowsOf (g .0) (entry .args .table .now) file at) (rows-here at-store-rows) (ap (λ l. rowsOf (g .0) l file at) zeros ∙ rows .1))
 

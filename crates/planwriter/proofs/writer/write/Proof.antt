@@ -18,11 +18,11 @@ use Rattle.planwriter.proofs.WrittenFile.{writable, body-long, written-
 use Rattle.planwriter.proofs.writer.write.Statement.{statement}
 use Rattle.planwriter.proofs.writer.write.Tie as tie
 
--- The result of `sound_of` is whether the plan with its table is sound.
-tested : (c : tie.After-sound-of) → c .sound-of .result ≡ sound (c .before .before .before .before .before .args .p) (c .before .before .before .before .before .args .table .now)
+-- The result of `sound_within` is whether the plan with its table is sound.
+tested : (c : tie.After-sound-within) → c .sound-within .result ≡ sound (c .before .before .before .before .before .args .p) (c .before .before .before .before .before .args .table .now)
 tested c =
     let a = c .before .before .before .before .before .args in
-    c .sound-of .ensures ∙ sound-told (a .p) (a .table .now) _ (c .before .intervals-of .ensures)
+    c .sound-within .ensures ∙ sound-told (a .p) (a .table .now) _ (c .before .intervals-of .ensures)
 
 -- After the second test the plan is sound, so it can be written.
 sound-here : (c : tie.Else2) → sound (c .before .before .before .before .before .before .args .p) (c .before .before .before .before .before .before .args .table .now) ≡ true
@@ -33,6 +33,15 @@ writable-here c =
     let at-if1 = c .before .before .before in
     let entry = at-if1 .before .before .before in
     writable (entry .args .p) (entry .args .table .now) (sound-here c) (at-if1 .if1 .left)
+
+-- There are at most `mostJobs` jobs and `places` rows, so that no length overflows.
+few-here : (c : tie.After-struct-known)
+    → (c .before .before .before .before .before .before .before .before .before .args .p .count ≤ mostJobs) × (c .before .rows-in .result ≤ places)
+few-here c =
+    let at-rows-in = c .before in
+    let else = at-rows-in .before .before in
+    let entry = else .before .before .before .before .before .before in
+    (writable-here else .few, omega (arith, at-rows-in .rows-in .ensures, count-few (take places (entry .args .table .now)), writable-here else .exact))
 
 -- The lengths that the code computes are those of the body and of the file.
 follows-here : (c : tie.After-struct-known)
@@ -57,8 +66,8 @@ returns c =
 intervals-of-requires : tie.Need-intervals-of-requires
 intervals-of-requires c κs = search needs
 
-sound-of-requires : tie.Need-sound-of-requires
-sound-of-requires c κs = search needs
+sound-within-requires : tie.Need-sound-within-requires
+sound-within-requires c κs = search needs
 
 returns-2 : tie.Need-returns-2
 returns-2 c =
@@ -79,30 +88,30 @@ add-jobs c = search needs
 
 mul-jobs : tie.Need-mul-jobs
 mul-jobs c =
-    record { fits = omega (arith, writable-here (c .before .before .before) .few, c .before .rows-in .ensures, count-few (take places (c .before .before .before .before .before .before .before .before .before .args .table .now)), writable-here (c .before .before .before) .exact) }
+    record { fits = omega (arith, few-here c .0, few-here c .1) }
 
 add-follows : tie.Need-add-follows
 add-follows c =
-    record { fits = omega (arith, writable-here (c .before .before .before) .few, c .before .rows-in .ensures, count-few (take places (c .before .before .before .before .before .before .before .before .before .args .table .now)), writable-here (c .before .before .before) .exact) }
+    record { fits = omega (arith, few-here c .0, few-here c .1) }
 
 add-follows-2 : tie.Need-add-follows-2
 add-follows-2 c =
-    record { fits = omega (arith, writable-here (c .before .before .before) .few, c .before .rows-in .ensures, count-few (take places (c .before .before .before .before .before .before .before .before .before .args .table .now)), writable-here (c .before .before .before) .exact) }
+    record { fits = omega (arith, few-here c .0, few-here c .1) }
 
 add-follows-3 : tie.Need-add-follows-3
 add-follows-3 c = search needs
 
 mul-follows : tie.Need-mul-follows
 mul-follows c =
-    record { fits = omega (arith, writable-here (c .before .before .before) .few, c .before .rows-in .ensures, count-few (take places (c .before .before .before .before .before .before .before .before .before .args .table .now)), writable-here (c .before .before .before) .exact) }
+    record { fits = omega (arith, few-here c .0, few-here c .1) }
 
 add-follows-4 : tie.Need-add-follows-4
 add-follows-4 c =
-    record { fits = omega (arith, writable-here (c .before .before .before) .few, c .before .rows-in .ensures, count-few (take places (c .before .before .before .before .before .before .before .before .before .args .table .now)), writable-here (c .before .before .before) .exact) }
+    record { fits = omega (arith, few-here c .0, few-here c .1) }
 
 add-length : tie.Need-add-length
 add-length c =
-    record { fits = omega (arith, writable-here (c .before .before .before) .few, c .before .rows-in .ensures, count-few (take places (c .before .before .before .before .before .before .before .before .before .args .table .now)), writable-here (c .before .before .before) .exact) }
+    record { fits = omega (arith, few-here c .0, few-here c .1) }
 
 returns-3 : tie.Need-returns-3
 returns-3 c =
@@ -144,7 +153,7 @@ write-spec =
     (tie.spec
     returns
     intervals-of-requires
-    sound-of-requires
+    sound-within-requires
     returns-2
     slice-aggregate-rows-in
     rows-in-requires

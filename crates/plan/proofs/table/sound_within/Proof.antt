@@ -1,8 +1,8 @@
--- `plan::table::sound_of` meets its contract: soundness is the rules and no stray place.
+-- `plan::table::sound_within` meets its contract: soundness is the rules and no stray place.
 use native.Mathlib.Omega.{arith}
 use borrow.Author.Needs.{needs}
-use Rattle.plan.proofs.table.sound_of.Statement.{statement}
-use Rattle.plan.proofs.table.sound_of.Tie as tie
+use Rattle.plan.proofs.table.sound_within.Statement.{statement}
+use Rattle.plan.proofs.table.sound_within.Tie as tie
 
 at-most-requires : tie.Need-at-most-requires
 at-most-requires c κs = search needs
@@ -26,7 +26,7 @@ returns c =
       c .before .before .before .at-most .ensures,
     )
 
-pub sound-of-spec : {M : Type 1} → statement M
-sound-of-spec =
+pub sound-within-spec : {M : Type 1} → statement M
+sound-within-spec =
     tie.close
     (tie.spec at-most-requires rules-hold-requires counted-of-requires no-stray-requires returns)
