@@ -7,7 +7,7 @@ use Prim.Native.Nat.{ℕ, _-_, _<_}
 use native.Mathlib.Omega.{arith}
 use borrow.Author.Tests.{eqb-true}
 use lib.Dec.{leb, eqb}
-use lib.ListN.{length, getD, drop, replicate}
+use lib.ListN.{length, getD, drop, replicate, length-map}
 use lib.Seq.{drop-cons, drop-length}
 use Rattle.plan.specs.Edition.{mostJobs, mostRows, mostIntervals, places}
 use Rattle.plan.specs.Refusal.{wrongExtent, tooManyRows}
@@ -115,7 +115,7 @@ module _ (file : List ℕ) (octets : Octets file) {held : Contents} (r : FileRea
       let c = checked-is 2 (λ n. leb n mostRows) tooManyRows file (r .after-jobs) (r .counted) .0 in
       let jobs = jobs-again p (r .h .count) [] file 10 (r .jobs) (r .after-jobs) octets (λ k h. getD-pad (r .jobs) (mostJobs - length (r .jobs)) k noJob) (r .read) in
       let rows : rowsBytes mostIntervals (namesOf (r .jobs)) 0 (filled .numbers) ≡ rowsBytes mostIntervals (names p) 0 (held .table)
-      = ap (rowsBytes mostIntervals (namesOf (r .jobs)) 0) (sym (filled .is)) ∙ sym (rows-names mostIntervals (names p) (namesOf (r .jobs)) (names-read (r .h) (r .jobs) (r .fine .many) (r .fine .few)) 0 (held .table)) in
+      = ap (rowsBytes mostIntervals (namesOf (r .jobs)) 0) (sym (filled .is)) ∙ sym (rows-names mostIntervals (names p) (namesOf (r .jobs)) (names-read (r .h) (r .jobs) (sym (length-map (r .jobs) (λ (j : Job). j .name .0)) ∙ r .fine .many) few) 0 (held .table)) in
       rw (body-of p (held .table) few (sym (filled .rows) ∙ ap rowCount (sym (filled .is))) refl) at
       (stands-then
       (stands-then

@@ -1,12 +1,12 @@
 -- `planwriter::writer::write` meets its contract.
 use mathlib.Core.Path.{_≡_, sym, _∙_}
 use mathlib.Core.Bool.{true}
-use Prim.Native.Nat.{_+_, _*_}
+use Prim.Native.Nat.{_+_, _*_, _≤_}
 use native.Mathlib.Omega.{arith}
 use borrow.Author.Needs.{needs}
 use lib.ListN.{length, take}
 use lib.Seq.{length-take-le}
-use Rattle.plan.specs.Edition.{places}
+use Rattle.plan.specs.Edition.{mostJobs, places}
 use Rattle.planfields.specs.Layout.{jobLength, rowLength}
 use Rattle.plan.specs.Table.{sound}
 use Rattle.plan.proofs.Stray.{sound-told}
