@@ -4,12 +4,12 @@ use mathlib.Core.List.{List}
 use Prim.Native.Nat.{ℕ, zero, suc, _+_, _*_}
 use lib.ListN.{getD}
 
--- The sum f 0 + … + f (n − 1).
+-- The sum f 0 + … + f (n − 1), which is 0 if n is 0.
 unfoldable pub sum : (ℕ → ℕ) → ℕ → ℕ
 sum f zero = 0
 sum f (suc n) = sum f n + f n
 
--- x if the test holds, otherwise 0: this restricts a sum to a class of jobs.
+-- x if the test is true, otherwise 0: under a sum it keeps the terms that pass a test.
 abbrev pub on : Bool → ℕ → ℕ
 on true x = x
 on false x = 0

@@ -13,7 +13,7 @@ use Rattle.plan.specs.Table.{allotment}
 use Rattle.plan.specs.declared.kinds.Plan.{Plan}
 use Rattle.dispatch.specs.declared.Run.{Run}
 
--- The units carried for job i so far.
+-- The units carried for job i so far; 0 past the end of the run's list.
 abbrev pub carriedOf : (run : Run) (i : Position) → Amount
 carriedOf run i = getD (run .carried) i 0
 
@@ -21,7 +21,7 @@ carriedOf run i = getD (run .carried) i 0
 abbrev pub live : (p : Plan) (t : Time) (i : Position) → Bool
 live p t i = leb (release p i) t && ltb t (deadline p i)
 
--- The allotments of job i in the intervals up to and including the present one at time t.
+-- The sum of job i's allotments at intervals 0 to `present p t`, both included.
 abbrev pub allottedBy : (p : Plan) (table : Table) (t : Time) (i : Position) → Amount
 allottedBy p table t i = sum (allotment mostIntervals table i) (suc (present p t))
 

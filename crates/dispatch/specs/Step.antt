@@ -26,7 +26,7 @@ started p =
 abbrev pub noRun : Run
 noRun = record { clock = record { 0 = 0 }; slow = false; below = false; carried = replicate mostJobs 0 }
 
--- The record that a start leaves: the new run if the judge accepts, otherwise the record as it was.
+-- The record that a start leaves: the new run if the report is empty, otherwise the record as it was.
 abbrev pub startFrom : Report → Run → Run → Run
 startFrom [] run was = run
 startFrom (number ∷ places) run was = was
@@ -35,8 +35,9 @@ startFrom (number ∷ places) run was = was
 unfoldable pub startIn : (p : Plan) (table : Table) (was : Run) → Run
 startIn p table was = startFrom (judged p table) (started p) was
 
--- A plan is sound for a slot at time t with given carried units: rules 4, 5, 8 and 9 hold, t lies
--- from the first release to the last deadline, and no job has more carried than its size.
+-- A plan is sound for a slot at time t with given carried units: rules 4, 5, 8 and 9 hold, t lies from
+-- the first release to the last deadline, both included, and no counted job has more carried than its
+-- size.
 abbrev pub soundAt : (p : Plan) (t : Time) (carried : Row) → Bool
 soundAt p t carried =
     ratesHold p && countHolds p && gradesHold p && boundsHold p && leb (firstRelease p) t
@@ -58,21 +59,22 @@ slotFault p table run v grants =
     refusedBy (not (slotSound p run)) (ltb (length table) places || ltb (length grants) (counted p))
     (eqb (run .clock .0) (lastDeadline p)) (ltb (p .n .0) v)
 
--- The grant row after a slot: zeros for the jobs, overwritten by what the served jobs
--- get; entries past the jobs are unchanged.
+-- The grant row after a slot that is not refused: zeros for the counted jobs, overwritten by what the
+-- served jobs get; entries past them are unchanged.
 unfoldable pub granted : (p : Plan) (table : Table) (run : Run) (v : Speed) (grants : Row) → Row
 granted p table run v grants =
     serve (due p table run (slowAfter p run v)) v (order p (run .clock .0) (slowAfter p run v))
     (replicate (counted p) 0 ++ drop (counted p) grants)
 
--- Adds the first n numbers of a second list to those of l; the rest of l is unchanged.
+-- Adds the first n numbers of a second list to those of l, as far as both lists go; the rest of l is
+-- unchanged.
 unfoldable pub added : (n : ℕ) (l : List ℕ) (grants : Row) → List ℕ
 added zero l grants = l
 added (suc n) [] grants = []
 added (suc n) (x ∷ l) [] = x ∷ l
 added (suc n) (x ∷ l) (g ∷ grants) = (x + g) ∷ added n l grants
 
--- The run after a slot: its clock, marks and carried units.
+-- The run after a slot that is not refused: its clock, marks and carried units.
 unfoldable pub advanced : (p : Plan) (table : Table) (run : Run) (v : Speed) (grants : Row) → Run
 advanced p table run v grants =
     record {
@@ -106,7 +108,7 @@ pub data Ending : Type 0 where
   stillOpen : Ending
   refused : ℕ → Ending
 
--- The refusal that an outcome is, if it is one.
+-- The refusal that an outcome is, as a report; empty if it is none.
 abbrev pub endingReport : Ending → Report
 endingReport met = []
 endingReport discarded = []
@@ -114,8 +116,8 @@ endingReport missed = []
 endingReport stillOpen = []
 endingReport (refused number) = number ∷ []
 
--- The outcome of job i: 21 on the slot's grounds and for a position not below the count; otherwise
--- the first that applies of met, discarded, missed and open.
+-- The outcome of job i: 21 on the grounds of a slot's 21 and for a position not below the count;
+-- otherwise the first that applies of met, discarded, missed and open.
 unfoldable pub outcome : (p : Plan) (run : Run) (i : Position) → Ending
 outcome p run i =
     cond (not (slotSound p run && ltb i (p .count))) (refused unsound)

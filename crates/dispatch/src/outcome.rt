@@ -8,7 +8,7 @@ use plan::kinds::Units;
 use plan::refusal::UNSOUND;
 ghost use Rattle.dispatch.specs.Answers.{Ends};
 
-// The outcome of the job at a position.
+// The outcome of the job at a position, or 21.
 pub fn outcome(p: Plan, run: Run, position: usize) -> Outcome
     ensures { λ r. ⌜ Ends p run position r ⌝ }
 {

@@ -30,7 +30,7 @@ pub(crate) enum Readiness {
     Running(u32),
 }
 
-// Whether no job has more carried than its size.
+// Whether no counted job has more carried than its size.
 fn carried_within(p: Plan, carried: &[u32; Edition::MOST_JOBS]) -> bool
     ensures { λ r. ⌜ r ≡ every (λ i. leb (getD (now (carried .entry)) i 0) (size p i)) (counted p) ⌝ }
 {
@@ -54,8 +54,8 @@ fn spans_by(p: Plan, clock: Slots) -> u32
     present_of(p, clock) as u32 + 1
 }
 
-// The readiness at a clock with given carried units: sound if rules 4, 5, 8 and 9 hold, the clock
-// lies from the first release to the last deadline, and no job has more carried than its size.
+// The readiness at a clock with given carried units: sound if rules 4, 5, 8 and 9 hold, the clock lies
+// from the first release to the last deadline, and no counted job has more carried than its size.
 pub(crate) fn readiness_of(p: Plan, clock: Slots, carried: &[u32; Edition::MOST_JOBS]) -> Readiness
     ensures { λ r. ⌜ r ≡ readiness p (clock .0) (now (carried .entry)) ⌝ }
 {

@@ -40,7 +40,7 @@ pub fn no_run() -> Run
     fresh(Slots(0))
 }
 
-// Judges a plan and starts its run if it is accepted.
+// Judges a plan and starts its run if it is accepted; otherwise the run is all zeros.
 pub fn start(p: Plan, table: &[u32]) -> Started
     ensures { λ r. ⌜ Starts p (now (table .entry)) r ⌝ }
 {

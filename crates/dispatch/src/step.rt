@@ -69,9 +69,9 @@ fn is_done(answer: Answer) -> bool
     }
 }
 
-// Carries one slot at speed v and writes the grants to the lent row, one entry per
-// job. The loop over the jobs is here and not in a function of its own, so that
-// the stack holds no second copy of the plan.
+// Carries one slot at speed v and writes the grants to the lent row, one entry per counted job. A
+// refusal changes neither run nor row. The loop over the jobs is here and not in a function of its own,
+// so that the stack holds no second copy of the plan.
 pub fn step(p: Plan, table: &[u32], run: Run, v: u16, grants: &mut [u32]) -> Stepped
     ensures { λ r. ⌜ Steps p (now (table .entry)) run v (now (grants .entry)) r (now (grants .exit)) ⌝ }
 {

@@ -37,20 +37,21 @@ missedNumber = 259
 abbrev pub openNumber : ℕ
 openNumber = 260
 
--- The first part of a report's location: a job or an interval; 0 if it has none.
+-- The first part of a report's location: of a judge's report a job or an interval; 0 if it has none.
 abbrev pub firstOf : Report → ℕ
 firstOf [] = 0
 firstOf (number ∷ []) = 0
 firstOf (number ∷ a ∷ rest) = a
 
--- The second part of a report's location: an interval or a deadline; 0 if it has none.
+-- The second part of a report's location: of a judge's report an interval or a deadline; 0 if it has
+-- none.
 abbrev pub secondOf : Report → ℕ
 secondOf [] = 0
 secondOf (number ∷ []) = 0
 secondOf (number ∷ a ∷ []) = 0
 secondOf (number ∷ a ∷ b ∷ rest) = b
 
--- A lent location after a report is written to it.
+-- A lent location after a report's is written to its first two words, as far as it has them.
 abbrev pub located : (report : Report) (location : Words) → List ℕ
 located report location = set (set location 0 (firstOf report)) 1 (secondOf report)
 
@@ -63,7 +64,8 @@ pub record HostJudgeEffect : Type 0 where
   pub number : ℕ
   pub location : List ℕ
 
--- The judge's call: 22 if plan or location is too short, with nothing changed; otherwise the verdict.
+-- The judge's call: 22 if plan or location is too short, with nothing changed; otherwise the verdict's
+-- number, and its location, 0 and 0 if it names none.
 unfoldable pub judgeCall : (plan : Words) (table : Table) (location : Words) → HostJudgeEffect
 judgeCall plan table location =
     cond (shortPlan plan || shortLocation location) (record { number = bufferTooShort; location = location })
@@ -80,8 +82,8 @@ abbrev pub startWords : Report → Plan → Words → List ℕ
 startWords [] p run = runPut run (started p)
 startWords (number ∷ places) p run = run
 
--- The start's call: 22 if plan, run or location is too short, with nothing changed; otherwise the
--- verdict, and the started run if it is accepted.
+-- The start's call: 22 if plan, run or location is too short, with nothing changed; otherwise as the
+-- judge's call, and the started run if the plan is accepted.
 unfoldable pub startCall : (plan : Words) (table : Table) (run location : Words) → HostStartEffect
 startCall plan table run location =
     cond (shortPlan plan || shortRun run || shortLocation location) (record { number = bufferTooShort; run = run; location = location })
@@ -131,7 +133,8 @@ pub record HostSlackEffect : Type 0 where
   pub slack : ℤ
   pub location : List ℕ
 
--- The number of a figure: that of no refusal if there is a least slack.
+-- The number of a figure: that of no HI job, that of no refusal if there is a least slack, or the
+-- report's.
 abbrev pub figureNumber : slack.Figure → ℕ
 figureNumber slack.noneEssential = noneNumber
 figureNumber (slack.least s l D) = doneNumber

@@ -11,7 +11,7 @@ use planfile::reader::read;
 use planwriter::writer::write;
 ghost use Rattle.gateway.specs.Answers.{HostReads, HostWrites, HostShows};
 
-// Reads a plan file into the lent plan and table.
+// Reads a plan file into the lent plan and table; 22 with nothing changed if the plan is too short.
 #[no_mangle]
 pub extern "C" fn gateway_read(file: &[u8], plan: &mut [u64], table: &mut [u32]) -> u32
     ensures { λ r. ⌜ HostReads (now (file .entry)) (now (plan .entry)) (now (table .entry)) r (now (plan .exit)) (now (table .exit)) ⌝ }
@@ -26,7 +26,8 @@ pub extern "C" fn gateway_read(file: &[u8], plan: &mut [u64], table: &mut [u32])
     read_number(answer)
 }
 
-// Writes the plan file of a sound plan and its table, and returns its length in `length`.
+// Writes the plan file of a sound plan and its table, and returns its length in `length`; a refusal
+// leaves the output as it was.
 #[no_mangle]
 pub extern "C" fn gateway_write(
     plan: &[u64],

@@ -13,7 +13,7 @@ use judge::judge;
 use plan::refusal::BUFFER_TOO_SHORT;
 ghost use Rattle.gateway.specs.Answers.{HostJudges, HostMeasures};
 
-// The verdict on a plan and its table.
+// The verdict on a plan and its table: its number, and its location in `location`.
 #[no_mangle]
 pub extern "C" fn gateway_judge(plan: &[u64], table: &[u32], location: &mut [u64]) -> u32
     ensures { λ r. ⌜ HostJudges (now (plan .entry)) (now (table .entry)) (now (location .entry)) r (now (location .exit)) ⌝ }
@@ -27,7 +27,7 @@ pub extern "C" fn gateway_judge(plan: &[u64], table: &[u32], location: &mut [u64
     verdict_number(verdict)
 }
 
-// The slack figure of a plan and its table.
+// The slack figure of a plan and its table: its number, the least slack, and its location.
 #[no_mangle]
 pub extern "C" fn gateway_slack(
     plan: &[u64],

@@ -80,7 +80,7 @@ pub extern "C" fn gateway_step(
     answer_number(answer)
 }
 
-// The outcome of the job at a position.
+// The number of the outcome of the job at a position, or of a refusal.
 #[no_mangle]
 pub extern "C" fn gateway_outcome(plan: &[u64], run: &[u32], position: usize) -> u32
     ensures { λ r. ⌜ HostEnds (now (plan .entry)) (now (run .entry)) position r ⌝ }

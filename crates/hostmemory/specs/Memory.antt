@@ -64,7 +64,7 @@ most32 = 4_294_967_295
 abbrev pub jobStart : Position → ℕ
 jobStart i = headWords + jobWords * i
 
--- The job that the words from index `at` on encode.
+-- The job that the words from index `at` on encode; a word that is not there counts as 0.
 abbrev pub jobAt : (w : Words) (at : Offset) → Job
 jobAt w at =
     record {
@@ -75,7 +75,7 @@ jobAt w at =
       deadline = record { 0 = min (getD w (at + 4) 0) most32 };
     }
 
--- The first n jobs that the words of a plan encode.
+-- The first n jobs that words encode.
 unfoldable pub jobsTo : (w : Words) (n : ℕ) → List Job
 jobsTo w zero = []
 jobsTo w (suc n) = jobsTo w n ++ (jobAt w (jobStart n) ∷ [])
@@ -103,7 +103,7 @@ unfoldable pub jobsOut : (p : Plan) (n : ℕ) → List ℕ
 jobsOut p zero = []
 jobsOut p (suc n) = jobsOut p n ++ jobOut (jobOf p n)
 
--- The words of a plan.
+-- The words of a plan: both rates, the count and `mostJobs` jobs.
 unfoldable pub planOut : Plan → Words
 planOut p = p .n .0 ∷ p .d .0 ∷ p .count ∷ jobsOut p mostJobs
 
@@ -111,7 +111,7 @@ planOut p = p .n .0 ∷ p .d .0 ∷ p .count ∷ jobsOut p mostJobs
 unfoldable pub planPut : (w : Words) (p : Plan) → Words
 planPut w p = cond (shortPlan w) w (sets w 0 (planOut p))
 
--- Whether both marks are 0 or 1, if there are enough words.
+-- Whether the words of both marks are 0 or 1; a word that is not there counts as 0.
 abbrev pub marksIn : Words → Bool
 marksIn w = leb (getD w 1 0) 1 && leb (getD w 2 0) 1
 
@@ -119,7 +119,7 @@ marksIn w = leb (getD w 1 0) 1 && leb (getD w 2 0) 1
 unfoldable pub marksHold : Words → Bool
 marksHold w = cond (shortRun w) false (marksIn w)
 
--- The run that words encode, if there are enough of them.
+-- The run that words encode, if there are enough of them; a mark is set if its word is 1.
 unfoldable pub runIn : Words → Run
 runIn w =
     record {
@@ -145,8 +145,8 @@ runOut r = r .clock .0 ∷ markOut (r .slow) ∷ markOut (r .below) ∷ r .carri
 unfoldable pub runPut : (w : Words) (r : Run) → Words
 runPut w r = cond (shortRun w) w (sets w 0 (runOut r))
 
--- The numbers of a plan have the widths of their types, and it has
--- `mostJobs` records; every plan in hand does.
+-- The rates, grades, releases and deadlines of a plan have the widths of their types, and it has
+-- `mostJobs` records. Every plan of the code fits.
 pub record Fits (p : Plan) : Type 0 where
   pub n : p .n .0 ≤ most16
   pub d : p .d .0 ≤ most16

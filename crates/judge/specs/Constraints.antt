@@ -14,11 +14,12 @@ use Rattle.plan.specs.Boundaries.{boundaries, boundary, intervals}
 use Rattle.plan.specs.Table.{allotment}
 use Rattle.plan.specs.declared.kinds.Plan.{Plan}
 
--- The units of job i in interval j, which rules 15 to 18 constrain.
+-- The allotment of job i in interval j, in the edition's table; rules 15 to 18 constrain it.
 abbrev pub units : (table : Table) (i : Position) (j : Interval) → Amount
 units table i j = allotment mostIntervals table i j
 
--- Interval j of the boundaries `times` lies inside the window from `from` to `to`, as in rule 15.
+-- Interval j, from element j of `times` to the next, lies inside the window from `from` to `to`; an
+-- element past the end counts as 0.
 abbrev pub within : (times : Times) (from to : Time) (j : Interval) → Bool
 within times from to j = leb from (getD times j 0) && leb (getD times (suc j) 0) to
 
@@ -26,34 +27,35 @@ within times from to j = leb from (getD times j 0) && leb (getD times (suc j) 0)
 abbrev pub inWindow : (p : Plan) (i : Position) (j : Interval) → Bool
 inWindow p i j = within (boundaries p) (release p i) (deadline p i) j
 
--- The length of interval j in slots, for rule 17.
+-- The length of interval j in slots, for rule 17; 0 if the plan has no interval j.
 abbrev pub intervalLength : (p : Plan) (j : Interval) → Time
 intervalLength p j = boundary p (suc j) - boundary p j
 
--- The total units of job i, which rule 16 compares with its size.
+-- The units of job i in all the plan's intervals, which rule 16 compares with its size.
 abbrev pub total : (p : Plan) (table : Table) (i : Position) → Amount
 total p table i = sum (units table i) (intervals p)
 
--- The total units in interval j, which rule 17 bounds.
+-- The units of all counted jobs in interval j, which rule 17 bounds.
 abbrev pub load : (p : Plan) (table : Table) (j : Interval) → Amount
 load p table j = sum (λ i. units table i j) (counted p)
 
--- The units of job i in the intervals from l on that end at or before time D, for rule 18.
+-- The units of job i in the plan's intervals from l on that end at or before time D, for rule 18.
 abbrev pub unitsBetween : (p : Plan) (table : Table) (l : Interval) (D : Time) (i : Position) → Amount
 unitsBetween p table l D i = sum (λ j. on (leb l j && leb (boundary p (suc j)) D) (units table i j)) (intervals p)
 
 -- The demand in rule 18, from interval l to time D: the units between
--- them of HI jobs with deadline at most D.
+-- them of the counted HI jobs with deadline at most D.
 abbrev pub demand : (p : Plan) (table : Table) (l : Interval) (D : Time) → Amount
 demand p table l D = sum (λ i. on (isHi p i && leb (deadline p i) D) (unitsBetween p table l D i)) (counted p)
 
--- The capacity of the floor in rule 18, from the start of interval l to time D.
+-- The capacity of the floor in rule 18, from the start of interval l to time D: 0 if D is not later.
+-- Past the last boundary, the start counts as 0.
 abbrev pub floorCapacity : (p : Plan) (l : Interval) (D : Time) → Amount
 floorCapacity p l D = p .d .0 * (D - boundary p l)
 
--- Figure 2 holds: (1) no job has units outside its window, and each job's total is exactly its
--- size; (2) the load of each interval is at most n times its length; (3) from each interval to each
--- later boundary, the demand is at most the floor's capacity.
+-- Figure 2 holds: (1) no counted job has units in an interval that is not inside its window, and each
+-- counted job's total is exactly its size; (2) the load of each interval is at most n times its length;
+-- (3) from each interval to each later boundary, the demand is at most the floor's capacity.
 pub record Figure2 (p : Plan) (table : List ℕ) : Type 0 where
   pub inside : (i j : ℕ) → i < counted p → j < intervals p → inWindow p i j ≡ false → units table i j ≡ 0
   pub exact : (i : ℕ) → i < counted p → total p table i ≡ size p i

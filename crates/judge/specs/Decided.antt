@@ -21,7 +21,8 @@ use Rattle.plan.specs.Report.{Report}
 abbrev pub InHand : (p : Plan) (table : Table) → Type 0
 InHand p table = (places ≤ length table) × (sound p table ≡ true)
 
--- Rule 15 holds for the first n jobs: they have no units outside their windows.
+-- Rule 15 holds for the first n jobs: they have no units in intervals that are not inside their
+-- windows.
 abbrev pub InsideTo : (p : Plan) (table : Table) (n : ℕ) → Type 0
 InsideTo p table n = (i j : ℕ) → i < n → j < intervals p → isOutside p table i j ≡ false
 
@@ -33,12 +34,12 @@ TotalTo p table n = (i : ℕ) → i < n → total p table i ≡ size p i
 abbrev pub WithinTo : (p : Plan) (table : Table) (n : ℕ) → Type 0
 WithinTo p table n = (j : ℕ) → j < n → load p table j ≤ p .n .0 * intervalLength p j
 
--- Rule 18 holds from interval l to each HI deadline among the first m boundaries:
--- the demand is at most the floor's capacity.
+-- Rule 18 holds from interval l to each HI deadline among the first m boundaries that comes after
+-- boundary l: the demand is at most the floor's capacity.
 abbrev pub FloorAt : (p : Plan) (table : Table) (l : Interval) (m : ℕ) → Type 0
 FloorAt p table l m = (k : ℕ) → k < m → isPair p l k ≡ true → demand p table l (boundary p k) ≤ floorCapacity p l (boundary p k)
 
--- Rule 18 holds from each of the first n intervals to every later HI deadline.
+-- Rule 18 holds from each of the first n intervals to every later boundary that is a HI deadline.
 abbrev pub FloorTo : (p : Plan) (table : Table) (n : ℕ) → Type 0
 FloorTo p table n = (l : ℕ) → l < n → (k : ℕ) → k ≤ intervals p → isPair p l k ≡ true
     → demand p table l (boundary p k) ≤ floorCapacity p l (boundary p k)

@@ -14,26 +14,27 @@ use mathlib.Core.Path.{_≡_}
 use mathlib.Core.Bool.{false}
 use Prim.Native.Nat.{_≤_}
 
--- The slack of interval l and deadline D: the floor's capacity less
--- the demand, negative where rule 18 fails.
+-- The slack of interval l and time D: the floor's capacity less
+-- the demand, below zero exactly where the demand is greater.
 abbrev pub slackOf : (p : Plan) (table : Table) (l : Interval) (D : Time) → ℤ
 slackOf p table l D = subℕ (floorCapacity p l D) (demand p table l D)
 
--- A slack figure: no job is HI; the least slack with its interval
--- and deadline; or a refusal of the judge's.
+-- A slack figure: that there is none, since none is essential; the least slack
+-- with its interval and deadline; or a refusal with its report.
 pub data Figure : Type 0 where
   noneEssential : Figure
   least : ℤ → ℕ → ℕ → Figure
   refused : Report → Figure
 
--- The lesser of the figure so far and the slack s of interval l and
--- deadline D; if equal, the figure so far.
+-- The lesser of the figure so far and the slack s of interval l and deadline D; if equal, the figure
+-- so far. If there is none so far, it is the slack s; a refusal stays.
 abbrev pub lesser : (noneEssential : Figure) (s : ℤ) (l : Interval) (D : Time) → Figure
 lesser noneEssential s l D = least s l D
 lesser (least best l₀ D₀) s l D = cond (ltZ s best) (least s l D) (least best l₀ D₀)
 lesser (refused report) s l D = refused report
 
--- Applies step 0, step 1, …, step (n − 1) in this order, which decides between equal slacks.
+-- What step 0, step 1, …, step (n − 1), in this order, make of a. The order decides between equal
+-- slacks.
 unfoldable pub through : {A : Type 0} → (ℕ → A → A) → ℕ → A → A
 through step zero a = a
 through step (suc n) a = step n (through step n a)
@@ -42,7 +43,8 @@ through step (suc n) a = step n (through step n a)
 abbrev pub taken : (p : Plan) (table : Table) (l : Interval) (m : ℕ) (so-far : Figure) → Figure
 taken p table l m so-far = cond (isPair p l m) (lesser so-far (slackOf p table l (boundary p m)) l (boundary p m)) so-far
 
--- The least slack over all intervals and later HI deadlines, with the first pair that has it.
+-- The least slack over all intervals and later HI deadlines, with the first pair that has it;
+-- `noneEssential` if there is no pair.
 unfoldable pub leastSlack : (p : Plan) (table : Table) → Figure
 leastSlack p table = through (λ l. through (taken p table l) (suc (intervals p))) (intervals p) noneEssential
 
@@ -69,13 +71,14 @@ Covered p table (least s i D) l k = NoLater s i D (slackOf p table l (boundary p
 Covered p table (refused report) l k = ⊥
 
 -- The figure is `noneEssential`, or its slack and deadline are
--- those of its interval and a boundary in `In`.
+-- those of its interval and a boundary that are a pair in `In`.
 abbrev pub Reached : Plan → List ℕ → (ℕ → ℕ → Type 0) → Figure → Type 0
 Reached p table In noneEssential = Unit {0}
 Reached p table In (least s i D) = (k : ℕ) × In i k × (s ≡ slackOf p table i (boundary p k)) × (D ≡ boundary p k)
 Reached p table In (refused report) = ⊥
 
--- The figure is the least slack of the pairs in `In`, with the first pair that has it.
+-- The figure is the least slack of the pairs in `In`, with the first pair that has it; `noneEssential`
+-- if `In` has no pair.
 pub record LeastAmong (p : Plan) (table : List ℕ) (In : ℕ → ℕ → Type 0) (f : Figure) : Type 0 where
   pub covers : (l k : ℕ) → In l k → Covered p table f l k
   pub reached : Reached p table In f

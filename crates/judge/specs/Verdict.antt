@@ -15,16 +15,17 @@ use Rattle.plan.specs.declared.kinds.Plan.{Plan}
 use Rattle.plan.specs.Report.{Report, orElse, fault, first}
 use Rattle.judge.specs.Constraints.{units, inWindow, intervalLength, total, load, demand, floorCapacity}
 
--- Rule 15 is violated: job i has units in interval j, which lies outside its window.
+-- Rule 15 is violated: job i has units in interval j, which is not inside its window.
 abbrev pub isOutside : (p : Plan) (table : Table) (i : Position) (j : Interval) → Bool
 isOutside p table i j = not (inWindow p i j || eqb (units table i j) 0)
 
--- 15: the first job, and its first interval, with units outside the job's window.
+-- 15: the first counted job, and its first interval, with units outside the job's window. This report
+-- and the three below are empty if there is none.
 unfoldable pub outsideFault : (p : Plan) (table : Table) → Report
 outsideFault p table =
     first (λ i. first (λ j. fault (isOutside p table i j) (outsideWindow ∷ i ∷ j ∷ [])) (intervals p)) (counted p)
 
--- 16: the first job whose allotments do not sum to its size.
+-- 16: the first counted job whose total is not its size.
 unfoldable pub totalFault : (p : Plan) (table : Table) → Report
 totalFault p table = first (λ i. fault (not (eqb (total p table i) (size p i))) (wrongTotal ∷ i ∷ [])) (counted p)
 
@@ -36,8 +37,9 @@ capacityFault p table = first (λ j. fault (ltb (p .n .0 * intervalLength p j) (
 unfoldable pub isHiDeadline : (p : Plan) (D : Time) → Bool
 isHiDeadline p D = not (every (λ i. not (isHi p i && eqb (deadline p i) D)) (counted p))
 
--- Interval l and boundary m are a pair of the floor rule: the boundary is
--- a HI deadline after the interval's start.
+-- Interval l and boundary m are a pair of the floor rule: m is above l, and boundary m is a HI
+-- deadline. For m up to `intervals p`, the last boundary's index, it is then later than the
+-- interval's start.
 abbrev pub isPair : (p : Plan) (l : Interval) (m : ℕ) → Bool
 isPair p l m = ltb l m && isHiDeadline p (boundary p m)
 

@@ -36,9 +36,9 @@ fn slack_from(carries: Units, asked: Units) -> i64
     carries.0 as i64 - asked.0 as i64
 }
 
-// The slack of an interval and a deadline, for any plan, table, interval and time:
-// the floor's capacity from the interval's start to the deadline, less the demand.
-// Both are below 2^62, so nothing overflows.
+// The slack of an interval and a deadline, for any plan, table, interval and time: the floor's capacity
+// from the interval's start (0 past the last boundary) to the deadline, less the demand. The capacity is
+// 0 if the deadline is not later. Both are below 2^62, so nothing overflows.
 pub fn slack_of(p: Plan, table: &[u32], interval: usize, deadline: Slots) -> i64
     ensures { λ r. ⌜ MeasuresPair p (now (table .entry)) interval deadline r ⌝ }
 {

@@ -24,7 +24,7 @@ fn answer_of(s: Stepped) -> Answer
     s.answer
 }
 
-// Carries one slot at speed v on a lent run record.
+// Carries one slot at speed v on a lent run record. A refusal changes neither record nor row.
 pub fn step_in(run: &mut Run, p: Plan, table: &[u32], v: u16, grants: &mut [u32]) -> Answer
     ensures { λ r. ⌜ StepsIn (now (run .entry)) p (now (table .entry)) v (now (grants .entry)) r (now (run .exit)) (now (grants .exit)) ⌝ }
 {
@@ -64,7 +64,7 @@ fn start_over(p: Plan, table: &[u32], was: Run) -> Started
     Started { verdict, run: was }
 }
 
-// Judges a plan and starts its run in a lent record if it is accepted.
+// Judges a plan and starts its run in a lent record if it is accepted; otherwise the record stays.
 pub fn start_in(run: &mut Run, p: Plan, table: &[u32]) -> Verdict
     ensures { λ r. ⌜ StartsIn (now (run .entry)) p (now (table .entry)) r (now (run .exit)) ⌝ }
 {

@@ -1,4 +1,5 @@
--- What the numbers and lists of the definitions stand for. The names are transparent: each is ℕ or a list of ℕ.
+-- What the numbers and lists of the definitions stand for. The names are transparent: each is ℕ or a
+-- list of ℕ, and nothing bounds a number or a list's length.
 use mathlib.Core.List.{List}
 use Prim.Native.Nat.{ℕ}
 
@@ -26,7 +27,7 @@ Interval = ℕ
 abbrev pub Offset : Type 0
 Offset = ℕ
 
--- A refusal number.
+-- A refusal number, or the number of no refusal.
 abbrev pub Number : Type 0
 Number = ℕ
 
@@ -34,7 +35,7 @@ Number = ℕ
 abbrev pub Table : Type 0
 Table = List ℕ
 
--- One amount for each job: a grant row, or what a run carries.
+-- Amounts by position: a grant row, or what a run carries.
 abbrev pub Row : Type 0
 Row = List ℕ
 
@@ -42,7 +43,7 @@ Row = List ℕ
 abbrev pub Times : Type 0
 Times = List ℕ
 
--- Positions in the order of service.
+-- Positions in a list, such as the order of service.
 abbrev pub Positions : Type 0
 Positions = List ℕ
 

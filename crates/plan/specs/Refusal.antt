@@ -81,7 +81,7 @@ clockAtEnd = 19
 abbrev pub speedAboveNormal : ℕ
 speedAboveNormal = 20
 
--- The plan or the run is unsound.
+-- The plan or the run is unsound; for an outcome also: no counted job has the position.
 abbrev pub unsound : ℕ
 unsound = 21
 

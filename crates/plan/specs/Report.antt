@@ -18,7 +18,7 @@ abbrev pub isNone : Report → Bool
 isNone [] = true
 isNone (number ∷ places) = false
 
--- The report if the fault is present, otherwise the empty report.
+-- The report if the test is true, otherwise the empty report.
 abbrev pub fault : Bool → Report → Report
 fault true report = report
 fault false report = []
@@ -28,11 +28,11 @@ unfoldable pub first : (f : ℕ → Report) (n : ℕ) → Report
 first f zero = []
 first f (suc n) = orElse (first f n) (f n)
 
--- The number of a call that is not refused.
+-- The number of no refusal.
 abbrev pub doneNumber : Number
 doneNumber = 0
 
--- The number of a report: that of the refusal, or that of no refusal.
+-- The first number of a report, or that of no refusal if it is empty.
 abbrev pub numberOf : Report → Number
 numberOf [] = doneNumber
 numberOf (number ∷ places) = number

@@ -27,16 +27,16 @@ ratesAllowed n d = leb 1 d && ltb d n && leb n mostRate
 abbrev pub countAllowed : ℕ → Bool
 countAllowed count = leb 1 count && leb count mostJobs
 
--- Byte k of a name, whose eight bytes are one number; byte 0 is the last one.
+-- Byte k of a number; byte 0 is the lowest. A name's eight bytes are one number, the first highest.
 abbrev pub byteOf : (x k : ℕ) → ℕ
 byteOf x k = x / 256 ^ k % 256
 
--- Rule 6: each of the eight bytes of a name is in 0x21 to 0x7E.
+-- Rule 6: each of the lowest eight bytes of x is from 0x21 to 0x7E.
 unfoldable pub nameAllowed : ℕ → Bool
 nameAllowed x = every (λ k. leb 0x21 (byteOf x k) && leb (byteOf x k) 0x7E) nameBytes
 
 -- Two names are the same when their numbers are equal.
--- (proofs/Names: exactly when all eight bytes are.)
+-- (proofs/Names: exactly when all eight bytes are, if both are below 256^8.)
 abbrev pub sameName : (a b : ℕ) → Bool
 sameName a b = eqb a b
 
@@ -60,11 +60,11 @@ sizeAllowed u = leb 1 u && leb u mostSize
 abbrev pub noJob : Job
 noJob = record { name = record { 0 = 0 }; grade = 0; release = record { 0 = 0 }; size = record { 0 = 0 }; deadline = record { 0 = 0 } }
 
--- The plan of a refusal: all zeros.
+-- The plan of zeros, with `mostJobs` zero records, which comes with a refusal.
 abbrev pub noPlan : Plan
 noPlan = record { n = record { 0 = 0 }; d = record { 0 = 0 }; count = 0; jobs = replicate mostJobs noJob }
 
--- The record of job i.
+-- The record of job i, or `noJob` if there is none.
 abbrev pub jobOf : (p : Plan) (i : Position) → Job
 jobOf p i = getD (p .jobs) i noJob
 
@@ -120,6 +120,6 @@ gradesHold p = every (λ i. gradeAllowed (jobOf p i .grade)) (counted p)
 unfoldable pub boundsHold : Plan → Bool
 boundsHold p = every (λ i. windowAllowed (release p i) (deadline p i) && sizeAllowed (size p i)) (counted p)
 
--- Rules 4 to 9 together.
+-- Rules 4 to 9 together, over a plan in hand.
 unfoldable pub rulesHold : Plan → Bool
 rulesHold p = ratesHold p && countHolds p && namesHold p && namesDiffer p && gradesHold p && boundsHold p

@@ -7,8 +7,8 @@ use Rattle.plan.specs.Edition.{places}
 use Rattle.plan.specs.Rules.{counted, jobOf}
 use Rattle.plan.specs.declared.kinds.Plan.{Plan}
 
--- The rates, the count, the counted records and the table's own places are equal;
--- all else may differ.
+-- The rates, the count, the counted jobs' records and the first `places` numbers of the tables, or all
+-- of shorter tables, are equal; all else may differ.
 pub record Same (p : Plan) (table : List ℕ) (q : Plan) (other : List ℕ) : Type 0 where
   pub n : p .n ≡ q .n
   pub d : p .d ≡ q .d

@@ -11,22 +11,22 @@ use Rattle.plan.specs.Rules.{rulesHold, counted}
 use Rattle.plan.specs.Boundaries.{intervals}
 use Rattle.plan.specs.declared.kinds.Plan.{Plan}
 
--- The place of job i in interval j, in a table with `width` places per job.
+-- The place of job i in interval j, for j below `width`, in a table with `width` places per job.
 abbrev pub place : (width : ℕ) (i : Position) (j : Interval) → ℕ
 place width i j = width * i + j
 
--- The allotment of job i in interval j, or 0 past the end of the table.
+-- The number at the place of job i in interval j, or 0 past the end of the table.
 abbrev pub allotment : (width : ℕ) (table : Table) (i : Position) (j : Interval) → Amount
 allotment width table i j = getD table (place width i j) 0
 
--- Each number of the list, whose first is at place q, is 0 unless its job is below `jobs`
--- and its interval below `spans`.
+-- Each number of the list, whose first is at place q, is 0 unless its job (its place / width) is below
+-- `jobs` and its interval (its place % width) below `spans`.
 unfoldable pub noStray : (width jobs spans q : ℕ) (cells : List ℕ) → Bool
 noStray width jobs spans q [] = true
 noStray width jobs spans q (u ∷ l) =
     (eqb u 0 || ltb (q / width) jobs && ltb (q % width) spans) && noStray width jobs spans (suc q) l
 
--- Rules 4 to 9 hold, and each of the table's own places is 0 unless its job is counted
+-- Rules 4 to 9 hold, and each of the first `places` numbers of the table is 0 unless its job is counted
 -- and its interval below `spans`.
 abbrev pub soundWithin : (spans : ℕ) (p : Plan) (table : Table) → Bool
 soundWithin spans p table = rulesHold p && noStray mostIntervals (counted p) spans 0 (take places table)

@@ -6,7 +6,7 @@ ghost use Prim.Native.Nat.{_*_};
 // A number of slots: a time or a length of time.
 pub struct Slots(pub u32);
 
-// A number of units of work. 64 bits hold every sum over a table, so no sum of units wraps.
+// A number of units of work. 64 bits hold every sum that is taken over a table.
 pub struct Units(pub u64);
 
 // Units per slot.
@@ -22,15 +22,15 @@ pub const HI: u8 = 1;
 
 pub struct Job {
     pub name: Name,
-    // LO or HI. A plan in hand can hold any byte here; rule 8 refuses the others.
+    // A plan in hand can hold any byte here; rule 8 allows LO and HI alone.
     pub grade: u8,
     pub release: Slots,
     pub size: Units,
     pub deadline: Slots,
 }
 
-// A plan in hand, without the table that is lent with it. The count can be any number:
-// loops that can run before rule 5 is tested are bounded by `counted_of`.
+// A plan in hand, without the table that is lent with it. The count can be any number: a loop that
+// can run before rule 5 is tested goes over the counted jobs (`counted_of`) or over all records.
 pub struct Plan {
     pub n: Rate,
     pub d: Rate,

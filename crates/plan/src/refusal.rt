@@ -1,6 +1,6 @@
 // The refusal numbers, by name.
 
-// The number of a call that is not refused.
+// The number of no refusal.
 pub const DONE: u8 = 0;
 
 // Refusals of the reader.

@@ -51,7 +51,8 @@ fn no_stray(table: &[u32], jobs: usize, spans: usize) -> bool
     clear & all_zero(table, used, Edition::PLACES - used)
 }
 
-// Whether a plan with its table is sound for judge and writer, given its number of intervals.
+// Whether rules 4 to 9 hold and each of the table's own places is 0 unless its job is counted and its
+// interval below `spans`. With the plan's number of intervals this is soundness for judge and writer.
 pub fn sound_within(p: Plan, table: &[u32], spans: usize) -> bool
     ensures { λ r. ⌜ r ≡ soundWithin (min spans mostIntervals) p (now (table .entry)) ⌝ }
 {

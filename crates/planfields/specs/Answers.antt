@@ -30,7 +30,7 @@ abbrev pub fieldValue : Field → ℕ
 fieldValue (field.Value v next) = v
 fieldValue (field.Refused number) = 0
 
--- The refusal number of a `Field`, or 0, which is no refusal's number.
+-- The refusal number of a `Field`, or 0 if it is a value.
 abbrev pub fieldRefusal : Field → ℕ
 fieldRefusal (field.Value v next) = 0
 fieldRefusal (field.Refused number) = number
@@ -40,7 +40,7 @@ abbrev pub passedView : Passed → Parsed (Unit {0})
 passedView (passed.Next next) = got tt next
 passedView (passed.Refused number) = no number
 
--- The refusal number of a `Passed`, or 0.
+-- The refusal number of a `Passed`, or 0 if it is an offset.
 abbrev pub passedRefusal : Passed → ℕ
 passedRefusal (passed.Next next) = 0
 passedRefusal (passed.Refused number) = number
@@ -54,7 +54,7 @@ abbrev pub headView : HeadRead → Parsed rule.Head
 headView (head.Head h next) = got (headOf h) next
 headView (head.Refused number) = no number
 
--- The refusal number of a `HeadRead`, or 0.
+-- The refusal number of a `HeadRead`, or 0 if it is a head.
 abbrev pub headRefusal : HeadRead → ℕ
 headRefusal (head.Head h next) = 0
 headRefusal (head.Refused number) = number
@@ -64,7 +64,7 @@ abbrev pub jobView : JobRead → Parsed Job
 jobView (job.Job j next) = got j next
 jobView (job.Refused number) = no number
 
--- The refusal number of a `JobRead`, or 0.
+-- The refusal number of a `JobRead`, or 0 if it is a job.
 abbrev pub jobRefusal : JobRead → ℕ
 jobRefusal (job.Job j next) = 0
 jobRefusal (job.Refused number) = number
@@ -73,7 +73,7 @@ jobRefusal (job.Refused number) = number
 abbrev pub ReadsNamed : (file : Bytes) (at : Offset) (length : ℕ) (r : Field) → Type 0
 ReadsNamed file at length r = fieldView r ≡ rule.named length file at
 
--- The contract of `read_end`: the file ends at this offset, otherwise the refusal.
+-- The contract of `read_end`: the offset if the file ends there, otherwise the refusal.
 abbrev pub ReadsEnd : (file : Bytes) (at : Offset) (r : Passed) → Type 0
 ReadsEnd file at r = passedView r ≡ rule.ended file at
 
@@ -89,11 +89,11 @@ ReadsJob file at earlier r = jobView r ≡ rule.oneJob earlier file at
 abbrev pub ReadsRowCount : (file : Bytes) (at : Offset) (r : Field) → Type 0
 ReadsRowCount file at r = fieldView r ≡ rule.checked 2 (λ n. leb n mostRows) tooManyRows file at
 
--- The contract of `read_interval`: two bytes, below the number of intervals;
--- the value is below 256^2.
+-- The contract of `read_interval`: two bytes, below `spans`; the value, or 0 after a refusal, is below
+-- 256^2.
 abbrev pub ReadsInterval : (file : Bytes) (at : Offset) (spans : ℕ) (r : Field) → Type 0
 ReadsInterval file at spans r = (fieldView r ≡ rule.checked 2 (λ j. ltb j spans) rowWithoutInterval file at) × (fieldValue r < 256 ^ 2)
 
--- The contract of `read_units`: four bytes, not 0; the value is below 256^4.
+-- The contract of `read_units`: four bytes, not 0; the value, or 0 after a refusal, is below 256^4.
 abbrev pub ReadsUnits : (file : Bytes) (at : Offset) (r : Field) → Type 0
 ReadsUnits file at r = (fieldView r ≡ rule.checked 4 (λ u. not (eqb u 0)) rowWithoutUnits file at) × (fieldValue r < 256 ^ 4)

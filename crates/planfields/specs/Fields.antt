@@ -44,23 +44,23 @@ abbrev pub test : (true : Bool) (number : Number) → Parser (Unit {0})
 test true number file at = got tt at
 test false number file at = no number
 
--- A field of w bytes, highest first; if the file ends inside it, it is refused,
--- whatever its bytes are.
+-- A field of w bytes, highest first; if the file is shorter than `at` + w, it is refused, whatever
+-- its bytes are.
 unfoldable pub field : ℕ → Parser ℕ
 field w file at = cond (leb (at + w) (length file)) (got (value 0 (take w (drop at file))) (at + w)) (no wrongExtent)
 
--- A field of w bytes whose value must pass a test.
+-- A field of w bytes whose value must pass a test; otherwise it is refused with the number.
 abbrev pub checked : (w : ℕ) (ok : ℕ → Bool) (number : Number) → Parser ℕ
 checked w ok number = do
   x ← field w
   test (ok x) number
   done x
 
--- The version byte; a missing first byte and a wrong one have the same refusal.
+-- The version byte; no byte at the offset and another one than the version have the same refusal.
 unfoldable pub version : Parser ℕ
 version file at = cond (ltb at (length file) && eqb (getD file at 0) versionByte) (got versionByte (at + 1)) (no wrongVersion)
 
--- The length field, which must be the number of bytes after it.
+-- The length field, four bytes whose value must be the number of bytes after it.
 unfoldable pub extent : Parser ℕ
 extent file at = onward (field 4 file at) (λ n rest next. cond (eqb (next + n) (length rest)) (got n next) (no wrongExtent)) file
 
@@ -76,7 +76,7 @@ pub record Head : Type 0 where
   pub d : ℕ
   pub count : ℕ
 
--- The opening, both rates, and a job count from 1 to `most`.
+-- The opening, both rates, which must pass rule 4, and a job count from 1 to `most`.
 unfoldable pub head : ℕ → Parser Head
 head most = do
   opening
@@ -119,6 +119,6 @@ oneJob earlier = do
         deadline = record { 0 = deadline };
       })
 
--- The end of the file: no bytes may remain.
+-- The end of the file: the offset must be the file's length.
 unfoldable pub ended : Parser (Unit {0})
 ended file at = cond (eqb at (length file)) (got tt at) (no wrongExtent)

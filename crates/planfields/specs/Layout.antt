@@ -39,11 +39,13 @@ largestFile = headerBytes + mostJobs * (1 + jobLength) + rowCountBytes + mostRow
 abbrev pub nameAt : Position → Offset
 nameAt i = headerBytes + i * (1 + jobLength) + 1
 
--- The value of the length field, highest byte first.
+-- The bytes at offsets 1 to 4, where the length field is, as a number, highest first; a byte that is
+-- not there counts as 0.
 abbrev pub lengthSaid : Bytes → ℕ
 lengthSaid l = ((getD l 1 0 * 256 + getD l 2 0) * 256 + getD l 3 0) * 256 + getD l 4 0
 
--- The number of input bytes that are the plan file: the opening, and as many more as the length
--- field says, but at most the largest file; all bytes if there are too few for the opening.
+-- How many bytes the plan file at the front of an input is to have: the opening, and as many more as
+-- the length field says, but at most the largest file, also if the input is shorter; as many as there
+-- are if they are too few for the opening.
 unfoldable pub fileBytes : Bytes → ℕ
 fileBytes l = cond (ltb (length l) openingBytes) (length l) (min (openingBytes + lengthSaid l) largestFile)

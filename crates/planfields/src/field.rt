@@ -81,7 +81,7 @@ pub fn read_named(file: &[u8], at: usize, length: u64) -> Field
     read_field(file, next, Edition::NAME_BYTES)
 }
 
-// The end of the file: no bytes may remain.
+// The end of the file: the offset must be the file's length.
 pub fn read_end(file: &[u8], at: usize) -> Passed
     ensures { λ r. ⌜ ReadsEnd (now (file .entry)) at r ⌝ }
 {

@@ -20,7 +20,8 @@ use Rattle.planfields.specs.Fields.{Parsed, got, no, Parser, _>>=_, _>>_, done,
 abbrev pub namesOf : List Job → List ℕ
 namesOf jobs = map (λ (j : Job). j .name .0) jobs
 
--- n jobs in sequence, appended to those already read; no job may have the name of one before it.
+-- n jobs in sequence, appended to those already read; none of the n may have the name of one before
+-- it.
 unfoldable pub allJobs : (n : ℕ) (jobs : List Job) → Parser (List Job)
 allJobs zero jobs = done jobs
 allJobs (suc n) jobs = do
@@ -37,8 +38,8 @@ pub record Row : Type 0 where
   pub at : ℕ
   pub units : ℕ
 
--- One row: one of the names, an interval below `spans`, units other than 0,
--- and a place that is at least `low`.
+-- One row: its length byte, one of the names, an interval below `spans`, units other than 0, and a place
+-- that is at least `low`.
 unfoldable pub oneRow : (width : ℕ) (names : List ℕ) (spans low : ℕ) → Parser Row
 oneRow width names spans low = do
   name ← named rowLength
@@ -48,7 +49,8 @@ oneRow width names spans low = do
   test (leb low (place width (position names name) interval)) rowOutOfOrder
   done (record { at = place width (position names name) interval; units = units })
 
--- n rows in sequence, with strictly increasing places from `low` on, each stored in the table.
+-- n rows in sequence, with strictly increasing places from `low` on, each stored in the table if the
+-- table has its place.
 unfoldable pub allRows : (n width : ℕ) (names : List ℕ) (spans low : ℕ) (table : Table) → Parser (List ℕ)
 allRows zero width names spans low table = done table
 allRows (suc n) width names spans low table = do
@@ -60,7 +62,8 @@ pub record Contents : Type 0 where
   pub plan : Plan
   pub table : List ℕ
 
--- The plan with the rates and the count of a head and with these jobs; the other records are zero.
+-- The plan with the rates and the count of a head and with these jobs, then zero records up to
+-- `mostJobs`.
 abbrev pub planFrom : Head → List Job → Plan
 planFrom h jobs =
     record {
@@ -103,8 +106,8 @@ pub record ReadEffect : Type 0 where
   pub plan : Plan
   pub table : List ℕ
 
--- What the reader leaves with a table that is long enough: the plan's allotments,
--- or zeros after a refusal; places from 2,016 on are unchanged.
+-- What the reader leaves with a table that is long enough: the contents' table, or `places` zeros after
+-- a refusal, and behind them what the lent table has from place `places` on.
 abbrev pub leaves : Parsed Contents → Table → ReadEffect
 leaves (got contents at) table = record { answer = []; plan = contents .plan; table = contents .table ++ drop places table }
 leaves (no number) table = record { answer = number ∷ []; plan = noPlan; table = replicate places 0 ++ drop places table }
@@ -115,17 +118,18 @@ unfoldable pub reader : (file : Bytes) (table : Table) → ReadEffect
 reader file table =
     cond (ltb (length table) places) (record { answer = bufferTooShort ∷ []; plan = noPlan; table = table }) (leaves (readFile file) table)
 
--- The offset at which the name lookup finds job k's name; 0, where no name begins, if the file is
--- refused or has no job k.
+-- The offset at which the name of job k begins; 0, where no name begins, if the file is refused or has
+-- no job k.
 abbrev pub foundBy : Parsed Contents → Position → Offset
 foundBy (got contents at) k = cond (ltb k (contents .plan .count)) (nameAt k) 0
 foundBy (no number) k = 0
 
+-- The offset that the name lookup finds for job k of a file.
 unfoldable pub nameFound : (file : Bytes) (k : Position) → Offset
 nameFound file k = foundBy (readFile file) k
 
--- The part that the name lookup shows: the eight bytes of job k's name,
--- or nothing if the file is refused or has no job k.
+-- The part of a file where the name of job k is: the eight bytes from `nameAt` k on, fewer if the file
+-- ends before, or nothing if the file is refused or has no job k.
 abbrev pub shownBy : Parsed Contents → Bytes → ℕ → List ℕ
 shownBy (got contents at) file k = cond (ltb k (contents .plan .count)) (take 8 (drop (nameAt k) file)) []
 shownBy (no number) file k = []

@@ -1,4 +1,4 @@
-// How many bytes of the input are the plan file.
+// How many bytes a plan file has, told by its first bytes.
 use planfields::layout::Layout;
 ghost use mathlib.Core.Path.{_≡_};
 ghost use Prim.Native.Nat.{_<_};
@@ -10,7 +10,8 @@ fn wide(byte: u8) -> usize
     byte as usize
 }
 
-// The number of bytes of the plan file, from its first five; all of them if fewer were read.
+// How many bytes the plan file is to have, told by its first five: these and as many more as the length
+// field says, but at most the largest file. If there are fewer than five, as many as there are.
 pub fn file_bytes(head: &[u8]) -> usize
     ensures { λ r. ⌜ r ≡ fileBytes (now (head .entry)) ⌝ }
 {

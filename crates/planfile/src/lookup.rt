@@ -8,7 +8,7 @@ ghost use Rattle.planfile.specs.Reader.{readFile};
 ghost use Rattle.planfile.specs.Answers.{Finds, Shows, ShownAt};
 ghost use Rattle.planfile.specs.inner.Parts.{countOf};
 
-// The job count of a file, or 0 if the reader would refuse the file.
+// The job count of a file, or 0 if the reader, lent enough places, would refuse the file.
 fn count_in(file: &[u8]) -> usize
     ensures { λ r. ⌜ r ≡ countOf (readFile (now (file .entry))) ⌝ }
 {
@@ -23,7 +23,7 @@ fn count_in(file: &[u8]) -> usize
 }
 
 // The offset in the file at which a job's name begins;
-// 0 if the reader would refuse the file or if it has no such job.
+// 0 if the reader, lent enough places, would refuse the file or if it has no such job.
 pub fn name_at(file: &[u8], position: usize) -> usize
     ensures { λ r. ⌜ Finds (now (file .entry)) position r ⌝ }
 {
@@ -34,7 +34,7 @@ pub fn name_at(file: &[u8], position: usize) -> usize
 }
 
 // The eight bytes of a job's name inside the file;
-// an empty part if the reader would refuse the file or if it has no such job.
+// an empty part if the reader, lent enough places, would refuse the file or if it has no such job.
 pub fn name_of(file: &[u8], position: usize) -> &[u8]
     ensures { λ r. ⌜ Shows (now (file .entry)) position (now r) ⌝ }
     ensures { λ r. ⌜ ShownAt (file .entry .ptr) (now (file .entry)) position (r .ptr) ⌝ }

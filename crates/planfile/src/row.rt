@@ -53,8 +53,9 @@ fn find_from(names: &[u64], name: u64, start: usize) -> usize
     names.len()
 }
 
-// The position of a name among distinct names. Rows are in job order, so the search begins
-// at `start`, the previous row's job; if it finds nothing, it begins again at 0.
+// The position of a name among distinct names, or their number if none of them is it. Rows are in job
+// order, so the search begins at `start`, the previous row's job; if it finds nothing, it begins again
+// at 0.
 fn find(names: &[u64], name: u64, start: usize) -> usize
     requires { ⌜ Distinct (now names) ⌝ }
     ensures { λ r. ⌜ r ≡ position (now (names .entry)) name ⌝ }

@@ -1,4 +1,5 @@
--- The bytes of a plan file, and what the writer leaves.
+-- The bytes of a plan file, and what the writer leaves. A number too large for its field stands there as
+-- `bytes` says: the field's first element is then no byte.
 use mathlib.Core.Bool.{not, cond}
 use mathlib.Core.List.{List, [], _∷_, _++_}
 use Prim.Native.Nat.{ℕ, zero, suc, _/_, _%_}
@@ -20,7 +21,7 @@ jobBytes j =
     bytes 1 jobLength ++ bytes nameBytes (j .name .0) ++ bytes 1 (j .grade) ++ bytes 4 (j .release .0) ++ bytes 4 (j .size .0)
     ++ bytes 4 (j .deadline .0)
 
--- The bytes of the first n jobs.
+-- The bytes of the jobs at positions below n.
 unfoldable pub jobsBytes : (p : Plan) (n : ℕ) → Bytes
 jobsBytes p zero = []
 jobsBytes p (suc n) = jobsBytes p n ++ jobBytes (jobOf p n)
@@ -29,12 +30,12 @@ jobsBytes p (suc n) = jobsBytes p n ++ jobBytes (jobOf p n)
 abbrev pub rowBytes : (name : ℕ) (interval : Interval) (units : Amount) → Bytes
 rowBytes name interval units = bytes 1 rowLength ++ bytes nameBytes name ++ bytes 2 interval ++ bytes 4 units
 
--- The bytes for place q with the given units: none for 0 units,
--- otherwise the row of its job and interval.
+-- The bytes for place q with the given units: none for 0 units, otherwise the row of its job, which is
+-- q / width, with name 0 if `names` has no such job, and of its interval, which is q % width.
 abbrev pub rowAt : (width : ℕ) (names : List ℕ) (q : ℕ) (units : Amount) → Bytes
 rowAt width names q units = cond (eqb units 0) [] (rowBytes (getD names (q / width) 0) (q % width) units)
 
--- The bytes of the rows of a list whose first number is at place q.
+-- The bytes of the rows of a list of units whose first is at place q.
 unfoldable pub rowsBytes : ℕ → List ℕ → ℕ → List ℕ → Bytes
 rowsBytes width names q [] = []
 rowsBytes width names q (u ∷ l) = rowAt width names q u ++ rowsBytes width names (suc q) l
@@ -68,8 +69,8 @@ pub record WriteEffect : Type 0 where
 abbrev pub withheld : (number : Number) (out : Bytes) → WriteEffect
 withheld number out = record { answer = refused number; out = out }
 
--- The writer: 22 for a short table, 21 for an unsound plan, 22 for an output shorter than the file;
--- otherwise it writes the file, and the bytes after it are unchanged.
+-- The writer: 22 for a short table, then 21 for an unsound plan, then 22 for an output shorter than the
+-- file; otherwise it writes the file, and the bytes after it are unchanged.
 unfoldable pub writer : (p : Plan) (table : Table) (out : Bytes) → WriteEffect
 writer p table out =
     let file = written p (take places table) in

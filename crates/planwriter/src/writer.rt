@@ -126,7 +126,8 @@ fn put_file(out: &mut [u8], p: Plan, table: &[u32], rows: usize, follows: usize,
     put_body(out, after_length, p, table, rows, spans);
 }
 
-// Writes the file of a plan and its table if they are sound and the output is long enough.
+// Writes the file of a plan and its table if the table has all its places, both are sound and the
+// output is long enough; otherwise nothing is written.
 pub fn write(p: Plan, table: &[u32], out: &mut [u8]) -> Written
     ensures { λ r. ⌜ Writes p (now (table .entry)) (now (out .entry)) r (now (out .exit)) ⌝ }
 {
