@@ -28,7 +28,7 @@ pub data Figure : Type 0 where
 
 -- The lesser of the figure so far and the slack s of interval l and deadline D; if equal, the figure
 -- so far. If there is none so far, it is the slack s; a refusal stays.
-abbrev pub lesser : (noneEssential : Figure) (s : ℤ) (l : Interval) (D : Time) → Figure
+abbrev pub lesser : (figure : Figure) (s : ℤ) (l : Interval) (D : Time) → Figure
 lesser noneEssential s l D = least s l D
 lesser (least best l₀ D₀) s l D = cond (ltZ s best) (least s l D) (least best l₀ D₀)
 lesser (refused report) s l D = refused report

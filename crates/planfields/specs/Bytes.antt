@@ -5,7 +5,7 @@ use Prim.Native.Nat.{ℕ, zero, suc, _+_, _*_, _/_, _%_, _^_}
 -- `bytes w x`: the w bytes of x, highest first, if x < 256^w. Otherwise, for w > 0, the first element
 -- is x / 256^(w − 1), which is not a byte, and the rest are the lowest w − 1 bytes of x; for w = 0
 -- the list is empty.
-unfoldable pub bytes : (n x : ℕ) → List ℕ
+unfoldable pub bytes : (w x : ℕ) → List ℕ
 bytes zero x = []
 bytes (suc w) x = x / 256 ^ w ∷ bytes w (x % 256 ^ w)
 

@@ -40,7 +40,7 @@ abbrev pub done : {A : Type 0} → A → Parser A
 done a file at = got a at
 
 -- Consumes no bytes, and refuses with the number if the test is false.
-abbrev pub test : (true : Bool) (number : Number) → Parser (Unit {0})
+abbrev pub test : (ok : Bool) (number : Number) → Parser (Unit {0})
 test true number file at = got tt at
 test false number file at = no number
 

@@ -16,7 +16,7 @@ openingBytes = 1 + 4
 
 -- The number of bytes before the jobs: the opening, both rates and the job count.
 abbrev pub headerBytes : ℕ
-headerBytes = 1 + 4 + 2 + 2 + 1
+headerBytes = openingBytes + 2 + 2 + 1
 
 -- The value of a job's length byte.
 abbrev pub jobLength : ℕ

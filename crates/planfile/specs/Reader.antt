@@ -6,7 +6,7 @@ use Prim.Native.Nat.{ℕ, zero, suc, _+_, _*_, _-_}
 use lib.Dec.{leb, ltb, eqb}
 use lib.ListN.{length, take, drop, set, replicate}
 use Rattle.plan.specs.Kinds.{Bytes, Offset, Position, Table}
-use Rattle.plan.specs.Edition.{mostJobs, mostRows, mostIntervals, places}
+use Rattle.plan.specs.Edition.{mostJobs, mostRows, mostIntervals, places, nameBytes}
 use Rattle.planfields.specs.Layout.{rowLength, nameAt}
 use Rattle.plan.specs.Refusal.{tooManyRows, rowWithoutJob, rowWithoutInterval, rowWithoutUnits, rowOutOfOrder, bufferTooShort}
 use Rattle.plan.specs.Rules.{sameName, noJob, noPlan}
@@ -131,7 +131,7 @@ nameFound file k = foundBy (readFile file) k
 -- The part of a file where the name of job k is: the eight bytes from `nameAt` k on, fewer if the file
 -- ends before, or nothing if the file is refused or has no job k.
 abbrev pub shownBy : Parsed Contents → Bytes → ℕ → List ℕ
-shownBy (got contents at) file k = cond (ltb k (contents .plan .count)) (take 8 (drop (nameAt k) file)) []
+shownBy (got contents at) file k = cond (ltb k (contents .plan .count)) (take nameBytes (drop (nameAt k) file)) []
 shownBy (no number) file k = []
 
 -- The name lookup: what it shows for job k of a file.

@@ -40,8 +40,9 @@ use Rattle.promises.specs.Night.{Call, Allowed, Kept}
 abbrev pub ExactlyOne : {A : Type 0} → (A → Type 0) → Type 0
 ExactlyOne {A} Promised = (r : A) × Promised r × ((s : A) → Promised s → r ≡ s)
 
--- Demand 1. For every input, the promise of each call (the very predicate in its `ensures`) is
--- met by exactly one result and one content of each lent buffer.
+-- Demand 1. For every input, the promise of each call that the rules name (the very predicate in its
+-- `ensures`) is met by exactly one result and one content of each lent buffer. The same is proved of
+-- every other public call (promises/proofs/Determined, gateway/proofs/Determined).
 pub record EveryCallIsDetermined : Type 0 where
   pub read : (file : Bytes) (table : Table) → ExactlyOne {A = PlanRead × Table} (λ r. Reads file table (r .0) (r .1))
   pub lookup : (file : Bytes) (position : Position) → ExactlyOne (Shows file position)
@@ -75,7 +76,7 @@ pub record VerdictFileAndSlotAreExact : Type 0 where
       → length (written p (take places table)) ≤ length out → places ≤ length other
       → (n : ℕ) × (writer p table out .answer ≡ wrote n) × (reader (take n (writer p table out .out)) other .answer ≡ [])
       × Same p table (reader (take n (writer p table out .out)) other .plan) (reader (take n (writer p table out .out)) other .table)
-  -- The grants of a slot are those of serving the live jobs one after the other, in the rule's
+  -- The grants of a done call are those of serving the live jobs one after the other, in the rule's
   -- order.
   pub grants : (p : Plan) (table : Table) (run : Run) (v : Speed) (row : Row) → stepped p table run v row .answer ≡ []
       → stepped p table run v row .grants
