@@ -1,6 +1,7 @@
 // A job's claim on a slot: its due if it is served, capped at the speed.
 use plan::kinds::HI;
 use plan::kinds::Job;
+use plan::kinds::Rate;
 use plan::kinds::Slots;
 use plan::kinds::Units;
 ghost use mathlib.Core.Path.{_≡_};
@@ -43,15 +44,12 @@ fn due_of(served: bool, goal: Units, carried: Units) -> Units
     Units(goal.0 - carried.0)
 }
 
-// The lesser of what is due and the speed, which in one slot is a number of units.
-fn capped_at(due: Units, v: u16) -> u32
-    ensures { λ r. ⌜ r ≡ min (due .0) v ⌝ }
+// The lesser of what is due and what the speed carries in one slot.
+fn capped_at(due: Units, v: Rate) -> Units
+    ensures { λ r. ⌜ r ≡ record { 0 = min (due .0) (v .0) } ⌝ }
 {
-    if due.0 < v as u64 {
-        due.0 as u32
-    } else {
-        v as u32
-    }
+    let most = v.over(Slots(1));
+    if due.0 < most.0 { due } else { most }
 }
 
 // A job's claim on a slot, from its allotments so far and the units carried.
@@ -61,9 +59,9 @@ pub(crate) fn claim_of(
     slow: bool,
     allotted: Units,
     carried: Units,
-    v: u16,
-) -> u32
-    ensures { λ r. ⌜ r ≡ min (on (leb (job .release .0) (clock .0) && ltb (clock .0) (job .deadline .0) && (eqb (job .grade) hi || not slow)) (cond slow (job .size .0) (min (job .size .0) (allotted .0)) - carried .0)) v ⌝ }
+    v: Rate,
+) -> Units
+    ensures { λ r. ⌜ r ≡ record { 0 = min (on (leb (job .release .0) (clock .0) && ltb (clock .0) (job .deadline .0) && (eqb (job .grade) hi || not slow)) (cond slow (job .size .0) (min (job .size .0) (allotted .0)) - carried .0)) (v .0) } ⌝ }
 {
     let goal = goal_of(slow, job.size, allotted);
     let due = due_of(is_served(job, clock, slow), goal, carried);

@@ -4,7 +4,7 @@ use crate::answers::Outcome;
 use crate::soundness::slot_sound;
 use plan::kinds::HI;
 use plan::kinds::Plan;
-use plan::kinds::Units;
+use plan::kinds::as_units;
 use plan::refusal::UNSOUND;
 ghost use Rattle.dispatch.specs.Answers.{Ends};
 
@@ -22,7 +22,7 @@ pub fn outcome(p: Plan, run: Run, position: usize) -> Outcome
     let size = job.size;
     let deadline = job.deadline;
     let clock = run.clock;
-    let carried = Units(run.carried[position] as u64);
+    let carried = as_units(run.carried[position]);
     if carried.0 == size.0 {
         return Outcome::Met;
     }

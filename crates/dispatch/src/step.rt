@@ -42,8 +42,8 @@ fn refused(answer: Answer, run: Run) -> Stepped
 }
 
 // The answer of a slot's call: the first of 21, 22, 19 and 20 that applies, otherwise done.
-fn answer_to(readiness: Readiness, short: bool, n: Rate, v: u16) -> Answer
-    ensures { λ r. ⌜ answerView r ≡ faultBy readiness short (ltb (n .0) v) ⌝ }
+fn answer_to(readiness: Readiness, short: bool, n: Rate, v: Rate) -> Answer
+    ensures { λ r. ⌜ answerView r ≡ faultBy readiness short (ltb (n .0) (v .0)) ⌝ }
 {
     if !is_sound(readiness) {
         return Answer::Refused(UNSOUND);
@@ -54,7 +54,7 @@ fn answer_to(readiness: Readiness, short: bool, n: Rate, v: u16) -> Answer
     if is_ended(readiness) {
         return Answer::Refused(CLOCK_AT_END);
     }
-    if n.0 < v {
+    if n.0 < v.0 {
         return Answer::Refused(SPEED_ABOVE_NORMAL);
     }
     Answer::Done
@@ -75,17 +75,18 @@ fn is_done(answer: Answer) -> bool
 pub fn step(p: Plan, table: &[u32], run: Run, v: u16, grants: &mut [u32]) -> Stepped
     ensures { λ r. ⌜ Steps p (now (table .entry)) run v (now (grants .entry)) r (now (grants .exit)) ⌝ }
 {
+    let speed = Rate(v);
     let clock = run.clock;
     let mut carried = run.carried;
     let jobs = counted_of(p);
     let short = (table.len() < Edition::PLACES) | (grants.len() < jobs);
     let readiness = readiness_of(p, clock, &carried);
-    let answer = answer_to(readiness, short, p.n, v);
+    let answer = answer_to(readiness, short, p.n, speed);
     if !is_done(answer) {
         return refused(answer, run);
     }
-    let slow = mark_after(run.slow, v, p.n);
-    let below = mark_after(run.below, v, p.d);
+    let slow = mark_after(run.slow, speed, p.n);
+    let below = mark_after(run.below, speed, p.d);
     let begun = begun_in(readiness);
     let mut ranks = [0u32; Edition::MOST_JOBS];
     let mut claims = [0u32; Edition::MOST_JOBS];
@@ -94,10 +95,11 @@ pub fn step(p: Plan, table: &[u32], run: Run, v: u16, grants: &mut [u32]) -> Ste
         let job = p.jobs[i];
         ranks[i] = rank_of(job.grade, job.deadline, i);
         let allotted = Units(sum_of(table, Edition::MOST_INTERVALS * i, 1, begun));
-        claims[i] = claim_of(job, clock, slow, allotted, as_units(carried[i]), v);
+        let claim = claim_of(job, clock, slow, allotted, as_units(carried[i]), speed);
+        claims[i] = claim.0 as u32;
         i += 1;
     }
-    grant_all(&ranks, &claims, jobs, v, &mut carried, grants);
+    grant_all(&ranks, &claims, jobs, speed, &mut carried, grants);
     let next = Slots(clock.0 + 1);
     let after = Run {
         clock: next,

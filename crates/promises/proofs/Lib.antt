@@ -23,3 +23,8 @@ pub mod NightsOfE
 pub mod FoldedNames
 pub mod PromiseLimits
 pub mod AllDemands
+pub mod HostNights
+pub mod ReadWords
+pub mod Exactly
+pub mod RefusalOrder
+pub mod JudgeExactly

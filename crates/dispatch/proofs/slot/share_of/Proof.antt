@@ -1,7 +1,7 @@
 -- `dispatch::slot::share_of` meets its contract. Loop invariant: the sum of the
 -- claims of lesser rank among the first k jobs.
-use mathlib.Core.Path.{_≡_, sym, _∙_, ap, ap₂}
-use Prim.Native.Nat.{_+_, _*_, _-_, _≤_, min}
+use mathlib.Core.Path.{_≡_, refl, sym, _∙_, ap, ap₂}
+use Prim.Native.Nat.{_+_, _*_, _-_, _≤_}
 use native.Mathlib.Omega.{arith}
 use borrow.Author.Needs.{needs}
 use lib.Dec.{ltb}
@@ -62,22 +62,29 @@ loop-again c =
       omega (arith, entry .pre .2 (here .k) (omega arith)),
     )
 
-mul-rest-of : tie.Need-mul-rest-of Inv-loop μ-loop
-mul-rest-of c = search needs
+mul-as-units : tie.Need-mul-as-units Inv-loop μ-loop
+mul-as-units c = search needs
 
-element-copy-out-rest-of : tie.Need-element-copy-out-rest-of Inv-loop μ-loop
-element-copy-out-rest-of c = search needs
+element-copy-out-as-units : tie.Need-element-copy-out-as-units Inv-loop μ-loop
+element-copy-out-as-units c = search needs
+
+as-units-requires : tie.Need-as-units-requires Inv-loop μ-loop
+as-units-requires c κs = search needs
+
+as-units-requires-2 : tie.Need-as-units-requires-2 Inv-loop μ-loop
+as-units-requires-2 c κs = search needs
 
 rest-of-requires : tie.Need-rest-of-requires Inv-loop μ-loop
 rest-of-requires c κs = search needs
 
 returns : tie.Need-returns Inv-loop μ-loop
 returns c =
-    let at-loop = c .before .before .before in
+    let at-loop = c .before .before .before .before .before in
     let entry = at-loop .before .before in
     let a = entry .args in
     let whole : at-loop .loop .k ≡ a .jobs = omega arith in
-    c .rest-of .ensures ∙ ap (λ s. min (getD (a .claims .now) (a .i) 0) (a .v - s)) (at-loop .loop .inv .1 ∙ ap (sum (λ m. on (ltb (getD (a .ranks .now) m 0) (getD (a .ranks .now) (a .i) 0)) (getD (a .claims .now) m 0))) whole)
+    let earlier = at-loop .loop .inv .1 ∙ ap (sum (λ m. on (ltb (getD (a .ranks .now) m 0) (getD (a .ranks .now) (a .i) 0)) (getD (a .claims .now) m 0))) whole in
+    rw (c .rest-of .ensures, c .before .as-units2 .ensures, c .before .before .as-units .ensures, earlier) refl
 
 pub share-of-spec : {M : Type 1} → statement M
 share-of-spec =
@@ -97,7 +104,9 @@ share-of-spec =
     add-k
     loop-less
     loop-again
-    mul-rest-of
-    element-copy-out-rest-of
+    mul-as-units
+    element-copy-out-as-units
+    as-units-requires
+    as-units-requires-2
     rest-of-requires
     returns)

@@ -31,11 +31,11 @@ mul-job c = search needs
 element-copy-out-job : tie.Need-element-copy-out-job Inv-loop μ-loop
 element-copy-out-job c = search needs
 
-mul-units : tie.Need-mul-units Inv-loop μ-loop
-mul-units c = search needs
+mul-as-units : tie.Need-mul-as-units Inv-loop μ-loop
+mul-as-units c = search needs
 
-element-copy-out-units : tie.Need-element-copy-out-units Inv-loop μ-loop
-element-copy-out-units c = search needs
+element-copy-out-as-units : tie.Need-element-copy-out-as-units Inv-loop μ-loop
+element-copy-out-as-units c = search needs
 
 as-units-requires : tie.Need-as-units-requires Inv-loop μ-loop
 as-units-requires c κs = search needs
@@ -66,8 +66,8 @@ carried-within-spec =
     loop-holds
     mul-job
     element-copy-out-job
-    mul-units
-    element-copy-out-units
+    mul-as-units
+    element-copy-out-as-units
     as-units-requires
     add-i
     loop-less

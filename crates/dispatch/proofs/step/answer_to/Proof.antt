@@ -31,14 +31,14 @@ returns-3 c = rw (sound (c .before .before .before), c .before .before .if2 .lef
 
 returns-4 : tie.Need-returns-4
 returns-4 c =
-    let c-2 = c .before .before in
+    let c-2 = c .before .before .before in
     let at-if2 = c-2 .before .before in
     let c-5 = at-if2 .before in
     rw (sound (c-5), at-if2 .if2 .left, running (c-2), lt-ltb _ _ (c .if4 .taken)) refl
 
 returns-5 : tie.Need-returns-5
 returns-5 c =
-    let c-2 = c .before .before in
+    let c-2 = c .before .before .before in
     let at-if2 = c-2 .before .before in
     let c-5 = at-if2 .before in
     rw (sound (c-5), at-if2 .if2 .left, running (c-2), le-ltb _ _ (c .if4 .left)) refl

@@ -45,22 +45,26 @@ allotted table i spans =
     (λ k l. ap (λ x. getD table (mostIntervals * i + x) 0) (one-mul k))
 
 -- The claim that one loop iteration computes, from the results of the calls in it.
-one-claim : (p : Plan) (table : List ℕ) (run : Run) (slow : Bool) (v i : ℕ) {claim total spans : ℕ} {carried : Units}
-    → claim ≡ min (on (served p (run .clock .0) slow i) (cond slow (size p i) (min (size p i) total) - carried .0)) v
+one-claim : (p : Plan) (table : List ℕ) (run : Run) (slow : Bool) (v i : ℕ) {total spans : ℕ} {claim carried : Units}
+    → claim ≡ record { 0 = min (on (served p (run .clock .0) slow i) (cond slow (size p i) (min (size p i) total) - carried .0)) v }
     → carried ≡ record { 0 = carriedOf run i }
     → total ≡ sum (strided table (mostIntervals * i) 1) spans
     → spans ≡ suc (present p (run .clock .0))
-    → claim ≡ capped p table run slow v i
+    → claim .0 ≡ capped p table run slow v i
 one-claim p table run slow v i is by-units by-sum by-begun =
-    is ∙ rw (by-units, by-sum, by-begun, allotted table i (suc (present p (run .clock .0)))) refl
+    ap (λ (u : Units). u .0) is ∙ rw (by-units, by-sum, by-begun, allotted table i (suc (present p (run .clock .0)))) refl
+
+-- A claim is at most the speed.
+at-speed : (x v : ℕ) {claim : Units} → claim ≡ record { 0 = min x v } → claim .0 ≤ v
+at-speed x v is = omega (arith, ap (λ (u : Units). u .0) is)
 
 abbrev Inv-loop : tie.InvT-loop
-Inv-loop table v grants p clock carried jobs short answer slow below begun ranks₀ claims₀ i₀ ranks claims i =
+Inv-loop table v grants p speed clock carried jobs short answer slow below begun ranks₀ claims₀ i₀ ranks claims i =
     (i ≤ jobs) × (ranks ≡ filled (rank p) i (replicate mostJobs 0))
     × (claims ≡ filled (capped p table (with clock carried) slow v) i (replicate mostJobs 0))
 
 abbrev μ-loop : tie.MeasureT-loop
-μ-loop table v grants p clock carried jobs short answer slow below begun ranks₀ claims₀ i₀ ranks claims i = jobs - i
+μ-loop table v grants p speed clock carried jobs short answer slow below begun ranks₀ claims₀ i₀ ranks claims i = jobs - i
 
 -- The view of the answer is the refusal of the slot's call.
 module _ (c : tie.After-answer-to Inv-loop μ-loop) where
@@ -78,6 +82,10 @@ module _ (c : tie.After-answer-to Inv-loop μ-loop) where
 
   abbrev grants : List ℕ
   grants = c .before .before .before .before .before .before .before .before .before .args .grants .now
+
+  -- A speed fits 16 bits.
+  v-fits : v ≤ 65535
+  v-fits = omega arith
 
   by-readiness : answerView (c .answer-to .result)
       ≡ faultBy (readiness p (run .clock .0) (run .carried)) (ltb (length table) places || ltb (length grants) (counted p)) (ltb (p .n .0) v)
@@ -171,17 +179,22 @@ mul-sum-of c = search needs
 sum-of-requires : tie.Need-sum-of-requires Inv-loop μ-loop
 sum-of-requires c κs = search needs
 
-mul-units : tie.Need-mul-units Inv-loop μ-loop
-mul-units c = search needs
+mul-as-units : tie.Need-mul-as-units Inv-loop μ-loop
+mul-as-units c = search needs
 
-array-read-units : tie.Need-array-read-units Inv-loop μ-loop
-array-read-units c = omega arith
+array-read-as-units : tie.Need-array-read-as-units Inv-loop μ-loop
+array-read-as-units c = omega arith
 
 as-units-requires : tie.Need-as-units-requires Inv-loop μ-loop
 as-units-requires c κs = search needs
 
 claim-of-requires : tie.Need-claim-of-requires Inv-loop μ-loop
 claim-of-requires c κs = search needs
+
+cast-claims : tie.Need-cast-claims Inv-loop μ-loop
+cast-claims c =
+    let at = here (c .before .before .before .before .before .before .before .before .before .before .before .before .before) in
+    omega (arith, at-speed _ (v at) (c .before .claim-of .ensures), v-fits at)
 
 mul-claims : tie.Need-mul-claims Inv-loop μ-loop
 mul-claims c = search needs
@@ -197,8 +210,9 @@ loop-less c = search needs
 
 loop-again : tie.Need-loop-again Inv-loop μ-loop
 loop-again c =
-    let at-units = c .before in
-    let at-sum-of = at-units .before in
+    let at-claim-of = c .before in
+    let at-as-units = at-claim-of .before in
+    let at-sum-of = at-as-units .before in
     let at-rank-of = at-sum-of .before in
     let at-loop = at-rank-of .before .before .before in
     let c-7 = at-loop .before in
@@ -210,7 +224,7 @@ loop-again c =
       filled-next (rank (p at)) (loop .i) (replicate mostJobs 0) (loop .inv .1) (at-rank-of .rank-of .ensures),
       filled-next (capped (p at) (table at) (run at) (at-mark-after .mark-after .result) (v at)) (loop .i) (replicate mostJobs 0) (loop .inv .2)
           (one-claim (p at) (table at) (run at) (at-mark-after .mark-after .result) (v at) (loop .i)
-          (c .claim-of .ensures) (at-units .as-units .ensures) (at-sum-of .sum-of .ensures) (spans (c-7))),
+          (at-claim-of .claim-of .ensures) (at-as-units .as-units .ensures) (at-sum-of .sum-of .ensures) (spans (c-7))),
     )
 
 -- After the loop both rows are complete.
@@ -300,10 +314,11 @@ step-spec =
     array-write-ranks
     mul-sum-of
     sum-of-requires
-    mul-units
-    array-read-units
+    mul-as-units
+    array-read-as-units
     as-units-requires
     claim-of-requires
+    cast-claims
     mul-claims
     array-write-claims
     add-i

@@ -1,0 +1,43 @@
+-- `dispatch::slot::rest_of` meets its contract: in one slot a rate carries its own number of units.
+use mathlib.Core.Path.{_≡_, _∙_, ap}
+use Prim.Native.Nat.{_-_, min}
+use native.Mathlib.Nat.{mul-one}
+use native.Mathlib.Omega.{arith}
+use borrow.Author.Needs.{needs}
+use Rattle.plan.specs.declared.kinds.Units.{Units}
+use Rattle.dispatch.proofs.slot.rest_of.Statement.{statement}
+use Rattle.dispatch.proofs.slot.rest_of.Tie as tie
+
+over-requires : tie.Need-over-requires
+over-requires c κs = search needs
+
+-- What the speed carries in one slot.
+most : (c : tie.After-over) → c .over .result .0 ≡ c .before .args .v .0
+most c = ap (λ (u : Units). u .0) (c .over .ensures) ∙ mul-one _
+
+returns : tie.Need-returns
+returns c =
+    let at-over = c .before .before .before in
+    let a = at-over .before .args in
+    let least : 0 ≡ min (a .claim .0) (a .v .0 - a .earlier .0) = omega (arith, most (at-over)) in
+    λ t. record { 0 = least t }
+
+sub-t8 : tie.Need-sub-t8
+sub-t8 c = search needs
+
+returns-2 : tie.Need-returns-2
+returns-2 c =
+    let at-over = c .before .before .before .before .before .before .before .before in
+    let a = at-over .before .args in
+    let least : a .claim .0 ≡ min (a .claim .0) (a .v .0 - a .earlier .0) = omega (arith, most (at-over)) in
+    λ t. record { 0 = least t }
+
+returns-3 : tie.Need-returns-3
+returns-3 c =
+    let at-over = c .before .before .before .before .before .before .before .before in
+    let a = at-over .before .args in
+    let least : at-over .over .result .0 - a .earlier .0 ≡ min (a .claim .0) (a .v .0 - a .earlier .0) = omega (arith, most (at-over)) in
+    λ t. record { 0 = least t }
+
+pub rest-of-spec : {M : Type 1} → statement M
+rest-of-spec = tie.close (tie.spec over-requires returns sub-t8 returns-2 returns-3)

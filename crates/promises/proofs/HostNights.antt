@@ -1,0 +1,352 @@
+-- Demand 3 for hosts: what is promised holds for every night through the calls for hosts, the words
+-- that `gateway_read` leaves are the reader's plan, and the marks in a run's words stay good.
+use mathlib.Core.Path.{_≡_, refl, sym, _∙_, ap, ap₂}
+use mathlib.Core.Logic.{inl, inr, ⊎-elim}
+use mathlib.Core.Bool.{Bool, true, false, cond, _&&_, _||_, or-false, false≢true}
+use mathlib.Core.List.{List, [], _∷_}
+use Prim.Native.Nat.{ℕ, _+_, _-_, _≤_}
+use native.Mathlib.Omega.{arith}
+use borrow.Author.Tests.{le-ltb, ltb-false, ne-eqb}
+use lib.Dec.{leb, ltb, eqb}
+use lib.ListN.{length, getD, take, drop, replicate, length-drop, length-replicate}
+use lib.Seq.{sets, length-sets, length-take-le}
+use Rattle.base.specs.Sum.{sum, on}
+use Rattle.base.specs.Below
+use Rattle.base.proofs.Stores.{sets-whole}
+use Rattle.plan.specs.Edition.{mostJobs}
+use Rattle.plan.specs.Refusal.{outsideWindow, wrongTotal, overCapacity, belowFloorRule, clockAtEnd, speedAboveNormal, unsound, bufferTooShort}
+use Rattle.plan.specs.Report.{Report, doneNumber, numberOf, first}
+use Rattle.plan.specs.Rules.{counted, noPlan, nameAllowed, namesHold, namesDiffer, gradesHold, boundsHold, rulesHold}
+use Rattle.plan.specs.Boundaries.{insert, boundariesTo}
+use Rattle.plan.specs.Table.{noStray, sound}
+use Rattle.plan.specs.declared.kinds.Job.{Job}
+use Rattle.plan.specs.declared.kinds.Plan.{Plan}
+use Rattle.judge.specs.Verdict.{outsideFault, totalFault, capacityFault, isHiDeadline, floorFault, judged}
+use Rattle.dispatch.specs.declared.Run.{Run}
+use Rattle.dispatch.specs.Step.{SlotEffect, started, slotSound, slotFault, granted, advanced, slotBy, stepped, outcome}
+use Rattle.dispatch.proofs.RowShares.{added-length}
+use Rattle.hostmemory.specs.Memory.{planWords, runWords, locationWords, shortPlan, shortRun, jobsTo, planIn, planOf, jobsOut, planOut, marksIn, marksHold, runIn, runOf, markOut, runOut, runPut}
+use Rattle.hostmemory.proofs.RoundTrip.{run-back}
+use Rattle.gateway.specs.Calls.{HostStartEffect, HostStepEffect, startWords, located, shortLocation, slotWords, endingNumber, startCall, stepCall, outcomeCall}
+use Rattle.gateway.proofs.Laws.{all-long}
+use Rattle.promises.specs.Night.{Call, runAfter, latest, isDone, had, Allowed, Kept}
+use Rattle.promises.specs.HostNight.{HostStart, HostStep, runWordsLeft, planStarted, HostNight, slotCall, nightOf, hostHad, Shown, HostKept}
+use Rattle.promises.specs.Numbers.{isOneOf}
+use Rattle.promises.proofs.Cases.{tableOf, planE, tableE}
+use Rattle.promises.proofs.Strategy.{same-self}
+use Rattle.promises.proofs.RefusalNumbers.{judge-numbers, step-numbers}
+use Rattle.promises.proofs.Demand3.{promise-kept}
+use Rattle.promises.proofs.OutcomesKept.{outcomes-kept}
+
+-- Words with good marks are enough for a run, and encode one with a place for each job.
+marks-long : (w : List ℕ) → marksHold w ≡ true → runWords ≤ length w
+unfolding marksHold
+marks-long w m = go (shortRun w) refl m
+  where
+    go : (t : Bool) → shortRun w ≡ t → cond t false (marksIn w) ≡ true → runWords ≤ length w
+    go true e m = absurd (false≢true m)
+    go false e m = ltb-false (length w) runWords e
+
+carried-long : (w : List ℕ) → runWords ≤ length w → length (runOf w .carried) ≡ mostJobs
+unfolding runOf runIn
+carried-long w h =
+    rw (le-ltb (length w) runWords h) (length-take-le mostJobs (drop 3 w) (omega (arith, length-drop 3 w)))
+
+-- The words of a run have good marks.
+mark-small : (b : Bool) → leb (markOut b) 1 ≡ true
+mark-small true = refl
+mark-small false = refl
+
+pub put-marks : (w : List ℕ) (r : Run) → length (r .carried) ≡ mostJobs → runWords ≤ length w → marksHold (runPut w r) ≡ true
+unfolding marksHold runPut runOut
+put-marks w r e h =
+    let out = r .clock .0 ∷ markOut (r .slow) ∷ markOut (r .below) ∷ r .carried in
+    rw (le-ltb (length w) runWords h, length-sets w 0 out, le-ltb (length w) runWords h, sets-whole out w (omega arith))
+    (ap₂ _&&_ (mark-small (r .slow)) (mark-small (r .below)))
+
+-- A slot's call leaves a run with as many places.
+stepped-long : (p : Plan) (table : List ℕ) (run : Run) (v : ℕ) (row : List ℕ) → length (stepped p table run v row .run .carried) ≡ length (run .carried)
+unfolding stepped advanced
+stepped-long p table run v row = go (slotFault p table run v row)
+  where
+    go : (r : Report) → length (slotBy r p table run v row .run .carried) ≡ length (run .carried)
+    go [] = added-length (counted p) (run .carried) (granted p table run v row)
+    go (number ∷ rest) = refl
+
+-- A start that returns 0 has an accepted plan, enough words, and leaves the words of the started run.
+record Started (plan table run location : List ℕ) : Type 0 where
+  accepted : judged (planOf plan) table ≡ []
+  plan-long : planWords ≤ length plan
+  run-long : runWords ≤ length run
+  leaves : startCall plan table run location .run ≡ runPut run (started (planOf plan))
+
+start-done : (plan table run location : List ℕ) → startCall plan table run location .number ≡ doneNumber → Started plan table run location
+unfolding startCall
+start-done plan table run location e = go (shortPlan plan || shortRun run || shortLocation location) refl (judged (planOf plan) table) refl e
+  where
+    numbers : List ℕ
+    numbers = outsideWindow ∷ wrongTotal ∷ overCapacity ∷ belowFloorRule ∷ unsound ∷ bufferTooShort ∷ []
+
+    left : Bool → Report → HostStartEffect
+    left b r =
+        cond b (record { number = bufferTooShort; run = run; location = location })
+        (record { number = numberOf r; run = startWords r (planOf plan) run; location = located r location })
+
+    go : (b : Bool) → (shortPlan plan || shortRun run || shortLocation location) ≡ b → (r : Report) → judged (planOf plan) table ≡ r
+        → left b r .number ≡ doneNumber → Started plan table run location
+    go true s r j e = absurd (omega (arith, e))
+    go false s [] j e =
+        let long = all-long plan run location planWords runWords locationWords s in
+        record { accepted = j; plan-long = long .0; run-long = long .1; leaves = rw (s, j) refl }
+    go false s (number ∷ places) j e =
+        absurd (false≢true (sym (ap (isOneOf numbers) e) ∙ judge-numbers (planOf plan) table number places j))
+
+-- If the marks are good, a step is refused for its words only if those of the plan are too few.
+pub good-marks-step : (plan table run : List ℕ) (v : ℕ) (grants : List ℕ) → marksHold run ≡ true
+    → stepCall plan table run v grants
+    ≡ cond (shortPlan plan) (record { number = bufferTooShort; run = run; grants = grants }) (slotWords (stepped (planOf plan) table (runOf run) v grants) run)
+unfolding stepCall
+good-marks-step plan table run v grants m =
+    rw (le-ltb (length run) runWords (marks-long run m), or-false (shortPlan plan), m) refl
+
+pub good-marks-outcome : (plan run : List ℕ) (position : ℕ) → marksHold run ≡ true
+    → outcomeCall plan run position ≡ cond (shortPlan plan) bufferTooShort (endingNumber (outcome (planOf plan) (runOf run) position))
+unfolding outcomeCall
+good-marks-outcome plan run position m =
+    rw (le-ltb (length run) runWords (marks-long run m), or-false (shortPlan plan), m) refl
+
+-- What a step on words with good marks leaves, beside the slot's call on what they encode.
+record StepShown (call : HostStepEffect) (slot : SlotEffect) : Type 0 where
+  number : eqb (call .number) doneNumber ≡ isDone (slot .answer)
+  run : runOf (call .run) ≡ slot .run
+  marks : marksHold (call .run) ≡ true
+  row : isDone (slot .answer) ≡ true → call .grants ≡ slot .grants
+
+module _ (plan table run : List ℕ) (v : ℕ) (grants : List ℕ) (m : marksHold run ≡ true) where
+  abbrev slot : SlotEffect
+  slot = stepped (planOf plan) table (runOf run) v grants
+
+  -- Too few words encode a plan of zeros, which a slot's call refuses.
+  no-plan-refused : (r : Run) → stepped noPlan table r v grants ≡ record { answer = unsound ∷ []; run = r; grants = grants }
+  unfolding slotSound slotFault stepped
+  no-plan-refused r = refl
+
+  refused-shown : shortPlan plan ≡ true → StepShown (record { number = bufferTooShort; run = run; grants = grants }) slot
+  unfolding planOf
+  refused-shown s =
+      rw (s, no-plan-refused (runOf run))
+      (record { number = refl; run = refl; marks = m; row = λ e. absurd (false≢true e) })
+
+  number-done : (a : Report) → slot .answer ≡ a → eqb (numberOf a) doneNumber ≡ isDone a
+  number-done [] e = refl
+  number-done (number ∷ rest) e =
+      ne-eqb number doneNumber
+      (λ z. false≢true (sym (ap (isOneOf (clockAtEnd ∷ speedAboveNormal ∷ unsound ∷ bufferTooShort ∷ [])) z) ∙ step-numbers (planOf plan) table (runOf run) v grants number rest e))
+
+  slot-shown : StepShown (slotWords slot run) slot
+  slot-shown =
+      let long = marks-long run m in
+      let places : length (slot .run .carried) ≡ mostJobs = stepped-long (planOf plan) table (runOf run) v grants ∙ carried-long run long in
+      record {
+        number = number-done (slot .answer) refl;
+        run = run-back run (slot .run) places long;
+        marks = put-marks run (slot .run) places long;
+        row = λ e. refl;
+      }
+
+  step-shown : StepShown (stepCall plan table run v grants) slot
+  step-shown = rw (good-marks-step plan table run v grants m) (go (shortPlan plan) refl)
+    where
+      go : (b : Bool) → shortPlan plan ≡ b
+          → StepShown (cond b (record { number = bufferTooShort; run = run; grants = grants }) (slotWords slot run)) slot
+      go true s = refused-shown s
+      go false s = slot-shown
+
+-- A step never spoils good marks, whatever else it is lent.
+pub marks-stay-good : (plan table run : List ℕ) (v : ℕ) (grants : List ℕ) → marksHold run ≡ true → marksHold (stepCall plan table run v grants .run) ≡ true
+marks-stay-good plan table run v grants m = step-shown plan table run v grants m .marks
+
+-- The start's words have good marks and encode the started run.
+begun : (s : HostStart) → HostNight s [] → Started (s .plan) (s .table) (s .run) (s .location)
+unfolding HostNight
+begun s e = start-done (s .plan) (s .table) (s .run) (s .location) (sym (ap (λ (x : HostStartEffect). x .number) e))
+
+begun-words : (s : HostStart) → HostNight s [] → s .run-left ≡ runPut (s .run) (started (planStarted s))
+unfolding HostNight
+begun-words s e = ap (λ (x : HostStartEffect). x .run) e ∙ begun s e .leaves
+
+started-long : (p : Plan) → length (started p .carried) ≡ mostJobs
+unfolding started
+started-long p = length-replicate {A = ℕ} mostJobs 0
+
+-- The start of a host's night.
+start-of : (s : HostStart) (steps : List HostStep) → HostNight s steps → HostNight s []
+unfolding HostNight
+start-of s [] h = h
+start-of s (c ∷ earlier) h = start-of s earlier (h .0)
+
+-- The latest words have good marks and encode the run after the night.
+shown-run : (s : HostStart) (steps : List HostStep) → Shown s steps → runOf (runWordsLeft s steps) ≡ runAfter (planStarted s) (nightOf steps)
+unfolding Shown
+shown-run s [] h = h .0
+shown-run s (c ∷ earlier) h = h .1
+
+shown-marks : (s : HostStart) (steps : List HostStep) → Shown s steps → marksHold (runWordsLeft s steps) ≡ true
+unfolding Shown
+shown-marks s [] h = h .1
+shown-marks s (c ∷ earlier) h = h .2
+
+-- A number that counts under one test is that which counts under an equal one.
+on-same : (a b : Bool) {x y : ℕ} → a ≡ b → (b ≡ true → x ≡ y) → on a x ≡ on b y
+on-same a true e h = rw e (h refl)
+on-same a false e h = rw e refl
+
+-- Every host's night is shown to the host as the night that its words encode.
+pub night-shown : (s : HostStart) (steps : List HostStep) → HostNight s steps → Shown s steps
+unfolding HostNight Shown runAfter
+night-shown s [] h =
+    let b = begun s h in
+    let e = begun-words s h in (
+      ap runOf e ∙ run-back (s .run) (started (planStarted s)) (started-long (planStarted s)) (b .run-long),
+      ap marksHold e ∙ put-marks (s .run) (started (planStarted s)) (started-long (planStarted s)) (b .run-long),
+    )
+night-shown s (c ∷ earlier) h =
+    let before = night-shown s earlier (h .0) in
+    let run = runWordsLeft s earlier in
+    let so = step-shown (c .plan) (c .table) run (c .speed) (c .row) (shown-marks s earlier before) in
+    let was = shown-run s earlier before in
+    let contract = h .1 in
+    let number = ap (λ (x : HostStepEffect). x .number) contract in
+    let left = ap (λ (x : HostStepEffect). x .run) contract in
+    let row = ap (λ (x : HostStepEffect). x .grants) contract in
+    let done : eqb (c .number) doneNumber ≡ isDone (latest (planStarted s) (slotCall c) (nightOf earlier) .answer)
+    = ap (λ n. eqb n doneNumber) number ∙ so .number ∙ ap answered was in (
+      before,
+      ap runOf left ∙ so .run ∙ ap (λ r. stepped (planOf (c .plan)) (c .table) r (c .speed) (c .row) .run) was,
+      ap marksHold left ∙ so .marks,
+      done,
+      λ i. on-same (eqb (c .number) doneNumber) (isDone (latest (planStarted s) (slotCall c) (nightOf earlier) .answer)) done
+          (λ e. ap (λ l. getD l i 0) (row ∙ so .row (ap answered was ∙ e) ∙ ap grantsOf was)),
+    )
+  where
+    -- The slot's call on a run: whether it is done, and its grants.
+    answered : Run → Bool
+    answered r = isDone (stepped (planOf (c .plan)) (c .table) r (c .speed) (c .row) .answer)
+
+    grantsOf : Run → List ℕ
+    grantsOf r = stepped (planOf (c .plan)) (c .table) r (c .speed) (c .row) .grants
+
+-- The night that the words encode is allowed.
+night-allowed : (s : HostStart) (steps : List HostStep) → HostNight s steps → Allowed (planStarted s) (s .table) (nightOf steps)
+unfolding HostNight Allowed Shown
+night-allowed s [] h = tt
+night-allowed s (c ∷ earlier) h =
+    let shown = night-shown s (c ∷ earlier) h in (
+      night-allowed s earlier (h .0),
+      ⊎-elim (λ busy. inl (sym (shown .3) ∙ ne-eqb (c .number) doneNumber busy)) (λ w. inr (w .0, w .1, w .2)) (h .2),
+    )
+
+-- What a job has had by the rows is what it has had in the night.
+pub had-by-rows : (s : HostStart) (steps : List HostStep) → HostNight s steps → (i : ℕ) → hostHad steps i ≡ had (planStarted s) (nightOf steps) i
+unfolding HostNight Shown hostHad had
+had-by-rows s [] h i = refl
+had-by-rows s (c ∷ earlier) h i = ap₂ _+_ (had-by-rows s earlier (h .0) i) (night-shown s (c ∷ earlier) h .4 i)
+
+-- Demand 3 for hosts: what is promised of a host's night holds.
+pub host-promise-kept : (s : HostStart) (steps : List HostStep) → HostNight s steps → HostKept s steps
+host-promise-kept s steps h =
+    let b = begun s (start-of s steps h) in
+    let p = planStarted s in
+    let shown = night-shown s steps h in
+    let allowed = night-allowed s steps h in
+    let kept = promise-kept p (s .table) (b .accepted) (nightOf steps) allowed in
+    let outcomes = outcomes-kept p (s .table) (b .accepted) (nightOf steps) allowed in
+    let run-is = shown-run s steps shown in
+    let endings : (i : ℕ) → outcomeCall (s .plan) (runWordsLeft s steps) i ≡ endingNumber (outcome p (runAfter p (nightOf steps)) i)
+    = λ i. good-marks-outcome (s .plan) (runWordsLeft s steps) i (shown-marks s steps shown)
+    ∙ rw (le-ltb (length (s .plan)) planWords (b .plan-long), run-is) refl in
+    record {
+      shown = shown;
+      kept = kept;
+      outcomes-kept = outcomes;
+      endings = endings;
+      essential = λ i k e come.
+          let came = rw run-is at come in (
+            had-by-rows s steps h i ∙ kept .essential i k e came .0,
+            endings i ∙ ap endingNumber (outcomes .essential-met i k e came),
+          );
+      no-more = λ i k. rw (had-by-rows s steps h i) (kept .no-more i k);
+    }
+
+-- An instance: plan E is started in words that held sevens, a step at speed 3 is refused, one
+-- with no plan's words is refused, and one at the floor is done.
+abbrev planWordsE : List ℕ
+planWordsE = planOut planE
+
+abbrev startedE : HostStartEffect
+startedE = startCall planWordsE tableE (replicate runWords 7) (7 ∷ 7 ∷ [])
+
+abbrev startE : HostStart
+startE =
+    record {
+      plan = planWordsE;
+      table = tableE;
+      run = replicate runWords 7;
+      location = 7 ∷ 7 ∷ [];
+      run-left = startedE .run;
+      location-left = startedE .location;
+    }
+
+-- A step with given plan words and speed, on given words of a run.
+abbrev stepE : List ℕ → ℕ → List ℕ → HostStep
+stepE plan v run =
+    let left = stepCall plan tableE run v (7 ∷ 7 ∷ []) in
+    record {
+      plan = plan;
+      table = tableE;
+      speed = v;
+      row = 7 ∷ 7 ∷ [];
+      number = left .number;
+      run-left = left .run;
+      row-left = left .grants;
+    }
+
+abbrev fastE : HostStep
+fastE = stepE planWordsE 3 (startE .run-left)
+
+abbrev planlessE : HostStep
+planlessE = stepE [] 2 (fastE .run-left)
+
+abbrev slowE : HostStep
+slowE = stepE planWordsE 1 (planlessE .run-left)
+
+start-E-done : startedE .number ≡ doneNumber
+unfolding tableOf sum Below.every Below.least nameAllowed namesHold namesDiffer gradesHold boundsHold rulesHold insert boundariesTo noStray sound first outsideFault totalFault capacityFault isHiDeadline floorFault judged started jobsTo planIn planOf jobsOut planOut runOut runPut startCall
+start-E-done = refl
+
+fast-E-refused : fastE .number ≡ speedAboveNormal
+unfolding tableOf sum Below.every Below.least Below.greatest nameAllowed namesHold namesDiffer gradesHold boundsHold rulesHold insert boundariesTo noStray sound first outsideFault totalFault capacityFault isHiDeadline floorFault judged started slotSound slotFault stepped jobsTo planIn planOf jobsOut planOut marksHold runIn runOf runOut runPut startCall stepCall
+fast-E-refused = refl
+
+planless-E-refused : planlessE .number ≡ bufferTooShort
+unfolding stepCall
+planless-E-refused = refl
+
+rates-E : (planOf planWordsE .n .0 ≡ 2) × (planOf planWordsE .d .0 ≡ 1)
+unfolding jobsTo planIn planOf jobsOut planOut
+rates-E = (refl, refl)
+
+-- A start's effect with number 0, part by part.
+start-meets : (x : HostStartEffect) → x .number ≡ doneNumber → record { number = doneNumber; run = x .run; location = x .location } ≡ x
+start-meets x e = λ t. record { number = sym e t; run = x .run; location = x .location }
+
+night-E : HostNight startE (slowE ∷ planlessE ∷ fastE ∷ [])
+unfolding HostNight
+night-E = (
+  ((start-meets startedE start-E-done, refl, inl (λ e. absurd (omega (arith, fast-E-refused, e)))), refl, inl (λ e. absurd (omega (arith, planless-E-refused, e)))),
+  refl,
+  inr (same-self (planOf planWordsE) tableE, omega (arith, rates-E), omega (arith, rates-E)),
+)
+
+kept-E : HostKept startE (slowE ∷ planlessE ∷ fastE ∷ [])
+kept-E = host-promise-kept startE (slowE ∷ planlessE ∷ fastE ∷ []) night-E

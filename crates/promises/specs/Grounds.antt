@@ -1,0 +1,109 @@
+-- The grounds of the refusals of writer, step and outcome as facts about the numbers of a plan and a
+-- run, and what each answer says: its ground holds, and no ground that is tested before it does.
+use mathlib.Core.Path.{_≡_}
+use mathlib.Core.Logic.{_≢_, _⊎_}
+use mathlib.Core.Bool.{true, false}
+use mathlib.Core.List.{List, [], _∷_}
+use Prim.Native.Nat.{ℕ, _≤_, _<_}
+use lib.ListN.{length, take}
+use Rattle.plan.specs.Kinds.{Bytes, Row, Table}
+use Rattle.plan.specs.Edition.{nameBytes, mostJobs, mostIntervals, mostRate, mostDeadline, mostSize, places}
+use Rattle.plan.specs.Refusal.{clockAtEnd, speedAboveNormal, unsound, bufferTooShort}
+use Rattle.plan.specs.Report.{Report}
+use Rattle.plan.specs.Rules.{lo, hi, byteOf, counted, jobOf, name, release, size, deadline}
+use Rattle.plan.specs.Boundaries.{intervals, firstRelease, lastDeadline}
+use Rattle.plan.specs.Table.{allotment}
+use Rattle.plan.specs.declared.kinds.Plan.{Plan}
+use Rattle.planwriter.specs.Writing as writing
+use Rattle.planwriter.specs.Writing.{written}
+use Rattle.dispatch.specs.declared.Run.{Run}
+use Rattle.dispatch.specs.Dues.{carriedOf}
+use Rattle.dispatch.specs.Step as step
+use Rattle.dispatch.specs.Step.{Ending}
+
+-- Rule 4: 1 ≤ d < n, and n is at most `mostRate`.
+abbrev pub Rule4 : Plan → Type 0
+Rule4 p = (1 ≤ p .d .0) × (p .d .0 < p .n .0) × (p .n .0 ≤ mostRate)
+
+-- Rule 5: there are 1 to `mostJobs` jobs.
+abbrev pub Rule5 : Plan → Type 0
+Rule5 p = (1 ≤ p .count) × (p .count ≤ mostJobs)
+
+-- Rule 6: each byte of a counted job's name is in 0x21 to 0x7E.
+abbrev pub Rule6 : Plan → Type 0
+Rule6 p = (i : ℕ) → i < counted p → (k : ℕ) → k < nameBytes → (0x21 ≤ byteOf (name p i) k) × (byteOf (name p i) k ≤ 0x7E)
+
+-- Rule 7: no counted job has the name of an earlier one.
+abbrev pub Rule7 : Plan → Type 0
+Rule7 p = (i : ℕ) → i < counted p → (k : ℕ) → k < i → name p k ≢ name p i
+
+-- Rule 8: a counted job's grade is LO or HI.
+abbrev pub Rule8 : Plan → Type 0
+Rule8 p = (i : ℕ) → i < counted p → (jobOf p i .grade ≡ lo) ⊎ (jobOf p i .grade ≡ hi)
+
+-- Rule 9: a counted job's release is before its deadline, which is at most `mostDeadline`, and its
+-- size is from 1 to `mostSize`.
+abbrev pub Rule9 : Plan → Type 0
+Rule9 p = (i : ℕ) → i < counted p → (release p i < deadline p i) × (deadline p i ≤ mostDeadline) × (1 ≤ size p i) × (size p i ≤ mostSize)
+
+-- No stray place: one whose job or interval the plan has not holds 0.
+abbrev pub NoStray : Plan → Table → Type 0
+NoStray p table = (i j : ℕ) → i < mostJobs → j < mostIntervals → (counted p ≤ i) ⊎ (intervals p ≤ j) → allotment mostIntervals table i j ≡ 0
+
+-- A plan and its table are sound, for judge and writer; 21 is its negation.
+pub record SoundPlan (p : Plan) (table : List ℕ) : Type 0 where
+  pub rates : Rule4 p
+  pub count : Rule5 p
+  pub names : Rule6 p
+  pub differ : Rule7 p
+  pub grades : Rule8 p
+  pub bounds : Rule9 p
+  pub clear : NoStray p table
+
+-- A plan and a run are sound, for step and outcome; 21 is its negation. Names and the table are
+-- not asked about.
+pub record SoundRun (p : Plan) (run : Run) : Type 0 where
+  pub rates : Rule4 p
+  pub count : Rule5 p
+  pub grades : Rule8 p
+  pub bounds : Rule9 p
+  pub begun : firstRelease p ≤ run .clock .0
+  pub not-over : run .clock .0 ≤ lastDeadline p
+  pub carried : (i : ℕ) → i < counted p → carriedOf run i ≤ size p i
+
+-- The length of the file that the writer has to write.
+abbrev pub fileLength : Plan → Table → ℕ
+fileLength p table = length (written p (take places table))
+
+-- What an answer of the writer says, by case in its order.
+pub data WriterDecided (p : Plan) (table out : List ℕ) : writing.Answer → Type 0 where
+  table-short : length table < places → WriterDecided p table out (writing.refused bufferTooShort)
+  plan-unsound : places ≤ length table → (SoundPlan p table → ⊥) → WriterDecided p table out (writing.refused unsound)
+  output-short : places ≤ length table → SoundPlan p table → length out < fileLength p table → WriterDecided p table out (writing.refused bufferTooShort)
+  file-written : places ≤ length table → SoundPlan p table → fileLength p table ≤ length out → WriterDecided p table out (writing.wrote (fileLength p table))
+
+-- Table and grant row have all the places that a slot's call needs.
+abbrev pub Room : (p : Plan) (table : Table) (grants : Row) → Type 0
+Room p table grants = (places ≤ length table) × (counted p ≤ length grants)
+
+-- What an answer of the step says, by case in its order.
+pub data StepDecided (p : Plan) (table : List ℕ) (run : Run) (v : ℕ) (grants : List ℕ) : Report → Type 0 where
+  run-unsound : (SoundRun p run → ⊥) → StepDecided p table run v grants (unsound ∷ [])
+  buffer-short : SoundRun p run → (length table < places) ⊎ (length grants < counted p) → StepDecided p table run v grants (bufferTooShort ∷ [])
+  at-end : SoundRun p run → Room p table grants → run .clock .0 ≡ lastDeadline p → StepDecided p table run v grants (clockAtEnd ∷ [])
+  too-fast : SoundRun p run → Room p table grants → run .clock .0 ≢ lastDeadline p → p .n .0 < v → StepDecided p table run v grants (speedAboveNormal ∷ [])
+  slot-done : SoundRun p run → Room p table grants → run .clock .0 ≢ lastDeadline p → v ≤ p .n .0 → StepDecided p table run v grants []
+
+-- Plan and run are sound, and a job has the position: an outcome is not refused.
+abbrev pub Asked : (p : Plan) (run : Run) (i : ℕ) → Type 0
+Asked p run i = SoundRun p run × (i < p .count)
+
+-- What an answer of the outcome says, by case in its order.
+pub data OutcomeDecided (p : Plan) (run : Run) (i : ℕ) : Ending → Type 0 where
+  not-asked : (SoundRun p run → ⊥) ⊎ (p .count ≤ i) → OutcomeDecided p run i (step.refused unsound)
+  all-carried : Asked p run i → carriedOf run i ≡ size p i → OutcomeDecided p run i step.met
+  dropped : Asked p run i → carriedOf run i ≢ size p i → jobOf p i .grade ≡ lo → run .slow ≡ true → OutcomeDecided p run i step.discarded
+  late : Asked p run i → carriedOf run i ≢ size p i → (jobOf p i .grade ≡ hi) ⊎ (run .slow ≡ false) → deadline p i ≤ run .clock .0
+      → OutcomeDecided p run i step.missed
+  waiting : Asked p run i → carriedOf run i ≢ size p i → (jobOf p i .grade ≡ hi) ⊎ (run .slow ≡ false) → run .clock .0 < deadline p i
+      → OutcomeDecided p run i step.stillOpen
