@@ -33,10 +33,10 @@ pub fn name(file: &[u8], position: usize) -> usize {
 }
 
 pub fn write(plan: &[u64], table: &[u32], out: &mut [u8], written: &mut usize) -> u32 {
-    *written = 0;
     if plan.len() < PLAN_WORDS {
         return TOO_SHORT.into();
     }
+    *written = 0;
     match writer(&plan_of(plan), table, out) {
         Ok(length) => {
             *written = length;

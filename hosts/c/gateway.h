@@ -105,7 +105,8 @@ uint32_t gateway_read(const uint8_t *file, size_t file_length, uint64_t *plan, s
 
 /* Writes the plan file of a sound plan, accepted or not.
  * In: plan and table. Out: the file's bytes in out, and their number in *written. Answers 0, 21 or 22.
- * 22 (plan, table or out too short) and 21 (an unsound plan): *written is 0 and out stays. Bytes past the file stay. */
+ * 22 (plan under GATEWAY_PLAN_WORDS): nothing is touched. 22 (table or out too short) and 21 (an unsound plan): *written is 0 and out
+ * stays. Bytes past the file stay. */
 uint32_t gateway_write(const uint64_t *plan, size_t plan_length, const uint32_t *table, size_t table_length, uint8_t *out, size_t out_length, size_t *written);
 
 /* Where the eight bytes of a job's name begin inside a plan file. It is counted from the file's first byte.

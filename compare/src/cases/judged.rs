@@ -237,8 +237,10 @@ pub fn shorts(cases: &mut Cases) -> Result<(), String> {
     memory.table.lend(TABLE_PLACES - 1);
     hold(cases, "table too short", memory, TOO_SHORT)?;
     memory.plan.lend(PLAN_WORDS - 1);
+    memory.written.renew();
+    let untouched = memory.written.contents()[0];
     let got = write(&mut cases.both, memory);
-    cases.expect("plan too short to write", got, (22, 0))?;
+    cases.expect("plan too short to write", got, (22, untouched))?;
     hold_untouched(cases, "plan too short", memory)?;
     memory.lend_all();
     memory.location.lend(LOCATION_WORDS - 1);
