@@ -1,4 +1,5 @@
--- `dispatch::claims::capped_at` meets its contract: in one slot a rate carries its own number of units.
+-- `dispatch::claims::capped_at` meets its contract: in one slot a rate carries
+-- its own number of units.
 use mathlib.Core.Path.{_≡_, _∙_, ap}
 use Prim.Native.Nat.{min}
 use native.Mathlib.Nat.{mul-one}
