@@ -68,20 +68,23 @@ abbrev μ-loop : tie.MeasureT-loop
 
 -- The view of the answer is the refusal of the slot's call.
 module _ (c : tie.After-answer-to Inv-loop μ-loop) where
+  abbrev start : tie.Start Inv-loop μ-loop
+  start = c .before .before .before .before .before .before .before .before .before
+
   abbrev p : Plan
-  p = c .before .before .before .before .before .before .before .before .before .args .t1
+  p = start .args .t1
 
   abbrev table : List ℕ
-  table = c .before .before .before .before .before .before .before .before .before .args .table .now
+  table = start .args .table .now
 
   abbrev run : Run
-  run = c .before .before .before .before .before .before .before .before .before .args .run
+  run = start .args .run
 
   abbrev v : ℕ
-  v = c .before .before .before .before .before .before .before .before .before .args .v
+  v = start .args .v
 
   abbrev grants : List ℕ
-  grants = c .before .before .before .before .before .before .before .before .before .args .grants .now
+  grants = start .args .grants .now
 
   -- A speed fits 16 bits.
   v-fits : v ≤ 65535
@@ -101,6 +104,9 @@ module _ (c : tie.Else1 Inv-loop μ-loop) where
   abbrev here : tie.After-answer-to Inv-loop μ-loop
   here = c .before .before
 
+  jobs-are : here .before .before .before .before .counted-of .result ≡ counted (p here)
+  jobs-are = here .before .before .before .before .counted-of .ensures
+
   none : isNone (answerView (here .answer-to .result)) ≡ true
   none = sym (c .before .is-done .ensures) ∙ not-false _ (c .if1 .left)
 
@@ -119,8 +125,12 @@ module _ (c : tie.Else1 Inv-loop μ-loop) where
   room = ltb-false (length (grants here)) (counted (p here)) (neither (ltb (length (table here)) places) _ (going .1) .1)
 
 -- The intervals begun are those up to and including the present one.
-spans : (c : tie.After-begun-in Inv-loop μ-loop) → c .begun-in .result ≡ suc (present (p (here (c .before .before .before .before .before))) (run (here (c .before .before .before .before .before)) .clock .0))
-spans c = c .begun-in .ensures ∙ ap begun (c .before .before .before .before .before .before .before .before .before .readiness-of .ensures) ∙ going (c .before .before .before .before .before) .2
+module _ (c : tie.After-begun-in Inv-loop μ-loop) where
+  abbrev going-on : tie.Else1 Inv-loop μ-loop
+  going-on = c .before .before .before .before .before
+
+  spans : c .begun-in .result ≡ suc (present (p (here going-on)) (run (here going-on) .clock .0))
+  spans = c .begun-in .ensures ∙ ap begun (here going-on .before .before .readiness-of .ensures) ∙ going going-on .2
 
 counted-of-requires : tie.Need-counted-of-requires Inv-loop μ-loop
 counted-of-requires c κs = search needs
@@ -229,11 +239,14 @@ loop-again c =
 
 -- After the loop both rows are complete.
 module _ (c : tie.After-loop Inv-loop μ-loop) where
+  abbrev not-refused : tie.Else1 Inv-loop μ-loop
+  not-refused = c .before .before .before .before .before .before .before
+
   abbrev at : tie.After-answer-to Inv-loop μ-loop
-  at = here (c .before .before .before .before .before .before .before)
+  at = here not-refused
 
   whole : c .before .loop .i ≡ counted (p at)
-  whole = omega (arith, c .before .before .before .before .before .before .before .before .before .before .before .before .before .counted-of .ensures)
+  whole = omega (arith, jobs-are not-refused)
 
   rank-row : c .before .loop .ranks ≡ filled (rank (p at)) (counted (p at)) (replicate mostJobs 0)
   rank-row = c .before .loop .inv .1 ∙ ap (λ n. filled (rank (p at)) n (replicate mostJobs 0)) whole
@@ -246,8 +259,8 @@ module _ (c : tie.After-loop Inv-loop μ-loop) where
 grant-all-requires : tie.Need-grant-all-requires Inv-loop μ-loop
 grant-all-requires c κs =
     let rows = c .before .before .before .before in
-    let was = c .before .before .before .before .before .before .before .before .before .before .before in
-    let jobs = c .before .before .before .before .before .before .before .before .before .before .before .before .before .before .before .before .before .counted-of .ensures in (
+    let was = not-refused rows in
+    let jobs = jobs-are was in (
       omega arith,
       rw jobs (room was),
       λ k l. rw (claim-row rows) (capped-small (p (here was)) (table (here was)) (run (here was)) (v (here was)) k (omega (arith, jobs))),
@@ -270,12 +283,11 @@ returns-2 c =
     let at-mark-after2 = c-8 .before .before .before in
     let at-mark-after = at-mark-after2 .before .before in
     let c-15 = at-mark-after .before .before in
-    let at-counted-of = c-15 .before .before .before .before .before .before in
     let rows = c-8 in
     let was = c-15 in
     let at = here was in
     let empty = none-empty (answerView (at .answer-to .result)) (none was) in
-    let jobs = at-counted-of .counted-of .ensures in
+    let jobs = jobs-are was in
     let stored = at-grant-all .grant-all .ensures in
     let carried = stored-carried (p at) (table at) (run at) (v at) (grants at) (parts was .rules) (room was) (rank-row rows) (claim-row rows) jobs (stored .0) in
     let granted = stored-grants (p at) (table at) (run at) (v at) (grants at) (parts was .rules) (room was) (rank-row rows) (claim-row rows) jobs (stored .1) in
