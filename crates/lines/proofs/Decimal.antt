@@ -11,8 +11,7 @@ use borrow.Author.Tests.{lt-ltb, le-ltb}
 use lib.Dec.{ltb}
 use lib.ListN.{length, drop, set}
 use Rattle.base.proofs.Stores.{drop-set}
-use Rattle.lines.specs.Text.{digits, digit, decimal}
-use Rattle.lines.specs.inner.Growth.{mostDigits}
+use Rattle.lines.specs.Text.{digits, digit, decimal, mostDigits}
 
 -- The digits of a number with one digit, and of a number with more.
 pub digits-one : (most n : ℕ) (tail : List ℕ) → n < 10 → digits (suc most) n tail ≡ digit n ∷ tail

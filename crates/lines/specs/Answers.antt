@@ -26,6 +26,11 @@ abbrev pub printedView : Printed → Answer
 printedView (Length n) = wrote n
 printedView (Refused number) = withheld number
 
+-- The length of a line that was printed; 0 if it was refused.
+abbrev pub lengthOf : Printed → ℕ
+lengthOf (Length n) = n
+lengthOf (Refused number) = 0
+
 -- An answer, with the buffer that the call leaves.
 pub record PrintEffect : Type 0 where
   pub answer : Answer

@@ -1,14 +1,15 @@
 -- The lines that the program prints, each with its line feed.
 use mathlib.Core.Bool.{Bool, cond}
 use mathlib.Core.List.{List, [], _∷_, _++_}
-use Prim.Native.Nat.{ℕ, zero, suc}
+use Prim.Native.Nat.{ℕ, zero, suc, _+_, _*_}
 use lib.Dec.{eqb}
 use lib.ListN.{getD}
 use Rattle.plan.specs.Kinds.{Amount, Number, Row, Speed, Time}
+use Rattle.plan.specs.Edition.{nameBytes, mostJobs}
 use Rattle.plan.specs.Rules.{name, counted}
 use Rattle.plan.specs.declared.kinds.Plan.{Plan}
 use Rattle.dispatch.specs.Step.{Ending, met, discarded, missed, stillOpen, refused}
-use Rattle.lines.specs.Text.{text, decimal, nameText}
+use Rattle.lines.specs.Text.{text, decimal, mostDigits, nameText}
 
 -- The header of the slots.
 abbrev pub slotHeader : List ℕ
@@ -66,3 +67,12 @@ endingWord (refused number) = []
 -- The line of a job: its name, a word for its outcome, and the units carried.
 unfoldable pub outcomeLine : (x : ℕ) (word : List ℕ) (carried : Amount) → List ℕ
 outcomeLine x word carried = nameText x ++ text " " ++ word ++ text " " ++ decimal carried ++ text "\n"
+
+-- The greatest length of a grant: a space, a name, the equals sign and a number.
+abbrev pub grantBytes : ℕ
+grantBytes = 1 + nameBytes + 1 + mostDigits
+
+-- The greatest length of a line: two numbers with a space each, the mode,
+-- a grant for every job, and the line feed.
+abbrev pub longestLine : ℕ
+longestLine = 2 * (mostDigits + 1) + 1 + mostJobs * grantBytes + 1

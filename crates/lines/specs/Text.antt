@@ -25,6 +25,10 @@ digits (suc most) n tail = cond (ltb n 10) (digit n ∷ tail) (digits most (n / 
 abbrev pub decimal : ℕ → List ℕ
 decimal n = digits (suc n) n []
 
+-- The greatest number of digits of a 32-bit number.
+abbrev pub mostDigits : ℕ
+mostDigits = 10
+
 -- The eight bytes of a name, highest first.
 abbrev pub nameText : ℕ → List ℕ
 nameText x =

@@ -1,5 +1,6 @@
 // Every line that the program prints, written to a lent buffer. A call answers the line's length; a
-// buffer that is too short is refused and left as it was, and bytes past the line are unchanged.
+// buffer that is too short is refused and left as it was, and bytes past the line are unchanged. No
+// line is longer than LONGEST_LINE, whatever its numbers are.
 mod pieces;
 
 use crate::pieces::MOST_DIGITS;
@@ -18,9 +19,10 @@ use plan::kinds::Slots;
 use plan::refusal::BUFFER_TOO_SHORT;
 ghost use Prim.Native.Nat.{_≤_};
 ghost use lib.ListN.{length};
-ghost use Rattle.lines.specs.inner.Growth.{mostDigits};
+ghost use Rattle.dispatch.specs.Answers.{outcomeView};
+ghost use Rattle.lines.specs.Text.{mostDigits};
 ghost use Rattle.lines.specs.Answers.{Prints, PrintsOutcome};
-ghost use Rattle.lines.specs.Lines.{slotHeader, outcomeHeader, strayLine, refusedLine, slotLine, refusedSlotLine, outcomeLine};
+ghost use Rattle.lines.specs.Lines.{slotHeader, outcomeHeader, strayLine, refusedLine, slotLine, refusedSlotLine, outcomeLine, endingWord, longestLine};
 
 // The greatest length of a line: two numbers with a space each, the mode,
 // a grant for every job, and the line feed.
@@ -70,6 +72,7 @@ pub fn stray_line(out: &mut [u8]) -> Printed
 // The line of a refused plan.
 pub fn refused_line(number: u8, out: &mut [u8]) -> Printed
     ensures { λ r. ⌜ Prints (refusedLine number) (now (out .entry)) r (now (out .exit)) ⌝ }
+    ensures { λ _. ⌜ length (refusedLine number) ≤ longestLine ⌝ }
 {
     let mut line = [0u8; LONGEST_LINE];
     let mut at = add(&mut line, 0, b"refused ");
@@ -88,6 +91,7 @@ pub fn slot_line(
     out: &mut [u8],
 ) -> Printed
     ensures { λ r. ⌜ Prints (slotLine (clock .0) speed slow p (now (grants .entry))) (now (out .entry)) r (now (out .exit)) ⌝ }
+    ensures { λ _. ⌜ length (slotLine (clock .0) speed slow p (now (grants .entry))) ≤ longestLine ⌝ }
 {
     let mut line = [0u8; LONGEST_LINE];
     let mut at = add_times(&mut line, clock, speed);
@@ -101,6 +105,7 @@ pub fn slot_line(
 // The line of a refused slot.
 pub fn refused_slot_line(clock: Slots, speed: u16, number: u8, out: &mut [u8]) -> Printed
     ensures { λ r. ⌜ Prints (refusedSlotLine (clock .0) speed number) (now (out .entry)) r (now (out .exit)) ⌝ }
+    ensures { λ _. ⌜ length (refusedSlotLine (clock .0) speed number) ≤ longestLine ⌝ }
 {
     let mut line = [0u8; LONGEST_LINE];
     let mut at = add_times(&mut line, clock, speed);
@@ -114,6 +119,7 @@ pub fn refused_slot_line(clock: Slots, speed: u16, number: u8, out: &mut [u8]) -
 fn word_line(name: Name, word: &[u8], carried: u32, out: &mut [u8]) -> Printed
     requires { ⌜ length (now word) ≤ mostDigits ⌝ }
     ensures { λ r. ⌜ Prints (outcomeLine (name .0) (now (word .entry)) carried) (now (out .entry)) r (now (out .exit)) ⌝ }
+    ensures { λ _. ⌜ length (outcomeLine (name .0) (now (word .entry)) carried) ≤ longestLine ⌝ }
 {
     let mut line = [0u8; LONGEST_LINE];
     let mut at = add_name(&mut line, 0, name);
@@ -128,6 +134,7 @@ fn word_line(name: Name, word: &[u8], carried: u32, out: &mut [u8]) -> Printed
 // The line of a job. A refused outcome has no line: its number is the answer.
 pub fn outcome_line(name: Name, outcome: Outcome, carried: u32, out: &mut [u8]) -> Printed
     ensures { λ r. ⌜ PrintsOutcome name outcome carried (now (out .entry)) r (now (out .exit)) ⌝ }
+    ensures { λ _. ⌜ length (outcomeLine (name .0) (endingWord (outcomeView outcome)) carried) ≤ longestLine ⌝ }
 {
     match outcome {
         Outcome::Met => word_line(name, b"met", carried, out),

@@ -12,9 +12,9 @@ ghost use lib.ListN.{length, drop, getD};
 ghost use lib.Seq.{paste};
 ghost use Rattle.plan.specs.Edition.{nameBytes, mostJobs};
 ghost use Rattle.plan.specs.Rules.{counted};
-ghost use Rattle.lines.specs.Text.{text, decimal, nameText};
-ghost use Rattle.lines.specs.Lines.{modeText, grantText, grantsText, orDash};
-ghost use Rattle.lines.specs.inner.Growth.{Grown, mostDigits, grantBytes};
+ghost use Rattle.lines.specs.Text.{text, decimal, mostDigits, nameText};
+ghost use Rattle.lines.specs.Lines.{modeText, grantText, grantsText, orDash, grantBytes};
+ghost use Rattle.lines.specs.inner.Growth.{Grown};
 
 // The greatest number of digits of a 32-bit number.
 pub(crate) const MOST_DIGITS: usize = 10;

@@ -30,7 +30,7 @@ over-is-silent zero p run table speeds = refl
 over-is-silent (suc turns) p run table speeds = over-is-silent turns p run table (drop 2 speeds)
 
 -- If `orElse` of two reports is empty, so is the second.
-no-second : (a b : Report) → orElse a b ≡ [] → b ≡ []
+pub no-second : (a b : Report) → orElse a b ≡ [] → b ≡ []
 no-second [] b e = e
 no-second (number ∷ place) b e = let z : _≡_ {A = ℕ} 0 1 = cc in absurd (omega arith)
 
@@ -73,7 +73,7 @@ slots-whole (suc turns) p run table (high ∷ low ∷ rest) some l =
     ap (λ t. slotText p run (speed high low) (slot .answer) slot ++ t) (slots-whole turns p (slot .run) table rest some (omega arith))
 
 -- An accepted plan has a job.
-some-job : (p : Plan) (table : List ℕ) → judged p table ≡ [] → 0 < counted p
+pub some-job : (p : Plan) (table : List ℕ) → judged p table ≡ [] → 0 < counted p
 unfolding judged
 some-job p table h =
     let rest = orElse (constraintFault p table) (floorFault p table) in

@@ -18,12 +18,13 @@ use plan::kinds::Name;
 use plan::kinds::Plan;
 use plan::rules::counted_of;
 ghost use mathlib.Core.Path.{_≡_};
-ghost use Prim.Native.Nat.{_<_};
+ghost use Prim.Native.Nat.{_<_, _≤_};
+ghost use lib.ListN.{length};
 ghost use Rattle.plan.specs.Rules.{name};
 ghost use Rattle.dispatch.specs.Dues.{carriedOf};
 ghost use Rattle.dispatch.specs.Answers.{outcomeView};
 ghost use Rattle.lines.specs.Answers.{Prints};
-ghost use Rattle.lines.specs.Lines.{strayLine};
+ghost use Rattle.lines.specs.Lines.{strayLine, longestLine};
 ghost use Rattle.program.specs.Output.{slotOf, slotText, isRefused, jobText};
 ghost use Rattle.program.specs.Turns.{progress, closes, slotTurn, afterJob, jobTurn, turned, reads, over, Takes};
 ghost use Rattle.program.specs.declared.Phase.the-variants.{Slots, Closing};
@@ -31,6 +32,7 @@ ghost use Rattle.program.specs.declared.Phase.the-variants.{Slots, Closi
 // The turn of a slot at speed v.
 fn serve(p: Plan, table: &[u32], run: Run, v: u16, out: &mut [u8]) -> Turn
     ensures { λ r. ⌜ (r .progress ≡ progress Slots p (slotOf p (now (table .entry)) run v .run)) × (Prints (slotText p run v (slotOf p (now (table .entry)) run v .answer) (slotOf p (now (table .entry)) run v)) (now (out .entry)) (r .printed) (now (out .exit))) ⌝ }
+    ensures { λ _. ⌜ length (slotText p run v (slotOf p (now (table .entry)) run v .answer) (slotOf p (now (table .entry)) run v)) ≤ longestLine ⌝ }
 {
     let mut grants = [0u32; Edition::MOST_JOBS];
     let stepped = step(p, table, run, v, &mut grants);
@@ -102,6 +104,7 @@ fn wide(byte: u8) -> u16
 // slot, an odd byte, or the end of the speeds.
 fn take_slot(p: Plan, table: &[u32], run: Run, bytes: &[u8], out: &mut [u8]) -> Turn
     ensures { λ r. ⌜ Takes (slotTurn p (now (table .entry)) run (now (bytes .entry))) (now (out .entry)) r (now (out .exit)) ⌝ }
+    ensures { λ _. ⌜ length (slotTurn p (now (table .entry)) run (now (bytes .entry)) .line) ≤ longestLine ⌝ }
 {
     if bytes.len() == 0 {
         return close(p, run, out);
@@ -166,6 +169,7 @@ fn next_job(p: Plan, i: usize) -> Phase
 // The line of a job's outcome; a refused outcome has none.
 fn job_line(p: Plan, run: Run, i: usize, out: &mut [u8]) -> Printed
     ensures { λ r. ⌜ Prints (jobText p run i) (now (out .entry)) r (now (out .exit)) ⌝ }
+    ensures { λ _. ⌜ length (jobText p run i) ≤ longestLine ⌝ }
 {
     let ended = outcome(p, run, i);
     if is_refused(ended) {
@@ -177,6 +181,7 @@ fn job_line(p: Plan, run: Run, i: usize, out: &mut [u8]) -> Printed
 // The turn of a job's outcome; the next job's follows if there is one.
 fn tell_job(p: Plan, run: Run, i: usize, out: &mut [u8]) -> Turn
     ensures { λ r. ⌜ Takes (jobTurn p run i) (now (out .entry)) r (now (out .exit)) ⌝ }
+    ensures { λ _. ⌜ length (jobTurn p run i .line) ≤ longestLine ⌝ }
 {
     let printed = job_line(p, run, i, out);
     let next = Progress {
@@ -193,6 +198,7 @@ fn tell_job(p: Plan, run: Run, i: usize, out: &mut [u8]) -> Turn
 // One turn, with the bytes read for it.
 pub fn advance(n: Progress, table: &[u32], bytes: &[u8], out: &mut [u8]) -> Turn
     ensures { λ r. ⌜ Takes (turned n (now (table .entry)) (now (bytes .entry))) (now (out .entry)) r (now (out .exit)) ⌝ }
+    ensures { λ _. ⌜ length (turned n (now (table .entry)) (now (bytes .entry)) .line) ≤ longestLine ⌝ }
 {
     let phase = n.phase;
     let p = n.plan;

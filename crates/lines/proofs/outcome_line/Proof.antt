@@ -1,6 +1,11 @@
 -- `lines::outcome_line` meets its contract: a word for each outcome.
 use mathlib.Core.Path.{refl}
+use native.Mathlib.Omega.{arith}
 use borrow.Author.Needs.{needs}
+use lib.ListN.{length-append}
+use Rattle.lines.specs.Lines.{outcomeLine}
+use Rattle.lines.specs.Text.{text, decimal}
+use Rattle.lines.proofs.Decimal.{decimal-length}
 use Rattle.lines.proofs.outcome_line.Statement.{statement}
 use Rattle.lines.proofs.outcome_line.Tie as tie
 
@@ -72,7 +77,10 @@ returns-4 c =
     rw (c .before .before .before .before .before .enum-told4 .given .1) (c .before .before .word-line4 .ensures)
 
 returns-5 : tie.Need-returns-5
-returns-5 c = rw (c .before .outcome .given .1) refl
+unfolding outcomeLine
+returns-5 c =
+    let carried = c .before .before .before .before .args .carried in
+    rw (c .before .outcome .given .1) (refl, omega (arith, length-append (decimal carried) (text "\n"), decimal-length carried (omega arith)))
 
 pub outcome-line-spec : {M : Type 1} → statement M
 outcome-line-spec =

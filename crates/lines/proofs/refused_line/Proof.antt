@@ -51,7 +51,9 @@ returns c =
     let at-add-number = at-add2 .before .before .before .before in
     let at-add = at-add-number .before .before .before in
     let entry = at-add .before .before .before .before in
-    at-print .print .ensures ∙ ap (λ l. printed l (entry .args .out .now)) (grown-twice (grown-twice (at-add .add .ensures) (at-add-number .add-number .ensures .0)) (at-add2 .add2 .ensures) .bytes)
+    let whole =
+    grown-twice (grown-twice (at-add .add .ensures) (at-add-number .add-number .ensures .0)) (at-add2 .add2 .ensures) in
+    (at-print .print .ensures ∙ ap (λ l. printed l (entry .args .out .now)) (whole .bytes), omega (arith, whole .end))
 
 pub refused-line-spec : {M : Type 1} → statement M
 refused-line-spec =

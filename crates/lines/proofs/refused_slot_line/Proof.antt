@@ -61,7 +61,9 @@ returns c =
     let at-add = at-add-number .before .before .before in
     let at-add-times = at-add .before .before .before .before in
     let entry = at-add-times .before .before .before in
-    at-print .print .ensures ∙ ap (λ l. printed l (entry .args .out .now)) (grown-twice (grown-twice (grown-twice (at-add-times .add-times .ensures .0) (at-add .add .ensures)) (at-add-number .add-number .ensures .0)) (at-add2 .add2 .ensures) .bytes)
+    let whole =
+    grown-twice (grown-twice (grown-twice (at-add-times .add-times .ensures .0) (at-add .add .ensures)) (at-add-number .add-number .ensures .0)) (at-add2 .add2 .ensures) in
+    (at-print .print .ensures ∙ ap (λ l. printed l (entry .args .out .now)) (whole .bytes), omega (arith, whole .end))
 
 pub refused-slot-line-spec : {M : Type 1} → statement M
 refused-slot-line-spec =

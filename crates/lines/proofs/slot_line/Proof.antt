@@ -65,7 +65,9 @@ returns c =
     let at-mode-of = at-add .before .before .before in
     let at-add-times = at-mode-of .before .before in
     let entry = at-add-times .before .before .before .before in
-    at-print .print .ensures ∙ ap (λ l. printed l (entry .args .out .now)) (grown-twice (grown-twice (grown-twice (at-add-times .add-times .ensures .0) (grown-same (at-mode-of .mode-of .ensures) (at-add .add .ensures))) (at-add-grants .add-grants .ensures .0)) (at-add2 .add2 .ensures) .bytes)
+    let whole =
+    grown-twice (grown-twice (grown-twice (at-add-times .add-times .ensures .0) (grown-same (at-mode-of .mode-of .ensures) (at-add .add .ensures))) (at-add-grants .add-grants .ensures .0)) (at-add2 .add2 .ensures) in
+    (at-print .print .ensures ∙ ap (λ l. printed l (entry .args .out .now)) (whole .bytes), omega (arith, whole .end))
 
 pub slot-line-spec : {M : Type 1} → statement M
 slot-line-spec =

@@ -78,7 +78,9 @@ returns c =
     let at-add = at-add2 .before .before .before in
     let at-add-name = at-add .before .before .before .before in
     let entry = at-add-name .before .before .before .before in
-    at-print .print .ensures ∙ ap (λ l. printed l (entry .args .out .now)) (grown-twice (grown-twice (grown-twice (grown-twice (grown-twice (at-add-name .add-name .ensures) (at-add .add .ensures)) (at-add2 .add2 .ensures)) (at-add3 .add3 .ensures)) (at-add-number .add-number .ensures .0)) (at-add4 .add4 .ensures) .bytes)
+    let whole =
+    grown-twice (grown-twice (grown-twice (grown-twice (grown-twice (at-add-name .add-name .ensures) (at-add .add .ensures)) (at-add2 .add2 .ensures)) (at-add3 .add3 .ensures)) (at-add-number .add-number .ensures .0)) (at-add4 .add4 .ensures) in
+    (at-print .print .ensures ∙ ap (λ l. printed l (entry .args .out .now)) (whole .bytes), omega (arith, whole .end))
 
 pub word-line-spec : {M : Type 1} → statement M
 word-line-spec =

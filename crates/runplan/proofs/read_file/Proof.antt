@@ -1,10 +1,12 @@
--- `runplan::read_file` meets its contract: both reads stay inside the file buffer.
+-- `runplan::read_file` meets its contract: both reads stay inside the file buffer, and the second
+-- leaves the opening as it is.
 use mathlib.Core.Path.{sym}
-use Prim.Native.Nat.{_+_}
+use Prim.Native.Nat.{_≤_}
 use native.Mathlib.Omega.{arith}
-use borrow.Author.Needs.{needs}
+use lib.ListN.{length}
 use lib.Seq.{length-take-le}
-use Rattle.runplan.proofs.FileSize.{size-fits}
+use Rattle.runplan.proofs.FileSize.{size-fits, size-known}
+use borrow.Author.Needs.{needs}
 use Rattle.runplan.proofs.read_file.Statement.{statement}
 use Rattle.runplan.proofs.read_file.Tie as tie
 
@@ -26,22 +28,19 @@ read-part-requires-2 c κs =
     let f = size-fits _ _ _ (slice-aggregate-file-bytes (c .before .before)) (omega arith) (c .before .file-bytes .ensures) in
     (f .0, omega (arith, f .1))
 
-add-result : tie.Need-add-result
-add-result c = search needs
-
 same-length : tie.Need-same-length
 same-length c = search needs
 
 returns : tie.Need-returns
 returns c =
-    let at-read-part2 = c .before .before in
-    let at-file-bytes = at-read-part2 .before .before in
-    let c-5 = at-file-bytes .before in
-    let at-read-part = c-5 .before .before .before in
-    let r = at-read-part .read-part in
-    let s = at-read-part2 .read-part2 in
-    let f = size-fits _ _ _ (slice-aggregate-file-bytes (c-5)) (omega arith) (at-file-bytes .file-bytes .ensures) in
-    (omega (arith, f .1), sym (length-take-le (r .result + s .result) (s .last .0) (omega (arith, f .1))))
+    let at-second = c .before .before in
+    let at-size = at-second .before .before in
+    let at-first = at-size .before .before .before .before in
+    let r = at-first .read-part in
+    let s = at-second .read-part2 in
+    let f = size-fits _ _ _ (slice-aggregate-file-bytes (at-size .before)) (omega arith) (at-size .file-bytes .ensures) in
+    let short : s .result ≤ length (s .last .0) = omega (arith, f .1) in
+    ((short, sym (length-take-le (s .result) (s .last .0) short)), size-known (r .last .0) (s .last .0) (r .result) (s .result) (omega arith) (omega arith) (omega arith) (omega (arith, at-size .file-bytes .ensures)) (s .ensures .2))
 
 pub read-file-spec : {M : Type 1} → statement M
 read-file-spec =
@@ -52,6 +51,5 @@ read-file-spec =
     slice-aggregate-file-bytes
     file-bytes-requires
     read-part-requires-2
-    add-result
     same-length
     returns)

@@ -2,7 +2,7 @@
 use mathlib.Core.Path.{_∙_}
 use native.Mathlib.Omega.{arith}
 use borrow.Author.Needs.{needs}
-use Rattle.lines.specs.inner.Growth.{mostDigits}
+use Rattle.lines.specs.Text.{mostDigits}
 use Rattle.lines.proofs.Decimal.{decimal-length}
 use Rattle.lines.proofs.Growth.{grown-same, part-to-end}
 use Rattle.lines.proofs.pieces.add_number.Statement.{statement}

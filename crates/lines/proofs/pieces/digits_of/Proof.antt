@@ -4,8 +4,7 @@ use mathlib.Core.Path.{_≡_, refl, sym, _∙_}
 use Prim.Native.Nat.{ℕ, zero, suc, _-_, _%_, _^_, _<_}
 use native.Mathlib.Omega.{arith}
 use lib.ListN.{length, drop, length-set}
-use Rattle.lines.specs.Text.{digits, digit, decimal}
-use Rattle.lines.specs.inner.Growth.{mostDigits}
+use Rattle.lines.specs.Text.{digits, digit, decimal, mostDigits}
 use Rattle.lines.proofs.Decimal.{digits-one, digits-ten, digits-turn, shorter}
 use Rattle.base.proofs.Stores.{drop-set}
 use Rattle.lines.proofs.pieces.digits_of.Statement.{statement}

@@ -2,6 +2,7 @@
 use mathlib.Core.Path.{_≡_, refl, sym, _∙_, ap}
 use mathlib.Core.Bool.{false, true≢false}
 use mathlib.Core.List.{[], _∷_}
+use native.Mathlib.Omega.{arith}
 use borrow.Author.Tests.{not-true}
 use borrow.Author.Needs.{needs}
 use Rattle.plan.specs.Report.{Report, isNone, numberOf}
@@ -61,7 +62,7 @@ returns-2 c =
     let s = at-start .start in
     let p = at-start .before .before .before .args .p in
     let none = passes (verdictView (s .result .verdict)) _ (at-test .is-accepted .result) (s .ensures .0) (at-test .is-accepted .ensures) (else .if1 .left) in
-    rw none (ap (progress Slots p) (s .ensures .1 ∙ ap (λ r. startFrom r (started p) noRun) none), at-header .slot-header .ensures)
+    rw none ((ap (progress Slots p) (s .ensures .1 ∙ ap (λ r. startFrom r (started p) noRun) none), at-header .slot-header .ensures), omega arith)
 
 pub judge-and-start-spec : {M : Type 1} → statement M
 judge-and-start-spec =

@@ -29,7 +29,7 @@ same-length-2 c = search needs
 returns : tie.Need-returns
 unfolding opened
 returns c =
-    rw (← c .before .before .before .before .before .before .before .before .before .before .read .ensures, c .before .before .before .before .before .enum-told .given .1) (c .before .before .judge-and-start .ensures .0, refl, c .before .before .judge-and-start .ensures .1)
+    rw (← c .before .before .before .before .before .before .before .before .before .before .read .ensures, c .before .before .before .before .before .enum-told .given .1) ((c .before .before .judge-and-start .ensures .0 .0, refl, c .before .before .judge-and-start .ensures .0 .1), c .before .before .judge-and-start .ensures .1)
 
 same-length-3 : tie.Need-same-length-3
 same-length-3 c = search needs
@@ -40,7 +40,7 @@ same-length-4 c = search needs
 returns-2 : tie.Need-returns-2
 unfolding opened
 returns-2 c =
-    rw (← c .before .before .before .before .before .before .before .before .before .before .read .ensures, c .before .before .before .before .before .said .given .1) (c .before .before .refuse .ensures .0, refl, c .before .before .refuse .ensures .1)
+    rw (← c .before .before .before .before .before .before .before .before .before .before .read .ensures, c .before .before .before .before .before .said .given .1) ((c .before .before .refuse .ensures .0 .0, refl, c .before .before .refuse .ensures .0 .1), c .before .before .refuse .ensures .1)
 
 pub open-spec : {M : Type 1} → statement M
 open-spec =

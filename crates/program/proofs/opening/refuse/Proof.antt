@@ -17,7 +17,8 @@ same-length c = search needs
 
 returns : tie.Need-returns
 returns c =
-    (ap (progress Over (c .before .before .before .before .before .before .args .p)) (c .no-run .ensures), c .before .before .before .refused-line .ensures)
+    let line = c .before .before .before .refused-line .ensures in
+    ((ap (progress Over (c .before .before .before .before .before .before .args .p)) (c .no-run .ensures), line .0), line .1)
 
 pub refuse-spec : {M : Type 1} → statement M
 refuse-spec = tie.close (tie.spec refused-line-requires no-run-requires same-length returns)

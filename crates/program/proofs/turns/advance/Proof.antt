@@ -1,5 +1,6 @@
 -- `program::turns::advance` meets its contract: a case for each phase.
 use mathlib.Core.Path.{refl}
+use native.Mathlib.Omega.{arith}
 use borrow.Author.Needs.{needs}
 use Rattle.program.proofs.OutcomeLines.{printed-none}
 use Rattle.program.proofs.turns.advance.Statement.{statement}
@@ -38,7 +39,7 @@ same-length-2 c = search needs
 
 returns-2 : tie.Need-returns-2
 returns-2 c =
-    rw (c .before .before .before .before .enum-told2 .given .1) (c .before .before .close .ensures)
+    rw (c .before .before .before .before .enum-told2 .given .1) (c .before .before .close .ensures, omega arith)
 
 same-length-3 : tie.Need-same-length-3
 same-length-3 c = search needs
@@ -51,7 +52,7 @@ returns-4 : tie.Need-returns-4
 returns-4 c =
     let a = c .before .before .before .before .before .before .before .args in
     let e = c .enum-told3 .given .1 in
-    rw e (refl, printed-none (a .out .now))
+    rw e ((refl, printed-none (a .out .now)), omega arith)
 
 pub advance-spec : {M : Type 1} → statement M
 advance-spec =

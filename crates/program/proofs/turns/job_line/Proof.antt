@@ -1,5 +1,6 @@
 -- `program::turns::job_line` meets its contract, by the job's outcome.
 use mathlib.Core.Path.{sym, _∙_, ap}
+use native.Mathlib.Omega.{arith}
 use borrow.Author.Needs.{needs}
 use Rattle.plan.specs.Rules.{name}
 use Rattle.dispatch.specs.Dues.{carriedOf}
@@ -18,8 +19,8 @@ is-refused-requires c κs = search needs
 returns : tie.Need-returns
 returns c =
     let a = c .before .before .before .before .args in
-    told-none (outcome (a .p) (a .run) (a .i)) (name (a .p) (a .i)) (carriedOf (a .run) (a .i)) (a .out .now)
-    (ap isRefused (sym (c .before .before .outcome .ensures)) ∙ sym (c .before .is-refused .ensures) ∙ c .if1 .taken)
+    let refused = ap isRefused (sym (c .before .before .outcome .ensures)) ∙ sym (c .before .is-refused .ensures) ∙ c .if1 .taken in
+    (told-none (outcome (a .p) (a .run) (a .i)) (name (a .p) (a .i)) (carriedOf (a .run) (a .i)) (a .out .now) refused, rw refused (omega arith))
 
 name-of-requires : tie.Need-name-of-requires
 name-of-requires c κs = search needs
@@ -43,9 +44,9 @@ returns-2 c =
     let at-outcome = at-is-refused .before in
     let entry = at-outcome .before .before in
     let a = entry .args in
-    (rw (at-name-of .name-of .ensures, at-outcome .outcome .ensures, at-carried-of .carried-of .ensures) at (at-outcome-line .outcome-line .ensures))
-    ∙ told-some (outcome (a .p) (a .run) (a .i)) (name (a .p) (a .i)) (carriedOf (a .run) (a .i)) (a .out .now)
-    (ap isRefused (sym (at-outcome .outcome .ensures)) ∙ sym (at-is-refused .is-refused .ensures) ∙ at-if1 .if1 .left)
+    let some = ap isRefused (sym (at-outcome .outcome .ensures)) ∙ sym (at-is-refused .is-refused .ensures) ∙ at-if1 .if1 .left in
+    let told = rw (at-name-of .name-of .ensures, at-outcome .outcome .ensures, at-carried-of .carried-of .ensures) at (at-outcome-line .outcome-line .ensures) in
+    (told .0 ∙ told-some (outcome (a .p) (a .run) (a .i)) (name (a .p) (a .i)) (carriedOf (a .run) (a .i)) (a .out .now) some, rw some (told .1))
 
 pub job-line-spec : {M : Type 1} → statement M
 job-line-spec =

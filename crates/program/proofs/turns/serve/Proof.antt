@@ -30,14 +30,14 @@ same-length c = search needs
 
 returns : tie.Need-returns
 returns c =
-    rw (← c .before .before .before .before .before .before .before .before .before .before .step .ensures, c .before .before .before .before .before .enum-told .given .1) (refl, c .before .before .slot-line .ensures)
+    rw (← c .before .before .before .before .before .before .before .before .before .before .step .ensures, c .before .before .before .before .before .enum-told .given .1) ((refl, c .before .before .slot-line .ensures .0), c .before .before .slot-line .ensures .1)
 
 same-length-2 : tie.Need-same-length-2
 same-length-2 c = search needs
 
 returns-2 : tie.Need-returns-2
 returns-2 c =
-    rw (← c .before .before .before .before .before .before .before .before .before .before .step .ensures, c .before .before .before .before .before .said .given .1) (refl, c .before .before .refused-slot-line .ensures)
+    rw (← c .before .before .before .before .before .before .before .before .before .before .step .ensures, c .before .before .before .before .before .said .given .1) ((refl, c .before .before .refused-slot-line .ensures .0), c .before .before .refused-slot-line .ensures .1)
 
 pub serve-spec : {M : Type 1} → statement M
 serve-spec =

@@ -14,7 +14,7 @@ same-length c = search needs
 returns : tie.Need-returns
 returns c =
     let a = c .before .before .before .before .before .before .before .before .args in
-    rw (slot-none (a .p) (a .table .now) (a .run) (a .bytes .now) (c .before .before .before .before .if1 .taken)) (c .before .before .close .ensures)
+    rw (slot-none (a .p) (a .table .now) (a .run) (a .bytes .now) (c .before .before .before .before .if1 .taken)) (c .before .before .close .ensures, omega arith)
 
 stray-requires : tie.Need-stray-requires
 stray-requires c κs = search needs
@@ -25,7 +25,7 @@ same-length-2 c = search needs
 returns-2 : tie.Need-returns-2
 returns-2 c =
     let a = c .before .before .before .before .before .before .before .before .before .args in
-    rw (slot-odd (a .p) (a .table .now) (a .run) (a .bytes .now) (c .before .before .before .before .if2 .taken)) (c .before .before .stray .ensures)
+    rw (slot-odd (a .p) (a .table .now) (a .run) (a .bytes .now) (c .before .before .before .before .if2 .taken)) (c .before .before .stray .ensures, omega arith)
 
 shared-slice-read-wide : tie.Need-shared-slice-read-wide
 shared-slice-read-wide c = search needs

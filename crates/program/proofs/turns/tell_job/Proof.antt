@@ -19,7 +19,8 @@ returns : tie.Need-returns
 unfolding jobTurn
 returns c =
     let a = c .before .before .before .before .before .before .args in
-    (ap (λ (next : Phase). progress next (a .p) (a .run)) (c .next-job .ensures), c .before .before .before .job-line .ensures)
+    let line = c .before .before .before .job-line .ensures in
+    ((ap (λ (next : Phase). progress next (a .p) (a .run)) (c .next-job .ensures), line .0), line .1)
 
 pub tell-job-spec : {M : Type 1} → statement M
 tell-job-spec = tie.close (tie.spec job-line-requires next-job-requires same-length returns)
