@@ -4,4 +4,4 @@ pub mod Telling
 pub mod TurnsOutput
 pub mod FileExtent
 pub mod ChunksOutput
-pub mod NightOutput
+pub mod ProgramOutput

@@ -173,7 +173,7 @@ begun file = opened (readIn file)
 
 -- The contract of the whole program: the file buffer's first bytes were heard, no more of them than
 -- the plan file has; the first turn is that of these bytes, and all others follow it.
-pub record Night (file : Bytes) (last : Progress) (heard told : ℕ) (written : Bool) : Type 0 where
+pub record WholeProgram (file : Bytes) (last : Progress) (heard told : ℕ) (written : Bool) : Type 0 where
   pub size : ℕ
   pub filled : size ≤ length file
   pub within : size ≤ fileBytes (take size file)

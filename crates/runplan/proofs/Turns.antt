@@ -14,7 +14,7 @@ use Rattle.planfile.specs.Reader.{reader}
 use Rattle.lines.specs.Lines.{longestLine}
 use Rattle.program.specs.declared.Phase.{Phase}
 use Rattle.program.specs.declared.Progress.{Progress}
-use Rattle.program.specs.Turns.{Turned, turned, opened, reads, over, mostRead, after, InTurn, bytesOf, mostTurns, Tells, TellsSome, Played, Night}
+use Rattle.program.specs.Turns.{Turned, turned, opened, reads, over, mostRead, after, InTurn, bytesOf, mostTurns, Tells, TellsSome, Played, WholeProgram}
 
 clash : {A : Type 0} → true ≡ false → A
 clash e = let z : _≡_ {A = ℕ} 0 1 = cc in absurd (omega arith)
@@ -93,10 +93,10 @@ ends-when-false true false e = clash e
 ends-when-false true true e = inl refl
 
 -- The first turn, and those after it, are the whole program.
-pub whole-night : {file : Bytes} {size : ℕ} {table full line : List ℕ} {n last : Progress} {heard told h k : ℕ} {written : Bool} → table ≡ replicate places 0
+pub whole-program : {file : Bytes} {size : ℕ} {table full line : List ℕ} {n last : Progress} {heard told h k : ℕ} {written : Bool} → table ≡ replicate places 0
     → size ≤ length file → size ≤ fileBytes (take size file) → Tells (opened (reader (take size file) table)) 0 n told line
-    → full ≡ reader (take size file) table .table → heard ≡ size → Played n full heard told last h k written → Night file last h k written
-whole-night {size = size} zeros filled within t left all p =
+    → full ≡ reader (take size file) table .table → heard ≡ size → Played n full heard told last h k written → WholeProgram file last h k written
+whole-program {size = size} zeros filled within t left all p =
     record {
       size = size;
       filled = filled;

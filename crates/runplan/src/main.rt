@@ -26,7 +26,7 @@ ghost use Rattle.planfields.specs.Layout.{largestFile, fileBytes};
 ghost use Rattle.planfile.specs.Reader.{reader};
 ghost use Rattle.lines.specs.Answers.{lengthOf};
 ghost use Rattle.lines.specs.Lines.{longestLine};
-ghost use Rattle.program.specs.Turns.{turned, opened, over, mostRead, Tells, TellsSome, Played, Night};
+ghost use Rattle.program.specs.Turns.{turned, opened, over, mostRead, Tells, TellsSome, Played, WholeProgram};
 
 // The number of bytes of a speed.
 const SPEED_BYTES: usize = 2;
@@ -184,7 +184,7 @@ fn play(first: Done, table: &[u32], line: &mut [u8]) -> Done
 // The whole program, over lent buffers.
 fn run(file: &mut [u8], table: &mut [u32], line: &mut [u8]) -> Done
     requires { ⌜ (length (now file) ≡ largestFile) × (now table ≡ replicate places 0) × (length (now line) ≡ longestLine) ⌝ }
-    ensures { λ r. ⌜ Night (now (file .exit)) (r .progress) (r .heard) (r .told) (r .written) ⌝ }
+    ensures { λ r. ⌜ WholeProgram (now (file .exit)) (r .progress) (r .heard) (r .told) (r .written) ⌝ }
 {
     let size = read_file(file);
     let first = begin(&file[..size], table, line);

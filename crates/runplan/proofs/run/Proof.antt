@@ -1,7 +1,7 @@
 -- `runplan::run` meets its contract: the first turn, and all turns after it.
 use mathlib.Core.Path.{sym, _∙_}
 use borrow.Author.Needs.{needs}
-use Rattle.runplan.proofs.Turns.{whole-night}
+use Rattle.runplan.proofs.Turns.{whole-program}
 use Rattle.runplan.proofs.run.Statement.{statement}
 use Rattle.runplan.proofs.run.Tie as tie
 
@@ -36,7 +36,7 @@ returns c =
     let at-read = at-begin .before .before .before .before .before .before in
     let start = at-read .before .before .before .before .before in
     let f = at-read .read-file in
-    whole-night {size = f .result} (start .pre .1) (f .ensures .0 .0) (f .ensures .1) (at-begin .begin .ensures .0) (at-begin .begin .ensures .1 .0) (at-begin .begin .ensures .1 .1 ∙ sym (f .ensures .0 .1)) (at-play .play .ensures)
+    whole-program {size = f .result} (start .pre .1) (f .ensures .0 .0) (f .ensures .1) (at-begin .begin .ensures .0) (at-begin .begin .ensures .1 .0) (at-begin .begin .ensures .1 .1 ∙ sym (f .ensures .0 .1)) (at-play .play .ensures)
 
 pub run-spec : {M : Type 1} → statement M
 run-spec =

@@ -14,7 +14,7 @@ use Rattle.planfile.specs.Reader.{ReadEffect}
 use Rattle.judge.specs.Verdict.{judged}
 use Rattle.program.specs.declared.Progress.{Progress}
 use Rattle.program.specs.Output.{planFault, printedBy, output}
-use Rattle.program.specs.Turns.{opened, readIn, begun, over, after, InTurn, bytesOf, Night}
+use Rattle.program.specs.Turns.{opened, readIn, begun, over, after, InTurn, bytesOf, WholeProgram}
 use Rattle.program.proofs.FileExtent.{same-opening, accepted-fills}
 use Rattle.program.proofs.ChunksOutput.{none-after, told-is-text}
 
@@ -48,12 +48,12 @@ output-of-read file chunks within h = by (planFault left) refl
 
 -- Of a program that is over, all lines are the output of all that it heard, and its counts are the
 -- lengths of both.
-pub night-tells-the-output : (file : Bytes) (last : Progress) (heard told : ℕ) (written : Bool) (h : Night file last heard told written) → over (last .phase) ≡ true
+pub program-tells-the-output : (file : Bytes) (last : Progress) (heard told : ℕ) (written : Bool) (h : WholeProgram file last heard told written) → over (last .phase) ≡ true
     → (let part = take (h .size) file in
     let read = part ++ bytesOf (h .played .chunks) in
     (begun part .line ++ after (begun part .progress) (readIn part .table) (h .played .chunks) .line ≡ output read)
     × (heard ≡ length read) × (told ≡ length (output read)))
-night-tells-the-output file last heard told written h e =
+program-tells-the-output file last heard told written h e =
     let part = take (h .size) file in
     let p = h .played in
     let turns = after (begun part .progress) (readIn part .table) (p .chunks) in
