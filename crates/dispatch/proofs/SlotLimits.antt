@@ -85,7 +85,7 @@ module _ (p : Plan) (table : List ℕ) (run : Run) (v : ℕ) (grants : List ℕ)
       by-fault (n ∷ more) e = (refl, refl)
 
   -- A mark that is set stays set through a call.
-  slow-kept : run .slow ≡ true → stepped p table run v grants .run .slow ≡ true
+  pub slow-kept : run .slow ≡ true → stepped p table run v grants .run .slow ≡ true
   unfolding stepped advanced
   slow-kept e = by-fault (slotFault p table run v grants)
     where
@@ -93,7 +93,7 @@ module _ (p : Plan) (table : List ℕ) (run : Run) (v : ℕ) (grants : List ℕ)
       by-fault [] = rw e refl
       by-fault (n ∷ more) = e
 
-  below-kept : run .below ≡ true → stepped p table run v grants .run .below ≡ true
+  pub below-kept : run .below ≡ true → stepped p table run v grants .run .below ≡ true
   unfolding stepped advanced
   below-kept e = by-fault (slotFault p table run v grants)
     where
@@ -106,29 +106,3 @@ pub refused-start-changes-nothing : (p : Plan) (table : List ℕ) (was : Run) (n
     → judged p table ≡ number ∷ places → startIn p table was ≡ was
 unfolding startIn
 refused-start-changes-nothing p table was number places e = ap (λ r. startFrom r (started p) was) e
-
--- A call with any plan, table, speed and grant row; and the run
--- after a list of calls, refused ones included.
-pub record Call : Type 0 where
-  pub plan : Plan
-  pub table : List ℕ
-  pub speed : ℕ
-  pub grants : List ℕ
-
-abbrev pub runAfter : Run → List Call → Run
-runAfter run [] = run
-runAfter run (c ∷ later) = runAfter (stepped (c .plan) (c .table) run (c .speed) (c .grants) .run) later
-
--- The slow mark, once set, stays set through any list of calls.
-pub slow-for-good : (run : Run) (calls : List Call) → run .slow ≡ true → runAfter run calls .slow ≡ true
-slow-for-good run [] e = e
-slow-for-good run (c ∷ later) e =
-    slow-for-good (stepped (c .plan) (c .table) run (c .speed) (c .grants) .run) later
-    (slow-kept (c .plan) (c .table) run (c .speed) (c .grants) e)
-
--- So does the below-floor mark.
-pub below-for-good : (run : Run) (calls : List Call) → run .below ≡ true → runAfter run calls .below ≡ true
-below-for-good run [] e = e
-below-for-good run (c ∷ later) e =
-    below-for-good (stepped (c .plan) (c .table) run (c .speed) (c .grants) .run) later
-    (below-kept (c .plan) (c .table) run (c .speed) (c .grants) e)

@@ -8,6 +8,7 @@ pub mod SameVerdict
 pub mod SameFile
 pub mod SameLine
 pub mod CallAsSlot
+pub mod MarksStay
 pub mod NightInvariant
 pub mod Strategy
 pub mod Progress
