@@ -26,7 +26,7 @@ file-bytes-requires c κs = search needs
 read-part-requires-2 : tie.Need-read-part-requires-2
 read-part-requires-2 c κs =
     let f = size-fits _ _ _ (slice-aggregate-file-bytes (c .before .before)) (omega arith) (c .before .file-bytes .ensures) in
-    (f .0, omega (arith, f .1))
+    (omega (arith, f .0), omega (arith, f .1))
 
 same-length : tie.Need-same-length
 same-length c = search needs
