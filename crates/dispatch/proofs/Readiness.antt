@@ -1,5 +1,5 @@
 -- What a readiness says of a slot's call: its refusal; and if there is none, that plan and run are
--- sound, that no buffer is too short, and how many intervals have begun.
+-- sound, that no buffer is too short, how many intervals have begun, and that the speed is at most n.
 use mathlib.Core.Path.{_≡_, refl}
 use mathlib.Core.Bool.{Bool, true, false, not, cond, _||_, true≢false, false≢true}
 use mathlib.Core.List.{List, [], _∷_}
@@ -37,17 +37,18 @@ pub readiness-sound : (p : Plan) (t : ℕ) (carried : List ℕ) → isSound (rea
 readiness-sound p t carried = sound-from (soundAt p t carried) (eqb t (lastDeadline p)) (suc (present p t))
 
 none-from : (b e : Bool) (spans : ℕ) (short fast : Bool) → isNone (faultBy (from b e spans) short fast) ≡ true
-    → (b ≡ true) × (short ≡ false) × (begun (from b e spans) ≡ spans)
+    → (b ≡ true) × (short ≡ false) × (begun (from b e spans) ≡ spans) × (fast ≡ false)
 none-from true true spans true fast h = absurd (false≢true h)
 none-from true true spans false fast h = absurd (false≢true h)
 none-from true false spans true fast h = absurd (false≢true h)
-none-from true false spans false fast h = (refl, refl, refl)
+none-from true false spans false true h = absurd (false≢true h)
+none-from true false spans false false h = (refl, refl, refl, refl)
 none-from false e spans short fast h = absurd (false≢true h)
 
--- If nothing is refused, the plan is sound for the slot, no buffer is too short, and the intervals
--- begun are those up to and including the present one.
+-- If nothing is refused, the plan is sound for the slot, no buffer is too short, the intervals
+-- begun are those up to and including the present one, and the speed is at most n.
 pub readiness-clear : (p : Plan) (t : ℕ) (carried : List ℕ) (short fast : Bool) → isNone (faultBy (readiness p t carried) short fast) ≡ true
-    → (soundAt p t carried ≡ true) × (short ≡ false) × (begun (readiness p t carried) ≡ suc (present p t))
+    → (soundAt p t carried ≡ true) × (short ≡ false) × (begun (readiness p t carried) ≡ suc (present p t)) × (fast ≡ false)
 readiness-clear p t carried short fast = none-from (soundAt p t carried) (eqb t (lastDeadline p)) (suc (present p t)) short fast
 
 -- The refusal by readiness is that of the slot's call.

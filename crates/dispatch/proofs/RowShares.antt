@@ -1,4 +1,4 @@
--- How the code computes a slot: rows filled entry by entry, claims capped at the speed, and ranks
+-- How the code computes a slot: rows filled entry by entry, claims capped at the normal rate, and ranks
 -- as numbers. This gives the shares, and so the grant row and the carried units of the rules.
 use mathlib.Core.Path.{_≡_, refl, sym, _∙_, ap, ap₂}
 use mathlib.Core.Bool.{Bool, true, false, not, cond, _&&_, _||_}
@@ -100,22 +100,22 @@ filled-is-added f n l g room h =
     (λ k inside below. added-at n l g k below inside (omega arith) ∙ sym (h k below))
     (added-rest n l g)
 
--- Capping claims at the speed does not change what they leave of it.
-capped-step : (b : Bool) (s t x v : ℕ) → min v s ≡ min v t → min v (s + on b (min x v)) ≡ min v (t + on b x)
-capped-step true s t x v e = omega arith
-capped-step false s t x v e = omega arith
+-- Capping claims at a rate does not change what they leave of a speed of at most that rate.
+capped-step : (b : Bool) (s t x v rate : ℕ) → v ≤ rate → min v s ≡ min v t → min v (s + on b (min x rate)) ≡ min v (t + on b x)
+capped-step true s t x v rate h e = omega arith
+capped-step false s t x v rate h e = omega arith
 
-capped-sum : (test : ℕ → Bool) (claims : ℕ → ℕ) (v n : ℕ)
-    → min v (sum (λ k. on (test k) (min (claims k) v)) n) ≡ min v (sum (λ k. on (test k) (claims k)) n)
+capped-sum : (test : ℕ → Bool) (claims : ℕ → ℕ) (v rate : ℕ) → v ≤ rate → (n : ℕ)
+    → min v (sum (λ k. on (test k) (min (claims k) rate)) n) ≡ min v (sum (λ k. on (test k) (claims k)) n)
 unfolding sum
-capped-sum test claims v zero = refl
-capped-sum test claims v (suc n) = capped-step (test n) _ _ (claims n) v (capped-sum test claims v n)
+capped-sum test claims v rate h zero = refl
+capped-sum test claims v rate h (suc n) = capped-step (test n) _ _ (claims n) v rate h (capped-sum test claims v rate h n)
 
 same-rest : (s t v : ℕ) → min v s ≡ min v t → v - s ≡ v - t
 same-rest s t v e = omega arith
 
-capped-share : (x v s : ℕ) → min (min x v) (v - s) ≡ min x (v - s)
-capped-share x v s = omega arith
+capped-share : (x v rate s : ℕ) → v ≤ rate → min (min x rate) (v - s) ≡ min x (v - s)
+capped-share x v rate s h = omega arith
 
 -- Within a grade, a job precedes another exactly if its rank is less.
 ahead-by-rank : (from a b k i : ℕ) → k < mostJobs → i < mostJobs
@@ -146,32 +146,33 @@ module _ (p : Plan) (table : List ℕ) (run : Run) (v : ℕ) where
   claims = claim p table run (slowAfter p run v)
 
   abbrev cappedRow : List ℕ
-  cappedRow = filled (capped p table run (slowAfter p run v) v) jobs (replicate mostJobs 0)
+  cappedRow = filled (capped p table run (slowAfter p run v)) jobs (replicate mostJobs 0)
 
   abbrev rankRow : List ℕ
   rankRow = filled (rank p) jobs (replicate mostJobs 0)
 
   -- The share computed from the rows of ranks and capped claims is the share.
-  pub share-from-rows : Bounded p → (i : ℕ) → i < jobs
+  pub share-from-rows : Bounded p → v ≤ p .n .0 → (i : ℕ) → i < jobs
       → rowShare rankRow cappedRow jobs v i ≡ share p table run v i
   unfolding share
-  share-from-rows bounds i counts =
+  share-from-rows bounds normal i counts =
       let room : (k : ℕ) → k < jobs → k < length {A = ℕ} (replicate mostJobs 0) = λ k l. omega arith in
-      let own = filled-at (capped p table run (slowAfter p run v) v) jobs (replicate mostJobs 0) i (room i counts) counts in
+      let own = filled-at (capped p table run (slowAfter p run v)) jobs (replicate mostJobs 0) i (room i counts) counts in
       let others = sum-ext
       (λ k. on (ltb (getD rankRow k 0) (getD rankRow i 0)) (getD cappedRow k 0))
-      (λ k. on (before p k i) (min (claims k) v))
+      (λ k. on (before p k i) (min (claims k) (p .n .0)))
       jobs
       (λ k l. ap₂ on
       (ap₂ ltb (filled-at (rank p) jobs (replicate mostJobs 0) k (room k l) l) (filled-at (rank p) jobs (replicate mostJobs 0) i (room i counts) counts)
       ∙ sym (before-by-rank (isHi p k) (isHi p i) (deadline p k) (deadline p i) k i (bounds .deadlines k l) (bounds .deadlines i counts) (omega arith) (omega arith)))
-      (filled-at (capped p table run (slowAfter p run v) v) jobs (replicate mostJobs 0) k (room k l) l)) in
+      (filled-at (capped p table run (slowAfter p run v)) jobs (replicate mostJobs 0) k (room k l) l)) in
       ap₂ (λ x s. min x (v - s)) own others
-      ∙ capped-share (claims i) v _ ∙ ap (min (claims i)) (same-rest _ _ v (capped-sum (λ k. before p k i) claims v jobs))
+      ∙ capped-share (claims i) v (p .n .0) _ normal
+      ∙ ap (min (claims i)) (same-rest _ _ v (capped-sum (λ k. before p k i) claims v (p .n .0) normal jobs))
 
-  -- No capped claim exceeds the speed.
-  pub capped-small : (k : ℕ) → k < jobs → getD cappedRow k 0 ≤ v
-  capped-small k l = rw (filled-at (capped p table run (slowAfter p run v) v) jobs (replicate mostJobs 0) k (omega arith) l) (omega arith)
+  -- No capped claim exceeds the normal rate.
+  pub capped-small : (k : ℕ) → k < jobs → getD cappedRow k 0 ≤ p .n .0
+  capped-small k l = rw (filled-at (capped p table run (slowAfter p run v)) jobs (replicate mostJobs 0) k (omega arith) l) (omega arith)
 
   module _ (grants : List ℕ) where
     abbrev blank : List ℕ
@@ -205,12 +206,12 @@ module _ (p : Plan) (table : List ℕ) (run : Run) (v : ℕ) where
         (λ k inside below. granted-is-share p table run v grants k below) granted-rest
 
     -- What the code stores from its rows: the grants and the carried units of the rules.
-    module _ (bounds : Bounded p) (room : jobs ≤ length grants) {ranks rows : List ℕ} {n : ℕ} (by-ranks : ranks ≡ rankRow)
+    module _ (bounds : Bounded p) (normal : v ≤ p .n .0) (room : jobs ≤ length grants) {ranks rows : List ℕ} {n : ℕ} (by-ranks : ranks ≡ rankRow)
         (by-rows : rows ≡ cappedRow) (by-count : n ≡ jobs) where
       pub stored-grants : {stored : List ℕ} → stored ≡ filled (rowShare ranks rows n v) n grants → stored ≡ granted p table run v grants
       stored-grants is =
           is ∙ rw (by-ranks, by-rows, by-count)
-          (filled-ext (rowShare rankRow cappedRow jobs v) (share p table run v) jobs grants (share-from-rows bounds) ∙ shares-are-granted room)
+          (filled-ext (rowShare rankRow cappedRow jobs v) (share p table run v) jobs grants (share-from-rows bounds normal) ∙ shares-are-granted room)
 
       pub stored-carried : {stored : List ℕ} → stored ≡ filled (λ k. carriedOf run k + rowShare ranks rows n v k) n (run .carried)
           → stored ≡ added jobs (run .carried) (granted p table run v grants)
@@ -218,4 +219,4 @@ module _ (p : Plan) (table : List ℕ) (run : Run) (v : ℕ) where
           is ∙ rw (by-ranks, by-rows, by-count)
           (filled-is-added (λ k. carriedOf run k + rowShare rankRow cappedRow jobs v k) jobs (run .carried) (granted p table run v grants)
           (rw (granted-length room) room)
-          (λ k l. ap (λ g. carriedOf run k + g) (share-from-rows bounds k l ∙ sym (granted-is-share p table run v grants k l))))
+          (λ k l. ap (λ g. carriedOf run k + g) (share-from-rows bounds normal k l ∙ sym (granted-is-share p table run v grants k l))))

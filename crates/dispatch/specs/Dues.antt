@@ -17,9 +17,13 @@ use Rattle.dispatch.specs.declared.Run.{Run}
 abbrev pub carriedOf : (run : Run) (i : Position) → Amount
 carriedOf run i = getD (run .carried) i 0
 
--- Job i is live at time t: its release is at or before t, and its deadline is after t.
+-- Job i is in its window at time t: its release is at or before t, and its deadline is after t.
+abbrev pub inItsWindow : (p : Plan) (t : Time) (i : Position) → Bool
+inItsWindow p t i = leb (release p i) t && ltb t (deadline p i)
+
+-- Job i is live at time t: it is in its window.
 abbrev pub live : (p : Plan) (t : Time) (i : Position) → Bool
-live p t i = leb (release p i) t && ltb t (deadline p i)
+live p t i = inItsWindow p t i
 
 -- The sum of job i's allotments at intervals 0 to `present p t`, both included.
 abbrev pub allottedBy : (p : Plan) (table : Table) (t : Time) (i : Position) → Amount

@@ -1,4 +1,4 @@
-// A job's claim on a slot: its due if it is served, capped at the speed.
+// A job's claim on a slot: its due if it is served, capped at the normal rate.
 use plan::kinds::HI;
 use plan::kinds::Job;
 use plan::kinds::Rate;
@@ -44,11 +44,11 @@ fn due_of(served: bool, goal: Units, carried: Units) -> Units
     Units(goal.0 - carried.0)
 }
 
-// The lesser of what is due and what the speed carries in one slot.
-fn capped_at(due: Units, v: Rate) -> Units
-    ensures { λ r. ⌜ r ≡ record { 0 = min (due .0) (v .0) } ⌝ }
+// The lesser of what is due and what a rate carries in one slot.
+fn capped_at(due: Units, rate: Rate) -> Units
+    ensures { λ r. ⌜ r ≡ record { 0 = min (due .0) (rate .0) } ⌝ }
 {
-    let most = v.over(Slots(1));
+    let most = rate.over(Slots(1));
     if due.0 < most.0 { due } else { most }
 }
 
@@ -59,11 +59,11 @@ pub(crate) fn claim_of(
     slow: bool,
     allotted: Units,
     carried: Units,
-    v: Rate,
+    n: Rate,
 ) -> Units
-    ensures { λ r. ⌜ r ≡ record { 0 = min (on (leb (job .release .0) (clock .0) && ltb (clock .0) (job .deadline .0) && (eqb (job .grade) hi || not slow)) (cond slow (job .size .0) (min (job .size .0) (allotted .0)) - carried .0)) (v .0) } ⌝ }
+    ensures { λ r. ⌜ r ≡ record { 0 = min (on (leb (job .release .0) (clock .0) && ltb (clock .0) (job .deadline .0) && (eqb (job .grade) hi || not slow)) (cond slow (job .size .0) (min (job .size .0) (allotted .0)) - carried .0)) (n .0) } ⌝ }
 {
     let goal = goal_of(slow, job.size, allotted);
     let due = due_of(is_served(job, clock, slow), goal, carried);
-    capped_at(due, v)
+    capped_at(due, n)
 }

@@ -11,7 +11,7 @@ ghost use mathlib.Core.Bool.{_||_};
 ghost use Prim.Native.Nat.{ℕ, _+_, _-_, _≤_, _<_, min};
 ghost use lib.Dec.{ltb};
 ghost use lib.ListN.{length, getD};
-ghost use Rattle.plan.specs.Edition.{mostJobs, mostSize};
+ghost use Rattle.plan.specs.Edition.{mostJobs, mostRate, mostSize};
 ghost use Rattle.dispatch.specs.inner.Shares.{filled, rowShare};
 
 // The lesser of a claim and what the earlier claims leave of one slot at the speed.
@@ -27,7 +27,7 @@ fn rest_of(claim: Units, v: Rate, earlier: Units) -> Units
 }
 
 // The share of job i: one pass adds up the claims of lesser rank. No claim exceeds
-// the speed, so the sum does not overflow.
+// the greatest rate, so the sum does not overflow.
 fn share_of(
     ranks: &[u32; Edition::MOST_JOBS],
     claims: &[u32; Edition::MOST_JOBS],
@@ -35,7 +35,7 @@ fn share_of(
     v: Rate,
     i: usize,
 ) -> Units
-    requires { ⌜ (jobs ≤ mostJobs) × (i < jobs) × ((k : ℕ) → k < jobs → getD (now claims) k 0 ≤ v .0) ⌝ }
+    requires { ⌜ (jobs ≤ mostJobs) × (i < jobs) × ((k : ℕ) → k < jobs → getD (now claims) k 0 ≤ mostRate) ⌝ }
     ensures { λ r. ⌜ r ≡ record { 0 = rowShare (now (ranks .entry)) (now (claims .entry)) jobs (v .0) i } ⌝ }
 {
     let rank = ranks[i];
@@ -57,7 +57,7 @@ pub(crate) fn grant_all(
     carried: &mut [u32; Edition::MOST_JOBS],
     grants: &mut [u32],
 )
-    requires { ⌜ (jobs ≤ mostJobs) × (jobs ≤ length (now grants)) × ((k : ℕ) → k < jobs → getD (now claims) k 0 ≤ v .0) × ((k : ℕ) → k < jobs → getD (now carried) k 0 ≤ mostSize) ⌝ }
+    requires { ⌜ (jobs ≤ mostJobs) × (jobs ≤ length (now grants)) × ((k : ℕ) → k < jobs → getD (now claims) k 0 ≤ mostRate) × ((k : ℕ) → k < jobs → getD (now carried) k 0 ≤ mostSize) ⌝ }
     ensures { λ r. ⌜ (now (carried .exit) ≡ filled (λ k. getD (now (carried .entry)) k 0 + rowShare (now (ranks .entry)) (now (claims .entry)) jobs (v .0) k) jobs (now (carried .entry))) × (now (grants .exit) ≡ filled (rowShare (now (ranks .entry)) (now (claims .entry)) jobs (v .0)) jobs (now (grants .entry))) ⌝ }
 {
     let mut i = 0;

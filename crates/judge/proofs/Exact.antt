@@ -125,19 +125,17 @@ module _ (p : Plan) (table : List ℕ) where
         let inside = outside-none .0 (parts .1) in (
           hand-none p table (parts .0) .1,
           record {
-            inside = inside;
-            exact = total-none .0 (parts .2);
-            within = capacity-none .0 (parts .3);
+            allotted = record { inside = inside; exact = total-none .0 (parts .2); within = capacity-none .0 (parts .3) };
             floor = hi-deadlines-are-enough p table inside (floor-none .0 (parts .4));
           },
         ),
     λ h.
-        let a = h .1 in
+        let a = h .1 .allotted in
         rw (
           hand-sound p table long (h .0),
           outside-none .1 (a .inside),
           total-none .1 (a .exact),
           capacity-none .1 (a .within),
-          floor-none .1 (λ l m d b t. a .floor l m (ltb-true l m (both (ltb l m) (isHiDeadline p (boundary p m)) t .0)) d),
+          floor-none .1 (λ l m d b t. h .1 .floor l m (ltb-true l m (both (ltb l m) (isHiDeadline p (boundary p m)) t .0)) d),
         ) refl,
   )

@@ -95,14 +95,14 @@ module _ (p : Plan) (table : List ℕ) (ok : Figure2 p table) (r D : ℕ) where
       let times = both (leb r (release p i)) (leb (deadline p i) D) (both (isHi p i) _ t .1) in
       omega (
         arith,
-        ok .exact i b,
+        ok .allotted .exact i b,
         sum-none (units table i) (intervals p)
             (λ j c. go i j c (leb-true r (release p i) (times .0)) (leb-true (deadline p i) D (times .1)) b (inWindow p i j) refl),
       ))
     where
       go : (i j : ℕ) → j < intervals p → r ≤ release p i → deadline p i ≤ D → i < counted p → (w : Bool) → inWindow p i j ≡ w → units table i j ≡ 0
       go i j c x y b true e = absurd (omega (arith, placed i j x y c e))
-      go i j c x y b false e = ok .inside i j b c e
+      go i j c x y b false e = ok .allotted .inside i j b c e
 
   -- Otherwise each such job's size is at most its units between the two boundaries.
   all-between : suc first-one < come D (boundaries p) → (i : ℕ) → i < counted p
@@ -122,7 +122,7 @@ module _ (p : Plan) (table : List ℕ) (ok : Figure2 p table) (r D : ℕ) where
       rw (parts .0, le-leb (deadline p i) (boundary p last-one) due)
       (omega (
         arith,
-        ok .exact i b,
+        ok .allotted .exact i b,
         sum-mono (units table i)
             (λ j. on (leb first-one j && leb (boundary p (suc j)) (boundary p last-one)) (units table i j)) (intervals p)
             (λ j c. go i j c from to b (inWindow p i j) refl),
@@ -130,7 +130,7 @@ module _ (p : Plan) (table : List ℕ) (ok : Figure2 p table) (r D : ℕ) where
     where
       go : (i j : ℕ) → j < intervals p → r ≤ release p i → deadline p i ≤ D → i < counted p → (w : Bool) → inWindow p i j ≡ w
           → units table i j ≤ on (leb first-one j && leb (boundary p (suc j)) (boundary p last-one)) (units table i j)
-      go i j c x y b false e = rw (ok .inside i j b c e) (omega arith)
+      go i j c x y b false e = rw (ok .allotted .inside i j b c e) (omega arith)
       go i j c x y b true e =
           let at = placed i j x y c e in
           let late : leb (boundary p (suc j)) (boundary p last-one) ≡ true

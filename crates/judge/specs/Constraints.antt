@@ -53,11 +53,19 @@ demand p table l D = sum (λ i. on (isHi p i && leb (deadline p i) D) (unitsBetw
 abbrev pub floorCapacity : (p : Plan) (l : Interval) (D : Time) → Amount
 floorCapacity p l D = p .d .0 * (D - boundary p l)
 
--- Figure 2 holds: (1) no counted job has units in an interval that is not inside its window, and each
--- counted job's total is exactly its size; (2) the load of each interval is at most n times its length;
--- (3) from each interval to each later boundary, the demand is at most the floor's capacity.
-pub record Figure2 (p : Plan) (table : List ℕ) : Type 0 where
+-- Rules 15 to 17 hold: no counted job has units in an interval that is not inside its window, each
+-- counted job's total is exactly its size, and the load of each interval is at most n times its length.
+pub record Allotted (p : Plan) (table : List ℕ) : Type 0 where
   pub inside : (i j : ℕ) → i < counted p → j < intervals p → inWindow p i j ≡ false → units table i j ≡ 0
   pub exact : (i : ℕ) → i < counted p → total p table i ≡ size p i
   pub within : (j : ℕ) → j < intervals p → load p table j ≤ p .n .0 * intervalLength p j
-  pub floor : (l m : ℕ) → l < m → m ≤ intervals p → demand p table l (boundary p m) ≤ floorCapacity p l (boundary p m)
+
+-- Rule 18 holds, over all boundaries: from each interval to each
+-- later boundary, the demand is at most the floor's capacity.
+abbrev pub FloorRule : (p : Plan) (table : Table) → Type 0
+FloorRule p table = (l m : ℕ) → l < m → m ≤ intervals p → demand p table l (boundary p m) ≤ floorCapacity p l (boundary p m)
+
+-- Figure 2 holds: rules 15 to 17 are its constraints (1) and (2), and rule 18 is (3).
+pub record Figure2 (p : Plan) (table : List ℕ) : Type 0 where
+  pub allotted : Allotted p table
+  pub floor : FloorRule p table

@@ -16,7 +16,7 @@ use Rattle.plan.specs.Rules.{counted, release, deadline, size, isHi}
 use Rattle.plan.specs.Boundaries.{boundary, intervals, present}
 use Rattle.plan.specs.declared.kinds.Plan.{Plan}
 use Rattle.plan.proofs.PresentInterval.{boundary-rises, release-is-boundary, deadline-is-boundary, present-inside}
-use Rattle.judge.specs.Constraints.{units, Figure2}
+use Rattle.judge.specs.Constraints.{units, Allotted}
 use Rattle.dispatch.specs.declared.Run.{Run}
 use Rattle.dispatch.specs.Dues
 use Rattle.dispatch.specs.Dues.{carriedOf, slowAfter}
@@ -49,8 +49,9 @@ factsOf p table =
 abbrev pub stateOf : Run → State
 stateOf run = record { t = run .clock .0; slow = run .slow; carried = carriedOf run }
 
--- A plan that meets figure 2 meets the hypotheses of the slot laws.
-pub good-plan : (p : Plan) (table : List ℕ) → Figure2 p table → Good (factsOf p table)
+-- A plan within rules 15 to 17 meets what the slot laws ask of times and allotments. What they ask of
+-- the floor is rule 18 as it stands.
+pub good-plan : (p : Plan) (table : List ℕ) → Allotted p table → Good (factsOf p table)
 good-plan p table a =
     record {
       rise = boundary-rises p;
@@ -61,7 +62,6 @@ good-plan p table a =
           a .inside i j h k (rw (lt-leb (boundary p (suc j)) (deadline p i) e, and-false (leb (release p i) (boundary p j))) refl);
       exact = a .exact;
       within = a .within;
-      floor = a .floor;
     }
 
 -- An entry of a list after an addition.

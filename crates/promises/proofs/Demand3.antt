@@ -35,7 +35,7 @@ use Rattle.promises.proofs.Progress.{regular-allowed, deadline-reached,
 pub promise-kept : (p : Plan) (table : List ℕ) → judged p table ≡ [] → (night : List Call) → Allowed p table night → Kept p night
 promise-kept p table e night a =
     let w = judge-is-exact p table .0 e in
-    kept p table (sound-bounded p table (w .1)) (w .2) night a
+    kept p table (sound-bounded p table (w .1)) (w .2 .allotted) (w .2 .floor) night a
 
 -- With progress: after refused calls and k regular ones, where k slots reach from the first release
 -- to a HI job's deadline, the job has had exactly its size, all of it inside its window.

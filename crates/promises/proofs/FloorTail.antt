@@ -35,7 +35,7 @@ between f l D i = sum (λ j. on (leb l j && leb (f .b (suc j)) D) (f .x i j)) (f
 abbrev pub class : Facts → ℕ → ℕ → Bool
 class f D i = f .hi i && leb (f .dl i) D
 
--- The hypotheses on a plan, which an accepted plan meets.
+-- What the laws ask of a plan's times and allotments: rules 15 to 17 give it.
 pub record Good (f : Facts) : Type 0 where
   pub rise : (j : ℕ) → j < f .K → f .b j < f .b (suc j)
   pub starts : (i : ℕ) → i < f .N → (m : ℕ) × (m ≤ f .K) × (f .b m ≡ f .rel i)
@@ -44,7 +44,10 @@ pub record Good (f : Facts) : Type 0 where
   pub late : (i j : ℕ) → i < f .N → j < f .K → f .dl i < f .b (suc j) → f .x i j ≡ 0
   pub exact : (i : ℕ) → i < f .N → sum (f .x i) (f .K) ≡ f .size i
   pub within : (j : ℕ) → j < f .K → sum (λ i. f .x i j) (f .N) ≤ f .n * (f .b (suc j) - f .b j)
-  pub floor : (l m : ℕ) → l < m → m ≤ f .K → sum (λ i. on (class f (f .b m) i) (between f l (f .b m) i)) (f .N) ≤ f .d * (f .b m - f .b l)
+
+-- What rule 18 adds.
+abbrev pub GoodFloor : Facts → Type 0
+GoodFloor f = (l m : ℕ) → l < m → m ≤ f .K → sum (λ i. on (class f (f .b m) i) (between f l (f .b m) i)) (f .N) ≤ f .d * (f .b m - f .b l)
 
 -- The allotments of job i before interval l, and what is left of its size after them.
 abbrev pub before : Facts → ℕ → ℕ → ℕ
@@ -117,14 +120,14 @@ module _ (f : Facts) (good : Good f) where
 
   -- The floor tail: from every interval on, what is left of the HI jobs due at or before D
   -- is at most the floor's capacity until D.
-  pub floor-tail : (l D : ℕ) → l ≤ f .K → sum (λ i. on (class f D i) (tail f l i)) (f .N) ≤ f .d * (D - f .b l)
-  floor-tail l zero e =
+  pub floor-tail : GoodFloor f → (l D : ℕ) → l ≤ f .K → sum (λ i. on (class f D i) (tail f l i)) (f .N) ≤ f .d * (D - f .b l)
+  floor-tail floor l zero e =
       omega (
         arith,
         sum-none (λ i. on (class f 0 i) (tail f l i)) (f .N)
             (λ i h. on-none (class f 0 i) (tail f l i) (λ c. tail-ended i l h e (omega (arith, in-class 0 i c)))),
       )
-  floor-tail l (suc D) e = ⊎-elim at-deadline (between-deadlines (floor-tail l D e)) (due-at (suc D) (f .N))
+  floor-tail floor l (suc D) e = ⊎-elim at-deadline (between-deadlines (floor-tail floor l D e)) (due-at (suc D) (f .N))
     where
       S : ℕ → ℕ
       S t = sum (λ i. on (class f t i) (tail f l i)) (f .N)
@@ -138,7 +141,7 @@ module _ (f : Facts) (good : Good f) where
               if-less l (g .0)
               (λ o. rw (← is)
               (rw (sum-ext _ _ (f .N) (λ i h. on-ext (class f (f .b (g .0)) i) _ _ (λ c. tail-between i l (g .0) h e (in-class (f .b (g .0)) i c))))
-              at (good .floor l (g .0) o (g .1))))
+              at (floor l (g .0) o (g .1))))
               (λ o. omega (
                 arith,
                 sum-none (λ i. on (class f (suc D) i) (tail f l i)) (f .N)

@@ -1,5 +1,5 @@
 -- Demand 3: what is promised holds at every point of every night, for any speeds
--- from floor to normal and any refused calls.
+-- from floor to normal and any refused calls. All but the floor guarantee needs rules 15 to 17 alone.
 use mathlib.Core.Path.{_≡_, refl, sym, _∙_, ap}
 use mathlib.Core.Logic.{⊎-elim}
 use mathlib.Core.Bool.{true, false, true≢false, _&&_, _||_, or-false, and-false}
@@ -16,10 +16,10 @@ use Rattle.plan.specs.Rules.{counted, size, deadline, isHi}
 use Rattle.plan.specs.Boundaries.{intervals, present}
 use Rattle.plan.specs.declared.kinds.Plan.{Plan}
 use Rattle.plan.proofs.PresentInterval.{first-boundary, an-interval}
-use Rattle.judge.specs.Constraints.{Figure2}
+use Rattle.judge.specs.Constraints.{Allotted, FloorRule}
 use Rattle.plan.specs.Report.{Report}
 use Rattle.dispatch.specs.declared.Run.{Run}
-use Rattle.dispatch.specs.Dues.{carriedOf, live}
+use Rattle.dispatch.specs.Dues.{carriedOf, inItsWindow}
 use Rattle.dispatch.specs.Step.{started, slotFault, granted, advanced, slotBy, stepped}
 use Rattle.base.proofs.Logic.{if-true, neither}
 use Rattle.base.proofs.Choice.{on-zero}
@@ -32,9 +32,9 @@ use Rattle.plan.proofs.Soundness.{Bounded}
 use Rattle.promises.proofs.SameSlot.{done, same-slot}
 use Rattle.promises.proofs.CallAsSlot.{factsOf, stateOf, good-plan, slot-of}
 
-module _ (p : Plan) (table : List ℕ) (rules : Bounded p) (accepted : Figure2 p table) where
+module _ (p : Plan) (table : List ℕ) (rules : Bounded p) (allotted : Allotted p table) where
   good : Good (factsOf p table)
-  good = good-plan p table accepted
+  good = good-plan p table allotted
 
   -- The invariant at a point of a night.
   record Holds (night : List Call) : Type 0 where
@@ -42,7 +42,6 @@ module _ (p : Plan) (table : List ℕ) (rules : Bounded p) (accepted : Figure2 p
     counts : (i : ℕ) → i < counted p → carriedOf (runAfter p night) i ≡ had p night i
     in-window : (i : ℕ) → i < counted p → hadInWindow p night i ≡ had p night i
     no-more : NoMore (factsOf p table) (stateOf (runAfter p night))
-    floor : FloorHolds (factsOf p table) (stateOf (runAfter p night))
     pace : runAfter p night .slow ≡ false → (l : ℕ) × OnPace (factsOf p table) (stateOf (runAfter p night)) l
     mark : runAfter p night .slow ≡ slowed p night
     in-time : (i : ℕ) → i < counted p → runAfter p night .slow ≡ true → slowedBefore p (deadline p i) night ≡ false
@@ -62,7 +61,6 @@ module _ (p : Plan) (table : List ℕ) (rules : Bounded p) (accepted : Figure2 p
         counts = none;
         in-window = λ i h. refl;
         no-more = λ i h. omega (arith, none i h);
-        floor = begins-with-floor (factsOf p table) good (stateOf (started p)) at-first none;
         pace = λ e. (0, begins-on-pace (factsOf p table) good (stateOf (started p)) at-first none some-interval);
         mark = refl;
         in-time = λ i h e. absurd (true≢false (sym e));
@@ -89,9 +87,8 @@ module _ (p : Plan) (table : List ℕ) (rules : Bounded p) (accepted : Figure2 p
       record {
         long = rw run-is (h .long);
         counts = λ i k. rw (run-is, nothing i) (omega (arith, h .counts i k));
-        in-window = λ i k. rw (nothing i, on-zero (live p (clockAt p earlier) i)) (omega (arith, h .in-window i k));
+        in-window = λ i k. rw (nothing i, on-zero (inItsWindow p (clockAt p earlier) i)) (omega (arith, h .in-window i k));
         no-more = rw run-is (h .no-more);
-        floor = rw run-is (h .floor);
         pace = rw run-is (h .pace);
         mark = rw (run-is, e, or-false (slowed p earlier)) (h .mark);
         in-time = λ i k s b. rw run-is (h .in-time i k (rw run-is at s) (neither (slowedBefore p (deadline p i) earlier) _ b .0));
@@ -99,7 +96,7 @@ module _ (p : Plan) (table : List ℕ) (rules : Bounded p) (accepted : Figure2 p
         speeds = (h .speeds, omega (arith, sum-none (given p c earlier) (counted p) (λ i k. nothing i)));
       }
 
-  module _ (c : Call) (earlier : List Call) (h : Holds earlier) (floor-speed : p .d .0 ≤ c .speed)
+  module _ (c : Call) (earlier : List Call) (h : Holds earlier)
       (is : latest p c earlier ≡ stepped p table (runAfter p earlier) (c .speed) (c .row))
       (clear : slotFault p table (runAfter p earlier) (c .speed) (c .row) ≡ []) where
     abbrev was : Run
@@ -131,21 +128,21 @@ module _ (p : Plan) (table : List ℕ) (rules : Bounded p) (accepted : Figure2 p
     slot : SlotInvariants.Slot (factsOf p table) (stateOf was) (stateOf next) here (c .speed) grant
     slot = slot-of p table was (c .speed) (c .row) (done p table was (c .speed) (c .row) clear) (h .long)
 
-    -- A job that is not live gets nothing, nor does a LO job under the slow mark.
-    not-live : (i : ℕ) → i < counted p → live p (was .clock .0) i ≡ false → grant i ≡ 0
-    not-live i k e = nothing (rw e at (slot .within i k))
+    -- A job that is not in its window gets nothing, nor does a LO job under the slow mark.
+    not-in-window : (i : ℕ) → i < counted p → inItsWindow p (was .clock .0) i ≡ false → grant i ≡ 0
+    not-in-window i k e = nothing (rw e at (slot .within i k))
       where
         nothing : grant i ≤ 0 → grant i ≡ 0
         nothing m = omega arith
 
     not-hi : (i : ℕ) → i < counted p → isHi p i ≡ false → next .slow ≡ true → grant i ≡ 0
-    not-hi i k l s = nothing (rw (l, s, and-false (live p (was .clock .0) i)) at (slot .within i k))
+    not-hi i k l s = nothing (rw (l, s, and-false (inItsWindow p (was .clock .0) i)) at (slot .within i k))
       where
         nothing : grant i ≤ 0 → grant i ≡ 0
         nothing m = omega arith
 
     after-no-more : NoMore (factsOf p table) (stateOf next)
-    after-no-more = keeps-no-more (factsOf p table) good (stateOf was) (stateOf next) here (c .speed) grant slot (h .no-more)
+    after-no-more = keeps-no-more (factsOf p table) (stateOf was) (stateOf next) here (c .speed) grant slot (h .no-more)
 
     -- A job that had its size still has it.
     stays : (i : ℕ) → i < counted p → carriedOf was i ≡ size p i → carriedOf next i ≡ size p i
@@ -172,13 +169,10 @@ module _ (p : Plan) (table : List ℕ) (rules : Bounded p) (accepted : Figure2 p
           long = rw run-is (added-length (counted p) (was .carried) (granted p table was (c .speed) (c .row)) ∙ h .long);
           counts = λ i k. rw (run-is, given-is i) (omega (arith, slot .adds i k, h .counts i k));
           in-window = λ i k.
-              if-true (live p (was .clock .0) i)
+              if-true (inItsWindow p (was .clock .0) i)
               (λ e. rw e (omega (arith, h .in-window i k)))
-              (λ e. rw (e, given-is i, not-live i k e) (omega (arith, h .in-window i k)));
+              (λ e. rw (e, given-is i, not-in-window i k e) (omega (arith, h .in-window i k)));
           no-more = rw run-is after-no-more;
-          floor =
-              rw run-is
-              (keeps-floor (factsOf p table) good (stateOf was) (stateOf next) here (c .speed) grant slot floor-speed (h .no-more) (h .floor));
           pace = rw run-is paced;
           mark = rw (run-is, answer-is) (ap (λ b. b || ltb (c .speed) (p .n .0)) (h .mark));
           in-time = λ i k s b.
@@ -203,22 +197,32 @@ module _ (p : Plan) (table : List ℕ) (rules : Bounded p) (accepted : Figure2 p
             (λ s. rw (given-is i, not-hi i k l s, on-zero (slowed p earlier || isSlow p c earlier)) (omega (arith, h .discards i k l)))
             (λ s. rw (answer-is, ← (h .mark), s) (omega (arith, h .discards i k l)))
 
-  -- The invariant holds at every point of a night.
-  holds : (night : List Call) → Allowed p table night → Holds night
+  -- A call is refused, or it is a slot of plan p at a speed of at least d.
+  by-call : {A : Type 0} (c : Call) (earlier : List Call) → Allowed p table (c ∷ earlier) → (isDone (latest p c earlier .answer) ≡ false → A)
+      → (p .d .0 ≤ c .speed → latest p c earlier ≡ stepped p table (runAfter p earlier) (c .speed) (c .row)
+      → slotFault p table (runAfter p earlier) (c .speed) (c .row) ≡ [] → A)
+      → A
   unfolding Allowed stepped
-  holds [] a = begins
-  holds (c ∷ earlier) a =
-      ⊎-elim
-      (λ e. holds-refused c earlier e (holds earlier (a .0)))
-      (λ w. unchanged (holds earlier (a .0)) (sym (same-slot p table (c .plan) (c .table) (w .0) (runAfter p earlier) (c .speed) (c .row))) (w .1))
+  by-call {A} c earlier a left done-slot =
+      ⊎-elim left
+      (λ w. unchanged (sym (same-slot p table (c .plan) (c .table) (w .0) (runAfter p earlier) (c .speed) (c .row))) (w .1))
       (a .1)
     where
-      unchanged : Holds earlier → latest p c earlier ≡ stepped p table (runAfter p earlier) (c .speed) (c .row) → p .d .0 ≤ c .speed → Holds (c ∷ earlier)
-      unchanged h is f = go (slotFault p table (runAfter p earlier) (c .speed) (c .row)) refl
+      unchanged : latest p c earlier ≡ stepped p table (runAfter p earlier) (c .speed) (c .row) → p .d .0 ≤ c .speed → A
+      unchanged is f = go (slotFault p table (runAfter p earlier) (c .speed) (c .row)) refl
         where
-          go : (r : Report) → slotFault p table (runAfter p earlier) (c .speed) (c .row) ≡ r → Holds (c ∷ earlier)
-          go [] e = holds-done c earlier h f is e
-          go (number ∷ rest) e = holds-refused c earlier (ap (λ s. isDone (s .answer)) (is ∙ ap (λ r. slotBy r p table (runAfter p earlier) (c .speed) (c .row)) e)) h
+          go : (r : Report) → slotFault p table (runAfter p earlier) (c .speed) (c .row) ≡ r → A
+          go [] e = done-slot f is e
+          go (number ∷ rest) e = left (ap (λ s. isDone (s .answer)) (is ∙ ap (λ r. slotBy r p table (runAfter p earlier) (c .speed) (c .row)) e))
+
+  -- The invariant holds at every point of a night.
+  holds : (night : List Call) → Allowed p table night → Holds night
+  unfolding Allowed
+  holds [] a = begins
+  holds (c ∷ earlier) a =
+      by-call c earlier a
+      (λ e. holds-refused c earlier e (holds earlier (a .0)))
+      (λ f is e. holds-done c earlier (holds earlier (a .0)) is e)
 
   -- What the run carries for a job is what the job has had: the sum of its grants.
   pub carried-is-had : (night : List Call) → Allowed p table night → (i : ℕ) → i < counted p → carriedOf (runAfter p night) i ≡ had p night i
@@ -228,23 +232,40 @@ module _ (p : Plan) (table : List ℕ) (rules : Bounded p) (accepted : Figure2 p
   pub mark-is-slowed : (night : List Call) → Allowed p table night → runAfter p night .slow ≡ slowed p night
   mark-is-slowed night a = holds night a .mark
 
-  pub kept : (night : List Call) → Allowed p table night → Kept p night
-  kept night a =
-      let h = holds night a in
-      let run = runAfter p night in
-      let whole : (i : ℕ) → i < counted p → carriedOf run i ≡ size p i → (had p night i ≡ size p i) × (hadInWindow p night i ≡ size p i)
-      = λ i k e. (omega (arith, h .counts i k), omega (arith, h .counts i k, h .in-window i k)) in
-      record {
-        essential = λ i k hi o. whole i k (floor-ended (factsOf p table) good (stateOf run) (h .floor) (h .no-more) i k hi o);
-        others = λ i k o b. whole i k (in-time i k o b h);
-        discarded = h .discards;
-        no-more = λ i k. omega (arith, h .counts i k, h .no-more i k);
-        speeds = h .speeds;
-      }
-    where
-      in-time : (i : ℕ) → i < counted p → deadline p i ≤ runAfter p night .clock .0 → slowedBefore p (deadline p i) night ≡ false → Holds night
-          → carriedOf (runAfter p night) i ≡ size p i
-      in-time i k o b h =
-          if-true (runAfter p night .slow)
-          (λ s. h .in-time i k s b)
-          (λ s. let w = h .pace s in on-pace-ended (factsOf p table) good (stateOf (runAfter p night)) (w .0) (w .1) (h .no-more) i k o)
+  -- A job whose deadline the clock has reached has its size, if no slow slot began before its deadline.
+  in-time : (night : List Call) → Holds night → (i : ℕ) → i < counted p → deadline p i ≤ runAfter p night .clock .0
+      → slowedBefore p (deadline p i) night ≡ false → carriedOf (runAfter p night) i ≡ size p i
+  in-time night h i k o b =
+      if-true (runAfter p night .slow)
+      (λ s. h .in-time i k s b)
+      (λ s. let w = h .pace s in on-pace-ended (factsOf p table) good (stateOf (runAfter p night)) (w .0) (w .1) (h .no-more) i k o)
+
+  module _ (floor-rule : FloorRule p table) where
+    -- The floor guarantee holds at every point of a night.
+    floor-holds : (night : List Call) → Allowed p table night → FloorHolds (factsOf p table) (stateOf (runAfter p night))
+    unfolding runAfter started Allowed
+    floor-holds [] a =
+        begins-with-floor (factsOf p table) good (stateOf (started p)) floor-rule (sym (first-boundary p (rules .some) (rules .windows)))
+        (λ i h. getD-replicate mostJobs i 0 0 (omega (arith, rules .few)))
+    floor-holds (c ∷ earlier) a =
+        by-call c earlier a
+        (λ e. rw (refused-keeps c earlier e) (floor-holds earlier (a .0)))
+        (λ f is e.
+        let h = holds earlier (a .0) in
+        rw (run-is c earlier h is e)
+        (keeps-floor (factsOf p table) good (stateOf (runAfter p earlier)) (stateOf (next c earlier h is e)) (here c earlier h is e) (c .speed)
+        (grant c earlier h is e) (slot c earlier h is e) floor-rule f (h .no-more) (floor-holds earlier (a .0))))
+
+    pub kept : (night : List Call) → Allowed p table night → Kept p night
+    kept night a =
+        let h = holds night a in
+        let run = runAfter p night in
+        let whole : (i : ℕ) → i < counted p → carriedOf run i ≡ size p i → (had p night i ≡ size p i) × (hadInWindow p night i ≡ size p i)
+        = λ i k e. (omega (arith, h .counts i k), omega (arith, h .counts i k, h .in-window i k)) in
+        record {
+          essential = λ i k hi o. whole i k (floor-ended (factsOf p table) (stateOf run) (floor-holds night a) (h .no-more) i k hi o);
+          others = λ i k o b. whole i k (in-time night h i k o b);
+          discarded = h .discards;
+          no-more = λ i k. omega (arith, h .counts i k, h .no-more i k);
+          speeds = h .speeds;
+        }

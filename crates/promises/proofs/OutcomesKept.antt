@@ -52,11 +52,11 @@ module _ (p : Plan) (table : List ℕ) (accepted : judged p table ≡ []) where
 
   -- What the run carries for a job is the sum of the job's grants.
   pub carried-is-had : (night : List Call) → Allowed p table night → (i : ℕ) → i < counted p → carriedOf (runAfter p night) i ≡ had p night i
-  carried-is-had = NightInvariant.carried-is-had p table rules (judge-is-exact p table .0 accepted .2)
+  carried-is-had = NightInvariant.carried-is-had p table rules (judge-is-exact p table .0 accepted .2 .allotted)
 
   -- The run's slow mark is set if some slot was slow, and otherwise not.
   pub mark-is-slowed : (night : List Call) → Allowed p table night → runAfter p night .slow ≡ slowed p night
-  mark-is-slowed = NightInvariant.mark-is-slowed p table rules (judge-is-exact p table .0 accepted .2)
+  mark-is-slowed = NightInvariant.mark-is-slowed p table rules (judge-is-exact p table .0 accepted .2 .allotted)
 
   module _ (night : List Call) (allowed : Allowed p table night) where
     abbrev run : Run

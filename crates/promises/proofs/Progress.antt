@@ -115,7 +115,7 @@ module _ (p : Plan) (table : List ℕ) (accepted : judged p table ≡ []) where
       (le-leb (run .clock .0) (lastDeadline p) (clock-not-past night a)))
       (every-all _ (counted p)
       (λ i h. le-leb (carriedOf run i) (size p i)
-      (omega (arith, carried-is-had p table rules (w .2) night a i h, kept p table rules (w .2) night a .no-more i h))))
+      (omega (arith, carried-is-had p table rules (w .2 .allotted) night a i h, kept p table rules (w .2 .allotted) (w .2 .floor) night a .no-more i h))))
 
   -- Before the last deadline the accepted plan is not refused, if speed and grant row are allowed.
   no-fault : (night : List Call) → Allowed p table night → (v : ℕ) (row : List ℕ) → v ≤ p .n .0 → counted p ≤ length row

@@ -11,7 +11,7 @@ use Rattle.base.proofs.Choice.{on-parts, on-mono}
 use Rattle.base.specs.Sum.{sum, on}
 use Rattle.base.proofs.SumLaws.{sum-ext, sum-mono, sum-none, sum-add, term-le}
 use Rattle.base.proofs.Logic.{both, if-less, neither}
-use Rattle.promises.proofs.FloorTail.{Facts, Good, class, before, tail, rises, rises-strictly, before-le, tail-ended, floor-tail}
+use Rattle.promises.proofs.FloorTail.{Facts, Good, GoodFloor, class, before, tail, rises, rises-strictly, before-le, tail-ended, floor-tail}
 
 -- The state of a run: the clock, the slow mark, and the units carried for each job.
 pub record State : Type 0 where
@@ -19,9 +19,13 @@ pub record State : Type 0 where
   pub slow : Bool
   pub carried : ℕ → ℕ
 
+-- Job i is in its window at time t.
+abbrev pub inItsWindow : Facts → ℕ → ℕ → Bool
+inItsWindow f t i = leb (f .rel i) t && ltb t (f .dl i)
+
 -- Job i is live at the clock.
 abbrev pub alive : Facts → State → ℕ → Bool
-alive f s i = leb (f .rel i) (s .t) && ltb (s .t) (f .dl i)
+alive f s i = inItsWindow f (s .t) i
 
 -- The goal of job i in interval l: its size under the slow mark, otherwise its allotments up
 -- to and including l but at most its size.
@@ -77,11 +81,11 @@ claim-left f s l slow i = go (alive f s i && (f .hi i || not slow)) slow
     go true false = omega arith
     go false b = omega arith
 
-module _ (f : Facts) (good : Good f) (s s′ : State) (l v : ℕ) (g : ℕ → ℕ) (slot : Slot f s s′ l v g) where
-  -- A slot preserves that no job has more than its size.
-  pub keeps-no-more : NoMore f s → NoMore f s′
-  keeps-no-more h i e = rw (slot .adds i e) (omega (arith, slot .within i e, claim-left f s l (s′ .slow) i, h i e))
+-- A slot preserves that no job has more than its size.
+pub keeps-no-more : (f : Facts) (s s′ : State) (l v : ℕ) (g : ℕ → ℕ) → Slot f s s′ l v g → NoMore f s → NoMore f s′
+keeps-no-more f s s′ l v g slot h i e = rw (slot .adds i e) (omega (arith, slot .within i e, claim-left f s l (s′ .slow) i, h i e))
 
+module _ (f : Facts) (good : Good f) (s s′ : State) (l v : ℕ) (g : ℕ → ℕ) (slot : Slot f s s′ l v g) where
   -- A job not yet released has no allotments up to and including this interval.
   not-begun : (i : ℕ) → i < f .N → s .t < f .rel i → before f i (suc l) ≡ 0
   not-begun i e m = sum-none (f .x i) (suc l) (λ j h. good .early i j e (omega (arith, slot .inside .0)) (starts-later j h))
@@ -112,8 +116,8 @@ module _ (f : Facts) (good : Good f) (s s′ : State) (l v : ℕ) (g : ℕ → �
 
   -- A slot at the floor or above preserves the floor guarantee, under
   -- either mark and from any run within its sizes.
-  pub keeps-floor : f .d ≤ v → NoMore f s → FloorHolds f s → FloorHolds f s′
-  keeps-floor floor-speed no-more floor D =
+  pub keeps-floor : GoodFloor f → f .d ≤ v → NoMore f s → FloorHolds f s → FloorHolds f s′
+  keeps-floor good-floor floor-speed no-more floor D =
       rw (slot .clock)
       (omega (arith, given, claimed, slot .first D, floor D, later, one-less (f .d) D (s .t)))
     where
@@ -145,7 +149,7 @@ module _ (f : Facts) (good : Good f) (s s′ : State) (l v : ℕ) (g : ℕ → �
       later =
           le-trans
           (sum-mono _ _ (f .N) (λ i e. on-mono (c i) _ _ (λ q. claim-leaves no-more floor i e (both (f .hi i) (leb (f .dl i) D) q .0))))
-          (le-trans (floor-tail f good (suc l) D (slot .inside .0)) (mul-le-mul-left (f .d) sooner))
+          (le-trans (floor-tail f good good-floor (suc l) D (slot .inside .0)) (mul-le-mul-left (f .d) sooner))
         where
           sooner : D - f .b (suc l) ≤ D - suc (s .t)
           sooner = omega (arith, slot .inside .2)
@@ -185,6 +189,14 @@ module _ (f : Facts) (good : Good f) (s s′ : State) (l v : ℕ) (g : ℕ → �
           sym (sum-add _ _ (f .N))
           ∙ sum-ext _ _ (f .N)
           (λ i e. rw (slot .adds i e) (omega (arith, slot .within i e, claim-is-rest pace clear i e, pace .most i e)))
+
+-- By the floor guarantee, every HI job whose deadline the clock has reached has its size.
+pub floor-ended : (f : Facts) (s : State) → FloorHolds f s → NoMore f s → (i : ℕ) → i < f .N → f .hi i ≡ true → f .dl i ≤ s .t → s .carried i ≡ f .size i
+floor-ended f s floor no-more i h is-hi o =
+    let no-time : f .dl i - s .t ≡ 0 = omega arith in
+    let nothing : f .d * (f .dl i - s .t) ≡ 0 = ap (λ m. f .d * m) no-time ∙ mul-zero (f .d) in
+    let term = term-le (λ k. on (class f (f .dl i) k) (f .size k - s .carried k)) (f .N) i h in
+    omega (arith, rw (is-hi, le-leb (f .dl i) (f .dl i) (omega arith)) at term, floor (f .dl i), no-more i h)
 
 module _ (f : Facts) (good : Good f) (s : State) where
   -- On pace at the end of an interval, every job has exactly its allotments up to then.
@@ -247,24 +259,16 @@ module _ (f : Facts) (good : Good f) (s : State) where
       = omega (arith, rises f good (good .ends i h .0) l m (omega (arith, pace .inside .0)), good .ends i h .2) in
       omega (arith, pace .least i h, tail-ended f good i l h (omega (arith, pace .inside .0)) early, no-more i h))
 
-  -- By the floor guarantee, every HI job whose deadline the clock has reached has its size.
-  pub floor-ended : FloorHolds f s → NoMore f s → (i : ℕ) → i < f .N → f .hi i ≡ true → f .dl i ≤ s .t → s .carried i ≡ f .size i
-  floor-ended floor no-more i h is-hi o =
-      let no-time : f .dl i - s .t ≡ 0 = omega arith in
-      let nothing : f .d * (f .dl i - s .t) ≡ 0 = ap (λ m. f .d * m) no-time ∙ mul-zero (f .d) in
-      let term = term-le (λ k. on (class f (f .dl i) k) (f .size k - s .carried k)) (f .N) i h in
-      omega (arith, rw (is-hi, le-leb (f .dl i) (f .dl i) (omega arith)) at term, floor (f .dl i), no-more i h)
-
   -- A run begins with the floor guarantee, and on pace.
-  pub begins-with-floor : s .t ≡ f .b 0 → ((i : ℕ) → i < f .N → s .carried i ≡ 0) → FloorHolds f s
+  pub begins-with-floor : GoodFloor f → s .t ≡ f .b 0 → ((i : ℕ) → i < f .N → s .carried i ≡ 0) → FloorHolds f s
   unfolding sum
-  begins-with-floor at none D =
+  begins-with-floor good-floor at none D =
       rw (
         at,
         sum-ext (λ i. on (class f D i) (f .size i - s .carried i)) (λ i. on (class f D i) (tail f 0 i)) (f .N)
             (λ i h. ap (λ c. on (class f D i) (f .size i - c)) (none i h)),
       )
-      (floor-tail f good 0 D (omega arith))
+      (floor-tail f good good-floor 0 D (omega arith))
 
   pub begins-on-pace : s .t ≡ f .b 0 → ((i : ℕ) → i < f .N → s .carried i ≡ 0) → 0 < f .K → OnPace f s 0
   unfolding sum

@@ -14,7 +14,7 @@ use Rattle.plan.specs.Same.{Same}
 use Rattle.plan.specs.declared.kinds.Plan.{Plan}
 use Rattle.plan.specs.Report.{Report}
 use Rattle.dispatch.specs.declared.Run.{Run}
-use Rattle.dispatch.specs.Dues.{live}
+use Rattle.dispatch.specs.Dues.{inItsWindow}
 use Rattle.dispatch.specs.Step.{SlotEffect, started, stepped, met, missed, refused, outcome}
 
 -- One slot's call, with any plan, table, speed and grant row.
@@ -55,7 +55,7 @@ had p (c ∷ earlier) i = had p earlier i + given p c earlier i
 -- What job i has had in slots inside its window.
 unfoldable pub hadInWindow : Plan → List Call → Position → Amount
 hadInWindow p [] i = 0
-hadInWindow p (c ∷ earlier) i = hadInWindow p earlier i + on (live p (clockAt p earlier) i) (given p c earlier i)
+hadInWindow p (c ∷ earlier) i = hadInWindow p earlier i + on (inItsWindow p (clockAt p earlier) i) (given p c earlier i)
 
 -- A slow slot is a done call with a speed below n.
 abbrev pub isSlow : Plan → Call → List Call → Bool

@@ -35,9 +35,10 @@ share p table run v i =
     let claims = claim p table run (slowAfter p run v) in
     min (claims i) (v - sum (λ k. on (before p k i) (claims k)) (counted p))
 
--- The claim as the code stores it, capped at the speed, which changes no share (`share-from-rows`).
-abbrev pub capped : Plan → List ℕ → Run → Bool → ℕ → ℕ → ℕ
-capped p table run slow v i = min (claim p table run slow i) v
+-- The claim as the code stores it, capped at the normal rate, which changes no share at a speed of at
+-- most that rate (`share-from-rows`).
+abbrev pub capped : Plan → List ℕ → Run → Bool → ℕ → ℕ
+capped p table run slow i = min (claim p table run slow i) (p .n .0)
 
 -- The rank, which orders service: HI below every LO, then by deadline, then by position. The job of
 -- lesser rank is served first (`before-by-rank`).

@@ -12,22 +12,22 @@ use Rattle.dispatch.proofs.claims.capped_at.Tie as tie
 over-requires : tie.Need-over-requires
 over-requires c κs = search needs
 
--- What the speed carries in one slot.
-most : (c : tie.After-over) → c .over .result .0 ≡ c .before .args .v .0
+-- What the rate carries in one slot.
+most : (c : tie.After-over) → c .over .result .0 ≡ c .before .args .rate .0
 most c = ap (λ (u : Units). u .0) (c .over .ensures) ∙ mul-one _
 
 returns : tie.Need-returns
 returns c =
     let at-over = c .before .before .before in
     let a = at-over .before .args in
-    let least : a .due .0 ≡ min (a .due .0) (a .v .0) = omega (arith, most (at-over)) in
+    let least : a .due .0 ≡ min (a .due .0) (a .rate .0) = omega (arith, most (at-over)) in
     λ t. record { 0 = least t }
 
 returns-2 : tie.Need-returns-2
 returns-2 c =
     let at-over = c .before .before .before in
     let a = at-over .before .args in
-    let least : at-over .over .result .0 ≡ min (a .due .0) (a .v .0) = omega (arith, most (at-over)) in
+    let least : at-over .over .result .0 ≡ min (a .due .0) (a .rate .0) = omega (arith, most (at-over)) in
     λ t. record { 0 = least t }
 
 pub capped-at-spec : {M : Type 1} → statement M

@@ -1,4 +1,4 @@
--- `dispatch::claims::claim_of` meets its contract: what is due, capped at the speed.
+-- `dispatch::claims::claim_of` meets its contract: what is due, capped at the normal rate.
 use mathlib.Core.Path.{refl}
 use borrow.Author.Needs.{needs}
 use Rattle.dispatch.proofs.claims.claim_of.Statement.{statement}

@@ -5,6 +5,7 @@ use Prim.Native.Nat.{_+_, _-_, _≤_}
 use native.Mathlib.Omega.{arith}
 use borrow.Author.Needs.{needs}
 use lib.ListN.{length, getD}
+use Rattle.plan.specs.Edition.{mostRate}
 use Rattle.plan.specs.declared.kinds.Units.{Units}
 use Rattle.dispatch.specs.inner.Shares.{rowShare, filled}
 use Rattle.dispatch.proofs.RowShares.{filled-start, filled-next, filled-length, filled-rest}
@@ -26,11 +27,11 @@ same-here c =
     let i = c .before .loop .i in
     ap (λ l. getD l i 0) (c .before .loop .inv .2) ∙ filled-rest (λ k. getD (a .carried .now) k 0 + rowShare (a .ranks .now) (a .claims .now) (a .jobs) (a .v .0) k) i (a .carried .now) i (omega arith)
 
--- The share as a number; like the speed it fits 16 bits.
+-- The share as a number, at most the greatest rate.
 granted : (c : tie.After-share-of Inv-loop μ-loop)
     → (c .share-of .result .0
     ≡ rowShare (c .before .before .before .before .args .ranks .now) (c .before .before .before .before .args .claims .now) (c .before .before .before .before .args .jobs) (c .before .before .before .before .args .v .0) (c .before .before .loop .i))
-    × (c .share-of .result .0 ≤ 65535)
+    × (c .share-of .result .0 ≤ mostRate)
 granted c =
     let is = ap (λ (u : Units). u .0) (c .share-of .ensures) in
     (is, omega (arith, is, c .before .before .before .before .pre .2 (c .before .before .loop .i) (omega arith)))

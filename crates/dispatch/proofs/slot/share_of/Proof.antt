@@ -8,12 +8,13 @@ use lib.Dec.{ltb}
 use lib.ListN.{getD}
 use Rattle.base.specs.Sum.{sum, on}
 use Rattle.base.proofs.SumLaws.{sum-start, sum-step}
+use Rattle.plan.specs.Edition.{mostRate}
 use Rattle.dispatch.proofs.slot.share_of.Statement.{statement}
 use Rattle.dispatch.proofs.slot.share_of.Tie as tie
 
 abbrev Inv-loop : tie.InvT-loop
 Inv-loop ranks claims jobs v i rank earlier₀ k₀ earlier k =
-    (k ≤ jobs) × (earlier ≡ sum (λ m. on (ltb (getD ranks m 0) (getD ranks i 0)) (getD claims m 0)) k) × (earlier ≤ 65535 * k)
+    (k ≤ jobs) × (earlier ≡ sum (λ m. on (ltb (getD ranks m 0) (getD ranks i 0)) (getD claims m 0)) k) × (earlier ≤ mostRate * k)
 
 abbrev μ-loop : tie.MeasureT-loop
 μ-loop ranks claims jobs v i rank earlier₀ k₀ earlier k = jobs - k

@@ -45,23 +45,23 @@ allotted table i spans =
     (λ k l. ap (λ x. getD table (mostIntervals * i + x) 0) (one-mul k))
 
 -- The claim that one loop iteration computes, from the results of the calls in it.
-one-claim : (p : Plan) (table : List ℕ) (run : Run) (slow : Bool) (v i : ℕ) {total spans : ℕ} {claim carried : Units}
-    → claim ≡ record { 0 = min (on (served p (run .clock .0) slow i) (cond slow (size p i) (min (size p i) total) - carried .0)) v }
+one-claim : (p : Plan) (table : List ℕ) (run : Run) (slow : Bool) (i : ℕ) {total spans : ℕ} {claim carried : Units}
+    → claim ≡ record { 0 = min (on (served p (run .clock .0) slow i) (cond slow (size p i) (min (size p i) total) - carried .0)) (p .n .0) }
     → carried ≡ record { 0 = carriedOf run i }
     → total ≡ sum (strided table (mostIntervals * i) 1) spans
     → spans ≡ suc (present p (run .clock .0))
-    → claim .0 ≡ capped p table run slow v i
-one-claim p table run slow v i is by-units by-sum by-begun =
+    → claim .0 ≡ capped p table run slow i
+one-claim p table run slow i is by-units by-sum by-begun =
     ap (λ (u : Units). u .0) is ∙ rw (by-units, by-sum, by-begun, allotted table i (suc (present p (run .clock .0)))) refl
 
--- A claim is at most the speed.
-at-speed : (x v : ℕ) {claim : Units} → claim ≡ record { 0 = min x v } → claim .0 ≤ v
-at-speed x v is = omega (arith, ap (λ (u : Units). u .0) is)
+-- A claim is at most the normal rate.
+at-rate : (x n : ℕ) {claim : Units} → claim ≡ record { 0 = min x n } → claim .0 ≤ n
+at-rate x n is = omega (arith, ap (λ (u : Units). u .0) is)
 
 abbrev Inv-loop : tie.InvT-loop
 Inv-loop table v grants p speed clock carried jobs short answer slow below begun ranks₀ claims₀ i₀ ranks claims i =
     (i ≤ jobs) × (ranks ≡ filled (rank p) i (replicate mostJobs 0))
-    × (claims ≡ filled (capped p table (with clock carried) slow v) i (replicate mostJobs 0))
+    × (claims ≡ filled (capped p table (with clock carried) slow) i (replicate mostJobs 0))
 
 abbrev μ-loop : tie.MeasureT-loop
 μ-loop table v grants p speed clock carried jobs short answer slow below begun ranks₀ claims₀ i₀ ranks claims i = jobs - i
@@ -86,10 +86,6 @@ module _ (c : tie.After-answer-to Inv-loop μ-loop) where
   abbrev grants : List ℕ
   grants = start .args .grants .now
 
-  -- A speed fits 16 bits.
-  v-fits : v ≤ 65535
-  v-fits = omega arith
-
   by-readiness : answerView (c .answer-to .result)
       ≡ faultBy (readiness p (run .clock .0) (run .carried)) (ltb (length table) places || ltb (length grants) (counted p)) (ltb (p .n .0) v)
   by-readiness =
@@ -113,6 +109,7 @@ module _ (c : tie.Else1 Inv-loop μ-loop) where
   going : (soundAt (p here) (run here .clock .0) (run here .carried) ≡ true)
       × ((ltb (length (table here)) places || ltb (length (grants here)) (counted (p here))) ≡ false)
       × (begun (readiness (p here) (run here .clock .0) (run here .carried)) ≡ suc (present (p here) (run here .clock .0)))
+      × (ltb (p here .n .0) (v here) ≡ false)
   going =
       readiness-clear (p here) (run here .clock .0) (run here .carried) (ltb (length (table here)) places || ltb (length (grants here)) (counted (p here))) (ltb (p here .n .0) (v here))
       (ap isNone (sym (by-readiness here)) ∙ none)
@@ -123,6 +120,9 @@ module _ (c : tie.Else1 Inv-loop μ-loop) where
 
   room : counted (p here) ≤ length (grants here)
   room = ltb-false (length (grants here)) (counted (p here)) (neither (ltb (length (table here)) places) _ (going .1) .1)
+
+  normal : v here ≤ p here .n .0
+  normal = ltb-false (p here .n .0) (v here) (going .3)
 
 -- The intervals begun are those up to and including the present one.
 module _ (c : tie.After-begun-in Inv-loop μ-loop) where
@@ -203,8 +203,8 @@ claim-of-requires c κs = search needs
 
 cast-claims : tie.Need-cast-claims Inv-loop μ-loop
 cast-claims c =
-    let at = here (c .before .before .before .before .before .before .before .before .before .before .before .before .before) in
-    omega (arith, at-speed _ (v at) (c .before .claim-of .ensures), v-fits at)
+    let was = c .before .before .before .before .before .before .before .before .before .before .before .before .before .before in
+    omega (arith, at-rate _ (p (here was) .n .0) (c .before .claim-of .ensures), parts was .rules .rate)
 
 mul-claims : tie.Need-mul-claims Inv-loop μ-loop
 mul-claims c = search needs
@@ -221,7 +221,7 @@ loop-less c = search needs
 loop-again : tie.Need-loop-again Inv-loop μ-loop
 loop-again c =
     let at-claim-of = c .before in
-    let at-as-units = at-claim-of .before in
+    let at-as-units = at-claim-of .before .before in
     let at-sum-of = at-as-units .before in
     let at-rank-of = at-sum-of .before in
     let at-loop = at-rank-of .before .before .before in
@@ -232,8 +232,8 @@ loop-again c =
     let loop = at-loop .loop in (
       omega arith,
       filled-next (rank (p at)) (loop .i) (replicate mostJobs 0) (loop .inv .1) (at-rank-of .rank-of .ensures),
-      filled-next (capped (p at) (table at) (run at) (at-mark-after .mark-after .result) (v at)) (loop .i) (replicate mostJobs 0) (loop .inv .2)
-          (one-claim (p at) (table at) (run at) (at-mark-after .mark-after .result) (v at) (loop .i)
+      filled-next (capped (p at) (table at) (run at) (at-mark-after .mark-after .result)) (loop .i) (replicate mostJobs 0) (loop .inv .2)
+          (one-claim (p at) (table at) (run at) (at-mark-after .mark-after .result) (loop .i)
           (at-claim-of .claim-of .ensures) (at-as-units .as-units .ensures) (at-sum-of .sum-of .ensures) (spans (c-7))),
     )
 
@@ -251,10 +251,10 @@ module _ (c : tie.After-loop Inv-loop μ-loop) where
   rank-row : c .before .loop .ranks ≡ filled (rank (p at)) (counted (p at)) (replicate mostJobs 0)
   rank-row = c .before .loop .inv .1 ∙ ap (λ n. filled (rank (p at)) n (replicate mostJobs 0)) whole
 
-  claim-row : c .before .loop .claims ≡ filled (capped (p at) (table at) (run at) (slowAfter (p at) (run at) (v at)) (v at)) (counted (p at)) (replicate mostJobs 0)
+  claim-row : c .before .loop .claims ≡ filled (capped (p at) (table at) (run at) (slowAfter (p at) (run at) (v at))) (counted (p at)) (replicate mostJobs 0)
   claim-row =
       c .before .loop .inv .2
-      ∙ ap₂ (λ n s. filled (capped (p at) (table at) (run at) s (v at)) n (replicate mostJobs 0)) whole (c .before .before .before .before .before .mark-after .ensures)
+      ∙ ap₂ (λ n s. filled (capped (p at) (table at) (run at) s) n (replicate mostJobs 0)) whole (c .before .before .before .before .before .mark-after .ensures)
 
 grant-all-requires : tie.Need-grant-all-requires Inv-loop μ-loop
 grant-all-requires c κs =
@@ -263,12 +263,14 @@ grant-all-requires c κs =
     let jobs = jobs-are was in (
       omega arith,
       rw jobs (room was),
-      λ k l. rw (claim-row rows) (capped-small (p (here was)) (table (here was)) (run (here was)) (v (here was)) k (omega (arith, jobs))),
+      λ k l.
+          rw (claim-row rows)
+          (omega (arith, capped-small (p (here was)) (table (here was)) (run (here was)) (v (here was)) k (omega (arith, jobs)), parts was .rules .rate)),
       λ k l. omega (arith, jobs, parts was .carried k (omega (arith, jobs)), parts was .rules .sizes k (omega (arith, jobs))),
     )
 
-add-t52 : tie.Need-add-t52 Inv-loop μ-loop
-add-t52 c =
+add-t53 : tie.Need-add-t53 Inv-loop μ-loop
+add-t53 c =
     let was = c .before .before .before .before .before .before .before .before .before .before .before .before .before .before .before in
     omega (arith, parts was .not-over, parts was .rules .last)
 
@@ -289,8 +291,8 @@ returns-2 c =
     let empty = none-empty (answerView (at .answer-to .result)) (none was) in
     let jobs = jobs-are was in
     let stored = at-grant-all .grant-all .ensures in
-    let carried = stored-carried (p at) (table at) (run at) (v at) (grants at) (parts was .rules) (room was) (rank-row rows) (claim-row rows) jobs (stored .0) in
-    let granted = stored-grants (p at) (table at) (run at) (v at) (grants at) (parts was .rules) (room was) (rank-row rows) (claim-row rows) jobs (stored .1) in
+    let carried = stored-carried (p at) (table at) (run at) (v at) (grants at) (parts was .rules) (normal was) (room was) (rank-row rows) (claim-row rows) jobs (stored .0) in
+    let granted = stored-grants (p at) (table at) (run at) (v at) (grants at) (parts was .rules) (normal was) (room was) (rank-row rows) (claim-row rows) jobs (stored .1) in
     rw (sym (told at) ∙ empty)
     (λ t. record {
       answer = empty t;
@@ -337,6 +339,6 @@ step-spec =
     loop-less
     loop-again
     grant-all-requires
-    add-t52
+    add-t53
     same-length
     returns-2)
