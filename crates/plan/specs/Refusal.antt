@@ -1,5 +1,19 @@
--- The refusal numbers, by name.
+-- A refusal, and the refusal numbers, by name.
 use Prim.Native.Nat.{ℕ}
+use Rattle.plan.specs.Kinds.{Number}
+use Rattle.plan.specs.declared.refusal.Refusal as code
+
+-- A refusal as every reading step hands it on: a record with its `number`.
+abbrev pub Refusal : Type 0
+Refusal = code.Refusal
+
+-- The refusal with a number.
+abbrev pub refusalOf : Number → Refusal
+refusalOf number = record { number = number }
+
+-- What stands where nothing is refused: no refusal has this number.
+abbrev pub noRefusal : Refusal
+noRefusal = refusalOf 0
 
 -- There is no first byte, or it is not the version.
 abbrev pub wrongVersion : ℕ

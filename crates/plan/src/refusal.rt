@@ -1,4 +1,9 @@
-// The refusal numbers, by name.
+// A refusal, and the refusal numbers, by name.
+
+// A refusal as every reading step hands it on.
+pub struct Refusal {
+    pub number: u8,
+}
 
 // The number of no refusal.
 pub const DONE: u8 = 0;

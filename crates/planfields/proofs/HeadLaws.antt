@@ -7,29 +7,29 @@ use native.Mathlib.Omega.{arith}
 use borrow.Author.Tests.{lt-ltb, le-ltb, eq-eqb, ne-eqb}
 use lib.Dec.{leb}
 use lib.ListN.{length, getD}
-use Rattle.plan.specs.Refusal.{wrongVersion, wrongExtent, wrongRates, wrongJobCount, wrongGrade, wrongJobBounds}
+use Rattle.plan.specs.Refusal.{Refusal, refusalOf, wrongVersion, wrongExtent, wrongRates, wrongJobCount, wrongGrade, wrongJobBounds}
 use Rattle.plan.specs.Rules.{ratesAllowed, gradeAllowed, windowAllowed, sizeAllowed}
 use Rattle.plan.specs.declared.kinds.Job.{Job}
 use Rattle.planfields.specs.Fields.{Parsed, got, no, field, checked, version, extent, opening, Head, head, jobName, oneJob}
 
 -- An empty file is refused for its version.
-pub opening-empty : (file : List ℕ) → length file ≡ 0 → _≡_ {A = Parsed ℕ} (no wrongVersion) (opening file 0)
+pub opening-empty : (file : List ℕ) → length file ≡ 0 → _≡_ {A = Parsed ℕ} (no (refusalOf wrongVersion)) (opening file 0)
 unfolding opening version
 opening-empty file h = rw (le-ltb 0 (length file) (omega (arith, h)))
 
 -- After the first byte: the version, then the length field decides.
 module _ (file : List ℕ) (long : 0 < length file) where
-  pub opening-other : (getD file 0 0 ≡ 1 → ⊥) → _≡_ {A = Parsed ℕ} (no wrongVersion) (opening file 0)
+  pub opening-other : (getD file 0 0 ≡ 1 → ⊥) → _≡_ {A = Parsed ℕ} (no (refusalOf wrongVersion)) (opening file 0)
   unfolding opening version
   opening-other h = rw (lt-ltb 0 (length file) long, ne-eqb (getD file 0 0) 1 h)
 
   module _ (is : getD file 0 0 ≡ 1) where
-    pub opening-cut : {k : ℕ} → field 4 file 1 ≡ no k → _≡_ {A = Parsed ℕ} (no k) (opening file 0)
+    pub opening-cut : {k : Refusal} → field 4 file 1 ≡ no k → _≡_ {A = Parsed ℕ} (no k) (opening file 0)
     unfolding opening version extent
     opening-cut e = rw (lt-ltb 0 (length file) long, eq-eqb (getD file 0 0) 1 is, e)
 
     pub opening-wrong : {n next : ℕ} → field 4 file 1 ≡ got n next → (next + n ≡ length file → ⊥)
-        → _≡_ {A = Parsed ℕ} (no wrongExtent) (opening file 0)
+        → _≡_ {A = Parsed ℕ} (no (refusalOf wrongExtent)) (opening file 0)
     unfolding opening version extent
     opening-wrong {n} {next} e h =
         rw (lt-ltb 0 (length file) long, eq-eqb (getD file 0 0) 1 is, e, ne-eqb (next + n) (length file) h)
@@ -42,32 +42,32 @@ module _ (file : List ℕ) (long : 0 < length file) where
 
 -- A head is refused by the first of its fields and tests that fails.
 module _ (most : ℕ) (file : List ℕ) (at : ℕ) where
-  pub head-unopened : {k : ℕ} → opening file at ≡ no k → _≡_ {A = Parsed Head} (no k) (head most file at)
+  pub head-unopened : {k : Refusal} → opening file at ≡ no k → _≡_ {A = Parsed Head} (no k) (head most file at)
   unfolding head
   head-unopened e = rw e
 
   module _ {v a₁ : ℕ} (e₁ : opening file at ≡ got v a₁) where
-    pub head-no-normal : {k : ℕ} → field 2 file a₁ ≡ no k → _≡_ {A = Parsed Head} (no k) (head most file at)
+    pub head-no-normal : {k : Refusal} → field 2 file a₁ ≡ no k → _≡_ {A = Parsed Head} (no k) (head most file at)
     unfolding head
     head-no-normal e = rw (e₁, e)
 
     module _ {n a₂ : ℕ} (e₂ : field 2 file a₁ ≡ got n a₂) where
-      pub head-no-floor : {k : ℕ} → field 2 file a₂ ≡ no k → _≡_ {A = Parsed Head} (no k) (head most file at)
+      pub head-no-floor : {k : Refusal} → field 2 file a₂ ≡ no k → _≡_ {A = Parsed Head} (no k) (head most file at)
       unfolding head
       head-no-floor e = rw (e₁, e₂, e)
 
       module _ {d a₃ : ℕ} (e₃ : field 2 file a₂ ≡ got d a₃) where
-        pub head-rates : ratesAllowed n d ≡ false → _≡_ {A = Parsed Head} (no wrongRates) (head most file at)
+        pub head-rates : ratesAllowed n d ≡ false → _≡_ {A = Parsed Head} (no (refusalOf wrongRates)) (head most file at)
         unfolding head
         head-rates t = rw (e₁, e₂, e₃, t)
 
         module _ (t : ratesAllowed n d ≡ true) where
-          pub head-no-count : {k : ℕ} → field 1 file a₃ ≡ no k → _≡_ {A = Parsed Head} (no k) (head most file at)
+          pub head-no-count : {k : Refusal} → field 1 file a₃ ≡ no k → _≡_ {A = Parsed Head} (no k) (head most file at)
           unfolding head
           head-no-count e = rw (e₁, e₂, e₃, t, e)
 
           pub head-count-refused : {count a₄ : ℕ} → field 1 file a₃ ≡ got count a₄ → (leb 1 count && leb count most) ≡ false
-              → _≡_ {A = Parsed Head} (no wrongJobCount) (head most file at)
+              → _≡_ {A = Parsed Head} (no (refusalOf wrongJobCount)) (head most file at)
           unfolding head
           head-count-refused e u = rw (e₁, e₂, e₃, t, e, u)
 
@@ -84,7 +84,7 @@ module _ (earlier file : List ℕ) (at : ℕ) {name grade release size deadline 
     (e₁ : jobName earlier file at ≡ got name a₁) (e₂ : checked 1 gradeAllowed wrongGrade file a₁ ≡ got grade a₂)
     (e₃ : field 4 file a₂ ≡ got release a₃) (e₄ : field 4 file a₃ ≡ got size a₄) (e₅ : field 4 file a₄ ≡ got deadline a₅) where
   pub job-bounds : (windowAllowed release deadline && sizeAllowed size) ≡ false
-      → _≡_ {A = Parsed Job} (no wrongJobBounds) (oneJob earlier file at)
+      → _≡_ {A = Parsed Job} (no (refusalOf wrongJobBounds)) (oneJob earlier file at)
   unfolding oneJob
   job-bounds t = rw (e₁, e₂, e₃, e₄, e₅, t)
 

@@ -6,7 +6,7 @@ use Prim.Native.Nat.{ℕ, _+_, _≤_, _<_}
 use native.Mathlib.Omega.{arith}
 use borrow.Author.Tests.{le-leb, lt-leb, not-true, not-false}
 use lib.ListN.{length, take, drop}
-use Rattle.plan.specs.Refusal.{wrongExtent}
+use Rattle.plan.specs.Refusal.{Refusal, refusalOf, wrongExtent}
 use Rattle.planfields.specs.Bytes.{value}
 use Rattle.planfields.specs.Fields.{Parsed, got, no, Parser, onward, test, field, checked}
 use Rattle.planfields.specs.Answers.{fieldValue, fieldRefusal, passedRefusal}
@@ -21,7 +21,7 @@ pub field-whole : (w : ℕ) (file : List ℕ) (at : ℕ) {v : ℕ} → at + w �
 unfolding field
 field-whole w file at h e = rw (le-leb (at + w) (length file) h, e)
 
-pub field-cut : (w : ℕ) (file : List ℕ) (at : ℕ) → length file < at + w → _≡_ {A = Parsed ℕ} (no wrongExtent) (field w file at)
+pub field-cut : (w : ℕ) (file : List ℕ) (at : ℕ) → length file < at + w → _≡_ {A = Parsed ℕ} (no (refusalOf wrongExtent)) (field w file at)
 unfolding field
 field-cut w file at h = rw (lt-leb (at + w) (length file) h)
 
@@ -30,10 +30,10 @@ module _ {A F : Type 0} (told : F → Parsed A) where
   pub so : {f g : F} {s : Parsed A} → told f ≡ s → f ≡ g → s ≡ told g
   so e h = sym e ∙ ap told h
 
-  -- A refusal is passed on with its number.
-  pub refused : (number : F → ℕ) {f g : F} {s : Parsed A} {x k : ℕ} → told f ≡ s → f ≡ g → told g ≡ no k → number g ≡ k → x ≡ number f
+  -- A refusal is passed on as it is.
+  pub refused : (refusal : F → Refusal) {f g : F} {s : Parsed A} {x k : Refusal} → told f ≡ s → f ≡ g → told g ≡ no k → refusal g ≡ k → x ≡ refusal f
       → s ≡ no x
-  refused number e h t u v = so e h ∙ t ∙ ap no (sym (v ∙ ap number h ∙ u))
+  refused refusal e h t u v = so e h ∙ t ∙ ap no (sym (v ∙ ap refusal h ∙ u))
 
 -- The value in a matched answer obeys the bound on the answer's value.
 pub small : {f : Field} {v next m : ℕ} → fieldValue f < m → f ≡ field.Value v next → v < m
@@ -84,9 +84,9 @@ checked-is w ok number file at e =
     let v = same-value (u .on) in
     (t .is ∙ u .on, rw v at (u .is))
 
--- The number that the code takes from a refusal is the number of that refusal.
-pub passed-number : {p : Passed} {x k : ℕ} → p ≡ passed.Refused k → x ≡ passedRefusal p → p ≡ passed.Refused x
-passed-number e h = e ∙ ap passed.Refused (sym (h ∙ ap passedRefusal e))
+-- What the code takes from a refused answer is its refusal.
+pub passed-refused : {p : Passed} {x k : Refusal} → p ≡ passed.Refused k → x ≡ passedRefusal p → p ≡ passed.Refused x
+passed-refused e h = e ∙ ap passed.Refused (sym (h ∙ ap passedRefusal e))
 
-pub field-number : {f : Field} {x k : ℕ} → f ≡ field.Refused k → x ≡ fieldRefusal f → f ≡ field.Refused x
-field-number e h = e ∙ ap field.Refused (sym (h ∙ ap fieldRefusal e))
+pub field-refused : {f : Field} {x k : Refusal} → f ≡ field.Refused k → x ≡ fieldRefusal f → f ≡ field.Refused x
+field-refused e h = e ∙ ap field.Refused (sym (h ∙ ap fieldRefusal e))

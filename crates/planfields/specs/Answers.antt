@@ -6,7 +6,7 @@ use Prim.Native.Nat.{ℕ, _<_, _^_}
 use lib.Dec.{leb, ltb, eqb}
 use Rattle.plan.specs.Kinds.{Bytes, Offset}
 use Rattle.plan.specs.Edition.{mostJobs, mostRows}
-use Rattle.plan.specs.Refusal.{tooManyRows, rowWithoutInterval, rowWithoutUnits}
+use Rattle.plan.specs.Refusal.{Refusal, noRefusal, tooManyRows, rowWithoutInterval, rowWithoutUnits}
 use Rattle.plan.specs.declared.kinds.Job.{Job}
 use Rattle.planfields.specs.declared.field.Field.{Field}
 use Rattle.planfields.specs.declared.field.Field.the-variants as field
@@ -20,54 +20,54 @@ use Rattle.planfields.specs.declared.job.JobRead.the-variants as job
 use Rattle.planfields.specs.Fields as rule
 use Rattle.planfields.specs.Fields.{Parsed, got, no}
 
--- The view of a `Field`: the value and the offset of the next field, or the refusal number.
+-- The view of a `Field`: the value and the offset of the next field, or the refusal.
 abbrev pub fieldView : Field → Parsed ℕ
 fieldView (field.Value v next) = got v next
-fieldView (field.Refused number) = no number
+fieldView (field.Refused refusal) = no refusal
 
 -- The value of a `Field`, or 0 after a refusal.
 abbrev pub fieldValue : Field → ℕ
 fieldValue (field.Value v next) = v
-fieldValue (field.Refused number) = 0
+fieldValue (field.Refused refusal) = 0
 
--- The refusal number of a `Field`, or 0 if it is a value.
-abbrev pub fieldRefusal : Field → ℕ
-fieldRefusal (field.Value v next) = 0
-fieldRefusal (field.Refused number) = number
+-- The refusal of a `Field`, or `noRefusal` if it is a value.
+abbrev pub fieldRefusal : Field → Refusal
+fieldRefusal (field.Value v next) = noRefusal
+fieldRefusal (field.Refused refusal) = refusal
 
--- The view of a `Passed`: the offset of the next field, or the refusal number.
+-- The view of a `Passed`: the offset of the next field, or the refusal.
 abbrev pub passedView : Passed → Parsed (Unit {0})
 passedView (passed.Next next) = got tt next
-passedView (passed.Refused number) = no number
+passedView (passed.Refused refusal) = no refusal
 
--- The refusal number of a `Passed`, or 0 if it is an offset.
-abbrev pub passedRefusal : Passed → ℕ
-passedRefusal (passed.Next next) = 0
-passedRefusal (passed.Refused number) = number
+-- The refusal of a `Passed`, or `noRefusal` if it is an offset.
+abbrev pub passedRefusal : Passed → Refusal
+passedRefusal (passed.Next next) = noRefusal
+passedRefusal (passed.Refused refusal) = refusal
 
 -- A head as the rules have it: plain numbers instead of rates.
 abbrev pub headOf : Head → rule.Head
 headOf h = record { n = h .n .0; d = h .d .0; count = h .count }
 
--- The view of a `HeadRead`: the head and the offset of the next field, or the refusal number.
+-- The view of a `HeadRead`: the head and the offset of the next field, or the refusal.
 abbrev pub headView : HeadRead → Parsed rule.Head
 headView (head.Head h next) = got (headOf h) next
-headView (head.Refused number) = no number
+headView (head.Refused refusal) = no refusal
 
--- The refusal number of a `HeadRead`, or 0 if it is a head.
-abbrev pub headRefusal : HeadRead → ℕ
-headRefusal (head.Head h next) = 0
-headRefusal (head.Refused number) = number
+-- The refusal of a `HeadRead`, or `noRefusal` if it is a head.
+abbrev pub headRefusal : HeadRead → Refusal
+headRefusal (head.Head h next) = noRefusal
+headRefusal (head.Refused refusal) = refusal
 
--- The view of a `JobRead`: the record and the offset of the next field, or the refusal number.
+-- The view of a `JobRead`: the record and the offset of the next field, or the refusal.
 abbrev pub jobView : JobRead → Parsed Job
 jobView (job.Job j next) = got j next
-jobView (job.Refused number) = no number
+jobView (job.Refused refusal) = no refusal
 
--- The refusal number of a `JobRead`, or 0 if it is a job.
-abbrev pub jobRefusal : JobRead → ℕ
-jobRefusal (job.Job j next) = 0
-jobRefusal (job.Refused number) = number
+-- The refusal of a `JobRead`, or `noRefusal` if it is a job.
+abbrev pub jobRefusal : JobRead → Refusal
+jobRefusal (job.Job j next) = noRefusal
+jobRefusal (job.Refused refusal) = refusal
 
 -- The contract of `read_named`: a length byte, which must be `length`, then a name.
 abbrev pub ReadsNamed : (file : Bytes) (at : Offset) (length : ℕ) (r : Field) → Type 0

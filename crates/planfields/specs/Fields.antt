@@ -7,15 +7,15 @@ use lib.ListN.{length, getD, take, drop}
 use Rattle.plan.specs.Kinds.{Number}
 use Rattle.plan.specs.Edition.{nameBytes}
 use Rattle.planfields.specs.Layout.{versionByte, jobLength}
-use Rattle.plan.specs.Refusal.{wrongVersion, wrongExtent, wrongRecordLength, wrongRates, wrongJobCount, wrongNameByte, nameTaken, wrongGrade, wrongJobBounds}
+use Rattle.plan.specs.Refusal.{Refusal, refusalOf, wrongVersion, wrongExtent, wrongRecordLength, wrongRates, wrongJobCount, wrongNameByte, nameTaken, wrongGrade, wrongJobBounds}
 use Rattle.plan.specs.Rules.{ratesAllowed, nameAllowed, isAbsent, gradeAllowed, windowAllowed, sizeAllowed}
 use Rattle.plan.specs.declared.kinds.Job.{Job}
 use Rattle.planfields.specs.Bytes.{value}
 
--- The result of a parser: a value and the offset of the next field, or a refusal number.
+-- The result of a parser: a value and the offset of the next field, or a refusal.
 pub data Parsed (A : Type 0) : Type 0 where
   got : A → ℕ → Parsed A
-  no : ℕ → Parsed A
+  no : Refusal → Parsed A
 
 -- A parser reads from a file at an offset.
 abbrev pub Parser : Type 0 → Type 0
@@ -24,7 +24,7 @@ Parser A = List ℕ → ℕ → Parsed A
 -- Continues with the value at the next offset, or passes the refusal on.
 abbrev pub onward : {A B : Type 0} → Parsed A → (A → Parser B) → List ℕ → Parsed B
 onward (got a next) rest file = rest a file next
-onward (no number) rest file = no number
+onward (no refusal) rest file = no refusal
 
 infixl 10 _>>=_ _>>_
 -- A parser, then the parser that its value gives.
@@ -42,12 +42,12 @@ done a file at = got a at
 -- Consumes no bytes, and refuses with the number if the test is false.
 abbrev pub test : (ok : Bool) (number : Number) → Parser (Unit {0})
 test true number file at = got tt at
-test false number file at = no number
+test false number file at = no (refusalOf number)
 
 -- A field of w bytes, highest first; if the file is shorter than `at` + w, it is refused, whatever
 -- its bytes are.
 unfoldable pub field : ℕ → Parser ℕ
-field w file at = cond (leb (at + w) (length file)) (got (value 0 (take w (drop at file))) (at + w)) (no wrongExtent)
+field w file at = cond (leb (at + w) (length file)) (got (value 0 (take w (drop at file))) (at + w)) (no (refusalOf wrongExtent))
 
 -- A field of w bytes whose value must pass a test; otherwise it is refused with the number.
 abbrev pub checked : (w : ℕ) (ok : ℕ → Bool) (number : Number) → Parser ℕ
@@ -58,11 +58,11 @@ checked w ok number = do
 
 -- The version byte; no byte at the offset and another one than the version have the same refusal.
 unfoldable pub version : Parser ℕ
-version file at = cond (ltb at (length file) && eqb (getD file at 0) versionByte) (got versionByte (at + 1)) (no wrongVersion)
+version file at = cond (ltb at (length file) && eqb (getD file at 0) versionByte) (got versionByte (at + 1)) (no (refusalOf wrongVersion))
 
 -- The length field, four bytes whose value must be the number of bytes after it.
 unfoldable pub extent : Parser ℕ
-extent file at = onward (field 4 file at) (λ n rest next. cond (eqb (next + n) (length rest)) (got n next) (no wrongExtent)) file
+extent file at = onward (field 4 file at) (λ n rest next. cond (eqb (next + n) (length rest)) (got n next) (no (refusalOf wrongExtent))) file
 
 -- The opening of a file: the version and the length field, whose value it gives.
 unfoldable pub opening : Parser ℕ
@@ -121,4 +121,4 @@ oneJob earlier = do
 
 -- The end of the file: the offset must be the file's length.
 unfoldable pub ended : Parser (Unit {0})
-ended file at = cond (eqb at (length file)) (got tt at) (no wrongExtent)
+ended file at = cond (eqb at (length file)) (got tt at) (no (refusalOf wrongExtent))

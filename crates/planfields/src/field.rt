@@ -1,6 +1,8 @@
 // Reading one field. The reader takes every byte of a plan file except the first
 // through `read_field`.
 use plan::edition::Edition;
+use plan::refusal::DONE;
+use plan::refusal::Refusal;
 use plan::refusal::WRONG_EXTENT;
 use plan::refusal::WRONG_RECORD_LENGTH;
 ghost use mathlib.Core.Path.{_≡_};
@@ -8,36 +10,33 @@ ghost use Prim.Native.Nat.{_≤_, _<_, _^_};
 ghost use Rattle.planfields.specs.Fields.{field};
 ghost use Rattle.planfields.specs.Answers.{fieldView, fieldValue, fieldRefusal, passedRefusal, ReadsNamed, ReadsEnd};
 
-// A value and the offset of the next field, or the refusal number.
+// A value and the offset of the next field, or the refusal.
 pub enum Field {
     Value(u64, usize),
-    Refused(u8),
+    Refused(Refusal),
 }
 
-// The offset of the next field alone, or the refusal number.
+// The offset of the next field alone, or the refusal.
 pub enum Passed {
     Next(usize),
-    Refused(u8),
+    Refused(Refusal),
 }
 
-// No refusal has this number.
-pub const NONE: u8 = 0;
-
-pub fn field_refusal(f: Field) -> u8
+pub fn field_refusal(f: Field) -> Refusal
     ensures { λ r. ⌜ r ≡ fieldRefusal f ⌝ }
 {
     match f {
-        Field::Value(_, _) => NONE,
-        Field::Refused(number) => number,
+        Field::Value(_, _) => Refusal { number: DONE },
+        Field::Refused(refusal) => refusal,
     }
 }
 
-pub fn passed_refusal(p: Passed) -> u8
+pub fn passed_refusal(p: Passed) -> Refusal
     ensures { λ r. ⌜ r ≡ passedRefusal p ⌝ }
 {
     match p {
-        Passed::Next(_) => NONE,
-        Passed::Refused(number) => number,
+        Passed::Next(_) => Refusal { number: DONE },
+        Passed::Refused(refusal) => refusal,
     }
 }
 
@@ -47,10 +46,14 @@ pub(crate) fn read_field(file: &[u8], at: usize, w: usize) -> Field
     ensures { λ r. ⌜ (fieldView r ≡ field w (now (file .entry)) at) × (fieldValue r < 256 ^ w) ⌝ }
 {
     if file.len() < at {
-        return Field::Refused(WRONG_EXTENT);
+        return Field::Refused(Refusal {
+            number: WRONG_EXTENT,
+        });
     }
     if file.len() - at < w {
-        return Field::Refused(WRONG_EXTENT);
+        return Field::Refused(Refusal {
+            number: WRONG_EXTENT,
+        });
     }
     // Lowest byte first, which compiles to a single load even for eight bytes.
     let mut value: u64 = 0;
@@ -76,7 +79,9 @@ pub fn read_named(file: &[u8], at: usize, length: u64) -> Field
         return Field::Refused(field_refusal(long));
     };
     if says != length {
-        return Field::Refused(WRONG_RECORD_LENGTH);
+        return Field::Refused(Refusal {
+            number: WRONG_RECORD_LENGTH,
+        });
     }
     read_field(file, next, Edition::NAME_BYTES)
 }
@@ -86,7 +91,9 @@ pub fn read_end(file: &[u8], at: usize) -> Passed
     ensures { λ r. ⌜ ReadsEnd (now (file .entry)) at r ⌝ }
 {
     if at != file.len() {
-        return Passed::Refused(WRONG_EXTENT);
+        return Passed::Refused(Refusal {
+            number: WRONG_EXTENT,
+        });
     }
     Passed::Next(at)
 }

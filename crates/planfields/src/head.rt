@@ -1,10 +1,11 @@
 // Reading the fields before the jobs: version, length, both rates and the job count.
 use crate::field::Field;
-use crate::field::NONE;
 use crate::field::field_refusal;
 use crate::field::read_field;
 use crate::layout::Layout;
 use plan::kinds::Rate;
+use plan::refusal::DONE;
+use plan::refusal::Refusal;
 use plan::refusal::WRONG_EXTENT;
 use plan::refusal::WRONG_JOB_COUNT;
 use plan::refusal::WRONG_RATES;
@@ -23,15 +24,15 @@ pub struct Head {
 
 pub enum HeadRead {
     Head(Head, usize),
-    Refused(u8),
+    Refused(Refusal),
 }
 
-pub fn head_refusal(h: HeadRead) -> u8
+pub fn head_refusal(h: HeadRead) -> Refusal
     ensures { λ r. ⌜ r ≡ headRefusal h ⌝ }
 {
     match h {
-        HeadRead::Head(_, _) => NONE,
-        HeadRead::Refused(number) => number,
+        HeadRead::Head(_, _) => Refusal { number: DONE },
+        HeadRead::Refused(refusal) => refusal,
     }
 }
 
@@ -40,20 +41,28 @@ fn read_opening(file: &[u8]) -> Field
     ensures { λ r. ⌜ fieldView r ≡ opening (now (file .entry)) 0 ⌝ }
 {
     if file.len() == 0 {
-        return Field::Refused(WRONG_VERSION);
+        return Field::Refused(Refusal {
+            number: WRONG_VERSION,
+        });
     }
     if file[0] != Layout::VERSION {
-        return Field::Refused(WRONG_VERSION);
+        return Field::Refused(Refusal {
+            number: WRONG_VERSION,
+        });
     }
     let length = read_field(file, 1, 4);
     let Field::Value(n, next) = length else {
         return length;
     };
     if file.len() < next {
-        return Field::Refused(WRONG_EXTENT);
+        return Field::Refused(Refusal {
+            number: WRONG_EXTENT,
+        });
     }
     if (file.len() - next) as u64 != n {
-        return Field::Refused(WRONG_EXTENT);
+        return Field::Refused(Refusal {
+            number: WRONG_EXTENT,
+        });
     }
     length
 }
@@ -74,14 +83,18 @@ pub fn read_head(file: &[u8]) -> HeadRead
         return HeadRead::Refused(field_refusal(floor));
     };
     if !rates_allowed(Rate(n as u16), Rate(d as u16)) {
-        return HeadRead::Refused(WRONG_RATES);
+        return HeadRead::Refused(Refusal {
+            number: WRONG_RATES,
+        });
     }
     let jobs = read_field(file, after_d, 1);
     let Field::Value(count, next) = jobs else {
         return HeadRead::Refused(field_refusal(jobs));
     };
     if !count_allowed(count as usize) {
-        return HeadRead::Refused(WRONG_JOB_COUNT);
+        return HeadRead::Refused(Refusal {
+            number: WRONG_JOB_COUNT,
+        });
     }
     HeadRead::Head(
         Head {

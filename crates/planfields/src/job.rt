@@ -1,6 +1,5 @@
 // Reading one job.
 use crate::field::Field;
-use crate::field::NONE;
 use crate::field::field_refusal;
 use crate::field::read_field;
 use crate::field::read_named;
@@ -9,7 +8,9 @@ use plan::kinds::Job;
 use plan::kinds::Name;
 use plan::kinds::Slots;
 use plan::kinds::Units;
+use plan::refusal::DONE;
 use plan::refusal::NAME_TAKEN;
+use plan::refusal::Refusal;
 use plan::refusal::WRONG_GRADE;
 use plan::refusal::WRONG_JOB_BOUNDS;
 use plan::refusal::WRONG_NAME_BYTE;
@@ -27,15 +28,15 @@ ghost use Rattle.planfields.specs.Answers.{fieldView, fieldValue, jobRef
 
 pub enum JobRead {
     Job(Job, usize),
-    Refused(u8),
+    Refused(Refusal),
 }
 
-pub fn job_refusal(j: JobRead) -> u8
+pub fn job_refusal(j: JobRead) -> Refusal
     ensures { λ r. ⌜ r ≡ jobRefusal j ⌝ }
 {
     match j {
-        JobRead::Job(_, _) => NONE,
-        JobRead::Refused(number) => number,
+        JobRead::Job(_, _) => Refusal { number: DONE },
+        JobRead::Refused(refusal) => refusal,
     }
 }
 
@@ -48,10 +49,12 @@ fn read_name(file: &[u8], at: usize, earlier: &[u64]) -> Field
         return named;
     };
     if !name_allowed(Name(name)) {
-        return Field::Refused(WRONG_NAME_BYTE);
+        return Field::Refused(Refusal {
+            number: WRONG_NAME_BYTE,
+        });
     }
     if !is_absent(earlier, name) {
-        return Field::Refused(NAME_TAKEN);
+        return Field::Refused(Refusal { number: NAME_TAKEN });
     }
     named
 }
@@ -64,7 +67,9 @@ fn read_grade(file: &[u8], at: usize) -> Field
         return byte;
     };
     if !grade_allowed(grade as u8) {
-        return Field::Refused(WRONG_GRADE);
+        return Field::Refused(Refusal {
+            number: WRONG_GRADE,
+        });
     }
     byte
 }
@@ -100,7 +105,9 @@ pub fn read_job(file: &[u8], at: usize, earlier: &[u64]) -> JobRead
         deadline: Slots(deadline as u32),
     };
     if !(window_allowed(job.release, job.deadline) & size_allowed(job.size)) {
-        return JobRead::Refused(WRONG_JOB_BOUNDS);
+        return JobRead::Refused(Refusal {
+            number: WRONG_JOB_BOUNDS,
+        });
     }
     JobRead::Job(job, next)
 }

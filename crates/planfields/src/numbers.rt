@@ -4,6 +4,7 @@ use crate::field::read_field;
 use plan::edition::Edition;
 use plan::refusal::ROW_WITHOUT_INTERVAL;
 use plan::refusal::ROW_WITHOUT_UNITS;
+use plan::refusal::Refusal;
 use plan::refusal::TOO_MANY_ROWS;
 ghost use Rattle.planfields.specs.Answers.{ReadsRowCount, ReadsInterval, ReadsUnits};
 
@@ -15,7 +16,9 @@ pub fn read_row_count(file: &[u8], at: usize) -> Field
         return two;
     };
     if rows > Edition::MOST_ROWS as u64 {
-        return Field::Refused(TOO_MANY_ROWS);
+        return Field::Refused(Refusal {
+            number: TOO_MANY_ROWS,
+        });
     }
     two
 }
@@ -28,7 +31,9 @@ pub fn read_interval(file: &[u8], at: usize, spans: usize) -> Field
         return two;
     };
     if interval as usize >= spans {
-        return Field::Refused(ROW_WITHOUT_INTERVAL);
+        return Field::Refused(Refusal {
+            number: ROW_WITHOUT_INTERVAL,
+        });
     }
     two
 }
@@ -41,7 +46,9 @@ pub fn read_units(file: &[u8], at: usize) -> Field
         return four;
     };
     if units == 0 {
-        return Field::Refused(ROW_WITHOUT_UNITS);
+        return Field::Refused(Refusal {
+            number: ROW_WITHOUT_UNITS,
+        });
     }
     four
 }

@@ -6,6 +6,7 @@ use native.Mathlib.Nat.{sub-zero}
 use native.Mathlib.Omega.{arith}
 use lib.ListN.{length, getD, take, drop, set, replicate, length-append, length-map, length-replicate, length-drop}
 use lib.Seq.{take-at, drop-cons, set-at}
+use Rattle.plan.specs.Refusal.{Refusal}
 use Rattle.plan.specs.Edition.{mostJobs}
 use Rattle.plan.specs.Rules.{noJob}
 use Rattle.plan.specs.declared.kinds.Job.{Job}
@@ -62,7 +63,7 @@ pub jobs-step : (n : ℕ) (jobs : List Job) (file : List ℕ) (at : ℕ) {j : Jo
 unfolding allJobs
 jobs-step n jobs file at e = rw e
 
-pub jobs-stop : (n : ℕ) (jobs : List Job) (file : List ℕ) (at : ℕ) {k : ℕ} → oneJob (namesOf jobs) file at ≡ no k
+pub jobs-stop : (n : ℕ) (jobs : List Job) (file : List ℕ) (at : ℕ) {k : Refusal} → oneJob (namesOf jobs) file at ≡ no k
     → allJobs (suc n) jobs file at ≡ no k
 unfolding allJobs
 jobs-stop n jobs file at e = rw e
@@ -105,7 +106,7 @@ module _ {file : List ℕ} {at : ℕ} {first : List ℕ} {count : ℕ} {blank : 
             ∙ ap (λ n. allJobs n (so .jobs) file next) (sym (count-on more)) ∙ so .left;
       }
 
-  pub jobs-read-refused : i < count → {x : ℕ} → oneJob (take i names) file next ≡ no x → allJobs count [] file at ≡ no x
+  pub jobs-read-refused : i < count → {x : Refusal} → oneJob (take i names) file next ≡ no x → allJobs count [] file at ≡ no x
   jobs-read-refused more e =
       sym (so .left) ∙ ap (λ n. allJobs n (so .jobs) file next) (count-on more)
       ∙ jobs-stop (count - suc i) (so .jobs) file next (rw earlier at e)

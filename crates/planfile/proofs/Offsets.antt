@@ -9,7 +9,7 @@ use lib.Dec.{leb, ltb, eqb}
 use lib.ListN.{length, getD, take, drop, replicate}
 use Rattle.plan.specs.Edition.{mostJobs, mostRows, mostIntervals, places}
 use Rattle.planfields.specs.Layout.{jobLength, nameAt}
-use Rattle.plan.specs.Refusal.{wrongExtent, wrongVersion, wrongRecordLength, wrongRates, wrongJobCount, tooManyRows}
+use Rattle.plan.specs.Refusal.{refusalOf, wrongExtent, wrongVersion, wrongRecordLength, wrongRates, wrongJobCount, tooManyRows}
 use Rattle.plan.specs.Rules.{ratesAllowed}
 use Rattle.plan.specs.Boundaries.{intervals}
 use Rattle.plan.specs.declared.kinds.Job.{Job}
@@ -28,7 +28,7 @@ unfolding field
 field-extent w file at e = by (leb (at + w) (length file)) refl e
   where
     by : (t : Bool) → leb (at + w) (length file) ≡ t → {v next : ℕ}
-        → cond t (got (value 0 (take w (drop at file))) (at + w)) (no wrongExtent) ≡ got v next
+        → cond t (got (value 0 (take w (drop at file))) (at + w)) (no (refusalOf wrongExtent)) ≡ got v next
         → (next ≡ at + w) × (at + w ≤ length file) × (v ≡ value 0 (take w (drop at file)))
     by true h e = (sym (same-next e), leb-true (at + w) (length file) h, sym (same-value e))
     by false h e = absurd (let z : _≡_ {A = ℕ} 0 1 = cc in omega arith)
@@ -78,12 +78,12 @@ unfolding opening version extent
 opening-extent file e = by (ltb 0 (length file)) refl (eqb (getD file 0 0) 1) refl e
   where
     lengths : (s : Parsed ℕ) → field 4 file 1 ≡ s → {v next : ℕ}
-        → onward s (λ n rest at. cond (eqb (at + n) (length rest)) (got n at) (no wrongExtent)) file ≡ got v next
+        → onward s (λ n rest at. cond (eqb (at + n) (length rest)) (got n at) (no (refusalOf wrongExtent))) file ≡ got v next
         → (field 4 file 1 ≡ got v 5) × (next ≡ 5) × (5 + v ≡ length file)
     lengths (no k) f e = absurd (let z : _≡_ {A = ℕ} 0 1 = cc in omega arith)
     lengths (got n at) f e = so (eqb (at + n) (length file)) refl e
       where
-        so : (t : Bool) → eqb (at + n) (length file) ≡ t → {v next : ℕ} → cond t (got n at) (no wrongExtent) ≡ got v next
+        so : (t : Bool) → eqb (at + n) (length file) ≡ t → {v next : ℕ} → cond t (got n at) (no (refusalOf wrongExtent)) ≡ got v next
             → (field 4 file 1 ≡ got v 5) × (next ≡ 5) × (5 + v ≡ length file)
         so false h e = absurd (let z : _≡_ {A = ℕ} 0 1 = cc in omega arith)
         so true h {v} e =
@@ -92,7 +92,7 @@ opening-extent file e = by (ltb 0 (length file)) refl (eqb (getD file 0 0) 1) re
             (f ∙ e ∙ ap (got v) (sym (same-next e) ∙ x), sym (same-next e) ∙ x, omega (arith, x, sum, same-value e))
 
     by : (a : Bool) → ltb 0 (length file) ≡ a → (b : Bool) → eqb (getD file 0 0) 1 ≡ b → {v next : ℕ}
-        → onward {A = ℕ} (cond (a && b) (got 1 (0 + 1)) (no wrongVersion)) (λ _. extent) file ≡ got v next
+        → onward {A = ℕ} (cond (a && b) (got 1 (0 + 1)) (no (refusalOf wrongVersion))) (λ _. extent) file ≡ got v next
         → (0 < length file) × (getD file 0 0 ≡ 1) × (field 4 file 1 ≡ got v 5) × (next ≡ 5) × (5 + v ≡ length file)
     by false ha b hb e = absurd (let z : _≡_ {A = ℕ} 0 1 = cc in omega arith)
     by true ha false hb e = absurd (let z : _≡_ {A = ℕ} 0 1 = cc in omega arith)
@@ -166,4 +166,4 @@ shown-inside file k h = by (readFile file) refl h
   where
     by : (s : Parsed Contents) → readFile file ≡ s → k < countOf s → nameAt k + 8 ≤ length file
     by (got held end) e h = shown-within file e k h
-    by (no number) e h = absurd (omega arith)
+    by (no refusal) e h = absurd (omega arith)

@@ -8,7 +8,7 @@ use borrow.Author.Tests.{leb-true}
 use lib.Dec.{leb}
 use lib.ListN.{length, drop}
 use Rattle.plan.specs.Edition.{mostJobs, mostRows, mostIntervals}
-use Rattle.plan.specs.Refusal.{wrongRates, wrongJobCount, tooManyRows}
+use Rattle.plan.specs.Refusal.{Refusal, wrongRates, wrongJobCount, tooManyRows}
 use Rattle.plan.specs.Rules.{ratesAllowed, counted}
 use Rattle.plan.specs.Boundaries.{intervals}
 use Rattle.plan.specs.declared.kinds.Job.{Job}
@@ -45,23 +45,23 @@ head-count most file at e =
 
 -- What the answer of `read_jobs` says about the parser result.
 module _ (h : Head) (first : List ℕ) (r : Jobs) (names : List ℕ) where
-  pub jobs-refused : (s : Parsed (List Job)) {k : ℕ} → JobsAnswer h first s r names → r .answer ≡ passed.Refused k → s ≡ no k
+  pub jobs-refused : (s : Parsed (List Job)) {k : Refusal} → JobsAnswer h first s r names → r .answer ≡ passed.Refused k → s ≡ no k
   jobs-refused (got jobs next) a e = absurd (let z : _≡_ {A = ℕ} 0 1 = cc (a .0) in omega arith)
-  jobs-refused (no number) a e = cc
+  jobs-refused (no refusal) a e = cc
 
   pub jobs-got : (s : Parsed (List Job)) {next : ℕ} → JobsAnswer h first s r names → r .answer ≡ passed.Next next
       → (jobs : List Job) × (s ≡ got jobs next) × (r .plan ≡ planFrom h jobs) × (names ≡ namesOf jobs ++ drop (h .count) first)
   jobs-got (got jobs next) a e = (jobs, ap (got jobs) (cc (a .0)), a .1, a .2)
-  jobs-got (no number) a e = absurd (let z : _≡_ {A = ℕ} 0 1 = cc in omega arith)
+  jobs-got (no refusal) a e = absurd (let z : _≡_ {A = ℕ} 0 1 = cc in omega arith)
 
 -- The preamble, part by part: the first refusal decides the result.
 module _ (first file : List ℕ) where
-  pub preamble-headless : {k : ℕ} → head mostJobs file 0 ≡ no k → preamble file 0 ≡ no k
+  pub preamble-headless : {k : Refusal} → head mostJobs file 0 ≡ no k → preamble file 0 ≡ no k
   unfolding preamble
   preamble-headless e = rw e
 
   module _ {h : Head} {at : ℕ} (e : head mostJobs file 0 ≡ got h at) where
-    pub preamble-jobless : {k : ℕ} → allJobs (h .count) [] file at ≡ no k → preamble file 0 ≡ no k
+    pub preamble-jobless : {k : Refusal} → allJobs (h .count) [] file at ≡ no k → preamble file 0 ≡ no k
     unfolding preamble
     preamble-jobless e′ = rw (e, e′)
 
@@ -104,11 +104,11 @@ preamble-fine file e =
 
 -- What the answer of `read_preamble` says about the parser result.
 module _ (first : List ℕ) (r : PreambleRead) (names : List ℕ) where
-  pub preamble-refused : (s : Parsed Preamble) {k : ℕ} → PreambleAnswer first s r names → r .answer ≡ field.Refused k → s ≡ no k
+  pub preamble-refused : (s : Parsed Preamble) {k : Refusal} → PreambleAnswer first s r names → r .answer ≡ field.Refused k → s ≡ no k
   preamble-refused (got f next) a e = absurd (let z : _≡_ {A = ℕ} 0 1 = cc (a .0) in omega arith)
-  preamble-refused (no number) a e = cc
+  preamble-refused (no refusal) a e = cc
 
   pub preamble-got : (s : Parsed Preamble) {rows next : ℕ} → PreambleAnswer first s r names → r .answer ≡ field.Value rows next
       → (f : Preamble) × (s ≡ got f next) × (f .rows ≡ rows) × (r .plan ≡ f .plan) × (names ≡ f .names ++ drop (f .plan .count) first)
   preamble-got (got f next) a e = (f, ap (got f) (cc (a .0)), cc (a .0), a .1, a .2)
-  preamble-got (no number) a e = absurd (let z : _≡_ {A = ℕ} 0 1 = cc in omega arith)
+  preamble-got (no refusal) a e = absurd (let z : _≡_ {A = ℕ} 0 1 = cc in omega arith)

@@ -10,7 +10,7 @@ use lib.Dec.{leb, ltb, eqb}
 use lib.ListN.{length, set}
 use Rattle.plan.specs.Edition.{mostIntervals}
 use Rattle.planfields.specs.Layout.{rowLength}
-use Rattle.plan.specs.Refusal.{rowWithoutJob, rowWithoutInterval, rowWithoutUnits, rowOutOfOrder}
+use Rattle.plan.specs.Refusal.{Refusal, refusalOf, rowWithoutJob, rowWithoutInterval, rowWithoutUnits, rowOutOfOrder}
 use Rattle.plan.specs.Table.{place}
 use Rattle.planfields.specs.Fields.{Parsed, got, no, onward, checked, named}
 use Rattle.planfile.specs.Reader.{position, Row, oneRow, allRows}
@@ -18,27 +18,27 @@ use Rattle.planfields.proofs.ParserLaws.{through, past, checked-is, same-value}
 
 -- One row, field by field: the first fault decides the result.
 module _ (width : ℕ) (names : List ℕ) (spans low : ℕ) (file : List ℕ) (at : ℕ) where
-  pub row-unnamed : {k : ℕ} → named rowLength file at ≡ no k → oneRow width names spans low file at ≡ no k
+  pub row-unnamed : {k : Refusal} → named rowLength file at ≡ no k → oneRow width names spans low file at ≡ no k
   unfolding oneRow
   row-unnamed e = rw e
 
   module _ {name a₁ : ℕ} (e₁ : named rowLength file at ≡ got name a₁) where
-    pub row-jobless : ltb (position names name) (length names) ≡ false → oneRow width names spans low file at ≡ no rowWithoutJob
+    pub row-jobless : ltb (position names name) (length names) ≡ false → oneRow width names spans low file at ≡ no (refusalOf rowWithoutJob)
     unfolding oneRow
     row-jobless t = rw (e₁, t)
 
     module _ (t : ltb (position names name) (length names) ≡ true) where
-      pub row-unplaced : {k : ℕ} → checked 2 (λ j. ltb j spans) rowWithoutInterval file a₁ ≡ no k → oneRow width names spans low file at ≡ no k
+      pub row-unplaced : {k : Refusal} → checked 2 (λ j. ltb j spans) rowWithoutInterval file a₁ ≡ no k → oneRow width names spans low file at ≡ no k
       unfolding oneRow
       row-unplaced e = rw (e₁, t, e)
 
       module _ {interval a₂ : ℕ} (e₂ : checked 2 (λ j. ltb j spans) rowWithoutInterval file a₁ ≡ got interval a₂) where
-        pub row-empty : {k : ℕ} → checked 4 (λ u. not (eqb u 0)) rowWithoutUnits file a₂ ≡ no k → oneRow width names spans low file at ≡ no k
+        pub row-empty : {k : Refusal} → checked 4 (λ u. not (eqb u 0)) rowWithoutUnits file a₂ ≡ no k → oneRow width names spans low file at ≡ no k
         unfolding oneRow
         row-empty e = rw (e₁, t, e₂, e)
 
         module _ {units a₃ : ℕ} (e₃ : checked 4 (λ u. not (eqb u 0)) rowWithoutUnits file a₂ ≡ got units a₃) where
-          pub row-late : place width (position names name) interval < low → oneRow width names spans low file at ≡ no rowOutOfOrder
+          pub row-late : place width (position names name) interval < low → oneRow width names spans low file at ≡ no (refusalOf rowOutOfOrder)
           unfolding oneRow
           row-late h = rw (e₁, t, e₂, e₃, lt-leb low (place width (position names name) interval) h)
 
@@ -69,7 +69,7 @@ pub rows-step : (n width : ℕ) (names : List ℕ) (spans low : ℕ) (table file
 unfolding allRows
 rows-step n width names spans low table file at e = rw e
 
-pub rows-stop : (n width : ℕ) (names : List ℕ) (spans low : ℕ) (table file : List ℕ) (at : ℕ) {k : ℕ}
+pub rows-stop : (n width : ℕ) (names : List ℕ) (spans low : ℕ) (table file : List ℕ) (at : ℕ) {k : Refusal}
     → oneRow width names spans low file at ≡ no k → allRows (suc n) width names spans low table file at ≡ no k
 unfolding allRows
 rows-stop n width names spans low table file at e = rw e
@@ -81,7 +81,7 @@ rows-done width names spans low table file at = refl
 -- A parser result without its value: the next offset, or the refusal number.
 abbrev pub onlyPassed : {A : Type 0} → Parsed A → Parsed (Unit {0})
 onlyPassed (got a next) = got tt next
-onlyPassed (no number) = no number
+onlyPassed (no refusal) = no refusal
 
 -- Whether rows are refused, and where they end, does not depend on the table.
 pub rows-only : (n width : ℕ) (names : List ℕ) (spans low : ℕ) (t u file : List ℕ) (at : ℕ)
@@ -110,7 +110,7 @@ module _ (rows k width : ℕ) (names : List ℕ) (spans low : ℕ) (table file :
       (sym (rows-step (rows - (k + 1)) width names spans low table file at e)
       ∙ ap (λ m. allRows m width names spans low table file at) (sym n) ∙ left)
 
-  pub left-stop : k < rows → {x : ℕ} → oneRow width names spans low file at ≡ no x → whole ≡ no x
+  pub left-stop : k < rows → {x : Refusal} → oneRow width names spans low file at ≡ no x → whole ≡ no x
   left-stop h e =
       let n : rows - k ≡ suc (rows - (k + 1)) = omega arith in
       sym left ∙ ap (λ m. allRows m width names spans low table file at) n

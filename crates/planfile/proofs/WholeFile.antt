@@ -8,7 +8,7 @@ use borrow.Author.Tests.{lt-ltb, le-ltb}
 use lib.ListN.{length, take, drop, replicate, length-take}
 use lib.Seq.{take-at}
 use Rattle.plan.specs.Edition.{mostJobs, mostIntervals, places}
-use Rattle.plan.specs.Refusal.{bufferTooShort}
+use Rattle.plan.specs.Refusal.{Refusal, bufferTooShort}
 use Rattle.plan.specs.Boundaries.{intervals}
 use Rattle.plan.specs.declared.kinds.Plan.{Plan}
 use Rattle.planfields.specs.Fields.{Parsed, got, no, ended}
@@ -30,41 +30,41 @@ use Rattle.planfile.proofs.Rows.{onlyPassed}
 module _ (r : Passed) (left : List ℕ) where
   pub rows-passed : (s : Parsed (List ℕ)) → RowsAnswer s r left → passedView r ≡ onlyPassed s
   rows-passed (got t next) a = ap passedView (a .0)
-  rows-passed (no number) a = ap passedView a
+  rows-passed (no refusal) a = ap passedView a
 
   pub rows-left : (s : Parsed (List ℕ)) {t : List ℕ} {next : ℕ} → RowsAnswer s r left → s ≡ got t next → left ≡ t
   rows-left (got t next) a e = a .1 ∙ cc
-  rows-left (no number) a e = absurd (let z : _≡_ {A = ℕ} 0 1 = cc in omega arith)
+  rows-left (no refusal) a e = absurd (let z : _≡_ {A = ℕ} 0 1 = cc in omega arith)
 
 -- The rows of a preamble, read into a table from an offset on.
 abbrev pub rowsOf : (f : Preamble) (table file : List ℕ) (at : ℕ) → Parsed (List ℕ)
 rowsOf f table file at = allRows (f .rows) mostIntervals (f .names) (intervals (f .plan)) 0 table file at
 
 -- The same from the view of the answer, without the table.
-pub only-refused : (s : Parsed (List ℕ)) {r : Passed} {k : ℕ} → passedView r ≡ onlyPassed s → r ≡ passed.Refused k → s ≡ no k
+pub only-refused : (s : Parsed (List ℕ)) {r : Passed} {k : Refusal} → passedView r ≡ onlyPassed s → r ≡ passed.Refused k → s ≡ no k
 only-refused (got t next) a e = absurd (let z : _≡_ {A = ℕ} 0 1 = cc (ap passedView e) in omega arith)
-only-refused (no number) a e = cc (ap passedView e)
+only-refused (no refusal) a e = cc (ap passedView e)
 
 pub only-got : (s : Parsed (List ℕ)) {r : Passed} {next : ℕ} → passedView r ≡ onlyPassed s → r ≡ passed.Next next
     → (t : List ℕ) × (s ≡ got t next)
 only-got (got t next) a e = (t, cc (ap passedView e))
-only-got (no number) a e = absurd (let z : _≡_ {A = ℕ} 0 1 = cc (ap passedView e) in omega arith)
+only-got (no refusal) a e = absurd (let z : _≡_ {A = ℕ} 0 1 = cc (ap passedView e) in omega arith)
 
 -- The file is refused by the first of preamble, rows and end that is refused; otherwise it is read.
 module _ (file : List ℕ) where
-  pub no-preamble : {k : ℕ} → preamble file 0 ≡ no k → readFile file ≡ no k
+  pub no-preamble : {k : Refusal} → preamble file 0 ≡ no k → readFile file ≡ no k
   unfolding planFile
   no-preamble e = rw e
 
   module _ {f : Preamble} {at : ℕ} (e : preamble file 0 ≡ got f at) where
-    pub no-rows : {k : ℕ} → rowsOf f (replicate places 0) file at ≡ no k
+    pub no-rows : {k : Refusal} → rowsOf f (replicate places 0) file at ≡ no k
         → readFile file ≡ no k
     unfolding planFile
     no-rows e′ = rw (e, e′)
 
     module _ {table : List ℕ} {last : ℕ}
         (e′ : rowsOf f (replicate places 0) file at ≡ got table last) where
-      pub no-end : {k : ℕ} → ended file last ≡ no k → readFile file ≡ no k
+      pub no-end : {k : Refusal} → ended file last ≡ no k → readFile file ≡ no k
       unfolding planFile
       no-end t = rw (e, e′, t)
 
@@ -99,13 +99,13 @@ module _ (file : List ℕ) {f : Preamble} {at : ℕ} (e : preamble file 0 ≡ go
 pub whole-read : (s : Parsed Contents) (table : List ℕ) (r : PlanRead) (left : List ℕ) → FillAnswer s table r left → table ≡ replicate places 0 → r .answer ≡ answer.Read → readView r left ≡ leaves s []
 whole-read (got contents next) table r left a zeros e =
     λ t. record { answer = (ap answerView e) t; plan = (a .1) t; table = (a .2 zeros ∙ sym (append-nil (contents .table))) t }
-whole-read (no number) table r left a zeros e = absurd (let z : _≡_ {A = ℕ} 0 1 = cc in omega arith)
+whole-read (no refusal) table r left a zeros e = absurd (let z : _≡_ {A = ℕ} 0 1 = cc in omega arith)
 
 pub whole-refused : (s : Parsed Contents) (table : List ℕ) (r : PlanRead) (left : List ℕ) → FillAnswer s table r left → {k : ℕ} → r .answer ≡ answer.Refused k
     → {plan : Plan} → plan ≡ noPlan → {zeros : List ℕ} → zeros ≡ replicate places 0
     → readView (record { answer = r .answer; plan = plan }) zeros ≡ leaves s []
 whole-refused (got contents next) table r left a e p z = absurd (let z : _≡_ {A = ℕ} 0 1 = cc (a .0) in omega arith)
-whole-refused (no number) table r left a e p z =
+whole-refused (no refusal) table r left a e p z =
     λ t. record { answer = (ap answerView a) t; plan = p t; table = (z ∙ sym (append-nil (replicate places 0))) t }
 
 pub whole-beyond : (s : Parsed Contents) (r : PlanRead) (left table : List ℕ) → readView r left ≡ leaves s []
@@ -116,7 +116,7 @@ whole-beyond (got contents next) r left table e =
       plan = (ap (λ (l : ReadEffect). l .plan) e) t;
       table = (ap (λ l. l ++ drop places table) (ap (λ (l : ReadEffect). l .table) e ∙ append-nil (contents .table))) t;
     }
-whole-beyond (no number) r left table e =
+whole-beyond (no refusal) r left table e =
     λ t. record {
       answer = (ap (λ (l : ReadEffect). l .answer) e) t;
       plan = (ap (λ (l : ReadEffect). l .plan) e) t;
@@ -136,21 +136,21 @@ reader-long file table h = rw (le-ltb (length table) places h)
 pub count-read : (s : Parsed Contents) (table : List ℕ) (r : PlanRead) (left : List ℕ) → FillAnswer s table r left → r .answer ≡ answer.Read
     → r .plan .count ≡ countOf s
 count-read (got contents next) table r left a e = ap (λ (p : Plan). p .count) (a .1)
-count-read (no number) table r left a e = absurd (let z : _≡_ {A = ℕ} 0 1 = cc in omega arith)
+count-read (no refusal) table r left a e = absurd (let z : _≡_ {A = ℕ} 0 1 = cc in omega arith)
 
 pub count-refused : (s : Parsed Contents) (table : List ℕ) (r : PlanRead) (left : List ℕ) → FillAnswer s table r left → {k : ℕ}
     → r .answer ≡ answer.Refused k → 0 ≡ countOf s
 count-refused (got contents next) table r left a e = absurd (let z : _≡_ {A = ℕ} 0 1 = cc (a .0) in omega arith)
-count-refused (no number) table r left a e = refl
+count-refused (no refusal) table r left a e = refl
 
 -- What the name lookup finds and shows: nothing from the job count on, eight bytes below it.
 pub found-none : (s : Parsed Contents) (k : ℕ) → countOf s ≤ k → foundBy s k ≡ 0
 found-none (got contents next) k h = rw (le-ltb k (contents .plan .count) h)
-found-none (no number) k h = refl
+found-none (no refusal) k h = refl
 
 pub found-name : (s : Parsed Contents) (k : ℕ) → k < countOf s → foundBy s k ≡ nameAt k
 found-name (got contents next) k h = rw (lt-ltb k (contents .plan .count) h)
-found-name (no number) k h = absurd (omega arith)
+found-name (no refusal) k h = absurd (omega arith)
 
 pub found-above : (s : Parsed Contents) (k : ℕ) → foundBy s k ≡ 0 → countOf s ≤ k
 found-above s k none = if-less k (countOf s) (λ l. absurd (omega (arith, found-name s k l))) (λ m. m)
@@ -160,8 +160,8 @@ found-below s k some = if-less k (countOf s) (λ l. l) (λ m. absurd (some (foun
 
 pub shown-none : (s : Parsed Contents) (file : List ℕ) (k : ℕ) → countOf s ≤ k → shownBy s file k ≡ []
 shown-none (got contents next) file k h = rw (le-ltb k (contents .plan .count) h)
-shown-none (no number) file k h = refl
+shown-none (no refusal) file k h = refl
 
 pub shown-part : (s : Parsed Contents) (file : List ℕ) (k : ℕ) → k < countOf s → shownBy s file k ≡ take 8 (drop (nameAt k) file)
 shown-part (got contents next) file k h = rw (lt-ltb k (contents .plan .count) h)
-shown-part (no number) file k h = absurd (omega arith)
+shown-part (no refusal) file k h = absurd (omega arith)

@@ -110,7 +110,7 @@ pub record ReadEffect : Type 0 where
 -- a refusal, and behind them what the lent table has from place `places` on.
 abbrev pub leaves : Parsed Contents → Table → ReadEffect
 leaves (got contents at) table = record { answer = []; plan = contents .plan; table = contents .table ++ drop places table }
-leaves (no number) table = record { answer = number ∷ []; plan = noPlan; table = replicate places 0 ++ drop places table }
+leaves (no refusal) table = record { answer = refusal .number ∷ []; plan = noPlan; table = replicate places 0 ++ drop places table }
 
 -- The reader: 22 for a table that is too short, which stays unchanged;
 -- otherwise what reading the file leaves.
@@ -122,7 +122,7 @@ reader file table =
 -- no job k.
 abbrev pub foundBy : Parsed Contents → Position → Offset
 foundBy (got contents at) k = cond (ltb k (contents .plan .count)) (nameAt k) 0
-foundBy (no number) k = 0
+foundBy (no refusal) k = 0
 
 -- The offset that the name lookup finds for job k of a file.
 unfoldable pub nameFound : (file : Bytes) (k : Position) → Offset
@@ -132,7 +132,7 @@ nameFound file k = foundBy (readFile file) k
 -- ends before, or nothing if the file is refused or has no job k.
 abbrev pub shownBy : Parsed Contents → Bytes → ℕ → List ℕ
 shownBy (got contents at) file k = cond (ltb k (contents .plan .count)) (take nameBytes (drop (nameAt k) file)) []
-shownBy (no number) file k = []
+shownBy (no refusal) file k = []
 
 -- The name lookup: what it shows for job k of a file.
 unfoldable pub nameShown : (file : Bytes) (k : ℕ) → Bytes

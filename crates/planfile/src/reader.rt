@@ -51,8 +51,9 @@ pub(crate) fn fill(file: &[u8], table: &mut [u32]) -> PlanRead
     let counted = preamble.answer;
     let plan = preamble.plan;
     let Field::Value(rows, at) = counted else {
+        let refusal = field_refusal(counted);
         return PlanRead {
-            answer: Answer::Refused(field_refusal(counted)),
+            answer: Answer::Refused(refusal.number),
             plan,
         };
     };
@@ -60,15 +61,17 @@ pub(crate) fn fill(file: &[u8], table: &mut [u32]) -> PlanRead
     let spans = intervals_of(plan);
     let stored = store_rows(file, at, rows as usize, &names[..count], spans, table);
     let Passed::Next(last) = stored else {
+        let refusal = passed_refusal(stored);
         return PlanRead {
-            answer: Answer::Refused(passed_refusal(stored)),
+            answer: Answer::Refused(refusal.number),
             plan,
         };
     };
     let end = read_end(file, last);
     let Passed::Next(_) = end else {
+        let refusal = passed_refusal(end);
         return PlanRead {
-            answer: Answer::Refused(passed_refusal(end)),
+            answer: Answer::Refused(refusal.number),
             plan,
         };
     };

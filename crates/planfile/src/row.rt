@@ -1,9 +1,10 @@
 // Reading one row, and the search for its job.
 use plan::edition::Edition;
+use plan::refusal::DONE;
 use plan::refusal::ROW_OUT_OF_ORDER;
 use plan::refusal::ROW_WITHOUT_JOB;
+use plan::refusal::Refusal;
 use planfields::field::Field;
-use planfields::field::NONE;
 use planfields::field::field_refusal;
 use planfields::field::read_named;
 use planfields::layout::Layout;
@@ -25,15 +26,15 @@ pub struct Row {
 
 pub enum RowRead {
     Row(Row, usize),
-    Refused(u8),
+    Refused(Refusal),
 }
 
-pub(crate) fn row_refusal(r: RowRead) -> u8
+pub(crate) fn row_refusal(r: RowRead) -> Refusal
     ensures { λ n. ⌜ n ≡ rowRefusal r ⌝ }
 {
     match r {
-        RowRead::Row(_, _) => NONE,
-        RowRead::Refused(number) => number,
+        RowRead::Row(_, _) => Refusal { number: DONE },
+        RowRead::Refused(refusal) => refusal,
     }
 }
 
@@ -86,7 +87,9 @@ pub(crate) fn read_row(
     };
     let job = find(names, name, start);
     if names.len() <= job {
-        return RowRead::Refused(ROW_WITHOUT_JOB);
+        return RowRead::Refused(Refusal {
+            number: ROW_WITHOUT_JOB,
+        });
     }
     let placed = read_interval(file, after_name, spans);
     let Field::Value(interval, after_interval) = placed else {
@@ -98,7 +101,9 @@ pub(crate) fn read_row(
     };
     let here = Edition::MOST_INTERVALS * job + interval as usize;
     if here < low {
-        return RowRead::Refused(ROW_OUT_OF_ORDER);
+        return RowRead::Refused(Refusal {
+            number: ROW_OUT_OF_ORDER,
+        });
     }
     RowRead::Row(
         Row {

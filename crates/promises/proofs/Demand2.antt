@@ -80,7 +80,7 @@ taken-is file table e = by (ltb (length table) places) refl (readFile file) refl
         ≡ leaves (got contents end) table)
     by true b s r e = absurd (let z : _≡_ {A = ℕ} 0 1 = cc in omega arith)
     by false b (got contents end) r e = (contents, end, r, ltb-false (length table) places b, rw (b, r) refl)
-    by false b (no number) r e = absurd (let z : _≡_ {A = ℕ} 0 1 = cc in omega arith)
+    by false b (no refusal) r e = absurd (let z : _≡_ {A = ℕ} 0 1 = cc in omega arith)
 
 -- Reading, then writing: the writer answers the file's length and writes the same bytes,
 -- and the rest of the output is unchanged.

@@ -98,7 +98,7 @@ some-reading file table = by (ltb (length table) places) (readFile file)
         × (readView r left ≡ cond b (record { answer = bufferTooShort ∷ []; plan = noPlan; table = table }) (leaves s table))
     by true s = (record { answer = read-answer.Refused bufferTooShort; plan = noPlan }, table, refl)
     by false (got held end) = (record { answer = read-answer.Read; plan = held .plan }, held .table ++ drop places table, refl)
-    by false (no number) = (record { answer = read-answer.Refused number; plan = noPlan }, replicate places 0 ++ drop places table, refl)
+    by false (no refusal) = (record { answer = read-answer.Refused (refusal .number); plan = noPlan }, replicate places 0 ++ drop places table, refl)
 
 -- `planfile::lookup::name_of`.
 pub one-name : (file : List ℕ) (position : ℕ) (part other : List ℕ) → Shows file position part → Shows file position other → part ≡ other
@@ -305,15 +305,15 @@ fields-one r s e = sym (back r) ∙ ap of e ∙ back s
   where
     of : Parsed ℕ → Field
     of (got v next) = field.Value v next
-    of (no number) = field.Refused number
+    of (no refusal) = field.Refused refusal
 
     back : (r : Field) → of (fieldView r) ≡ r
     back (field.Value v next) = refl
-    back (field.Refused number) = refl
+    back (field.Refused refusal) = refl
 
 field-some : (s : Parsed ℕ) → (r : Field) × (fieldView r ≡ s)
 field-some (got v next) = (field.Value v next, refl)
-field-some (no number) = (field.Refused number, refl)
+field-some (no refusal) = (field.Refused refusal, refl)
 
 -- `planfields::field::read_named`.
 pub one-named : (file : List ℕ) (at length : ℕ) (r s : Field) → ReadsNamed file at length r → ReadsNamed file at length s → r ≡ s
@@ -328,18 +328,18 @@ one-end file at r s d e = sym (back r) ∙ ap of (d ∙ sym e) ∙ back s
   where
     of : Parsed (Unit {0}) → Passed
     of (got u next) = passed.Next next
-    of (no number) = passed.Refused number
+    of (no refusal) = passed.Refused refusal
 
     back : (r : Passed) → of (passedView r) ≡ r
     back (passed.Next next) = refl
-    back (passed.Refused number) = refl
+    back (passed.Refused refusal) = refl
 
 pub some-end : (file : List ℕ) (at : ℕ) → (r : Passed) × ReadsEnd file at r
 some-end file at = by (ended file at)
   where
     by : (s : Parsed (Unit {0})) → (r : Passed) × (passedView r ≡ s)
     by (got u next) = (passed.Next next, refl)
-    by (no number) = (passed.Refused number, refl)
+    by (no refusal) = (passed.Refused refusal, refl)
 
 -- `planfields::head::read_head`.
 pub one-head : (file : List ℕ) (r s : HeadRead) → ReadsHead file r → ReadsHead file s → r ≡ s
@@ -347,18 +347,18 @@ one-head file r s d e = sym (back r) ∙ ap of (d ∙ sym e) ∙ back s
   where
     of : Parsed Head → HeadRead
     of (got h next) = head.Head (record { n = record { 0 = h .n }; d = record { 0 = h .d }; count = h .count }) next
-    of (no number) = head.Refused number
+    of (no refusal) = head.Refused refusal
 
     back : (r : HeadRead) → of (headView r) ≡ r
     back (head.Head h next) = refl
-    back (head.Refused number) = refl
+    back (head.Refused refusal) = refl
 
 pub some-head : (file : List ℕ) → (r : HeadRead) × ReadsHead file r
 some-head file = by (rule.head mostJobs file 0)
   where
     by : (s : Parsed Head) → (r : HeadRead) × (headView r ≡ s)
     by (got h next) = (head.Head (record { n = record { 0 = h .n }; d = record { 0 = h .d }; count = h .count }) next, refl)
-    by (no number) = (head.Refused number, refl)
+    by (no refusal) = (head.Refused refusal, refl)
 
 -- `planfields::job::read_job`.
 pub one-job : (file : List ℕ) (at : ℕ) (earlier : List ℕ) (r s : JobRead) → ReadsJob file at earlier r → ReadsJob file at earlier s → r ≡ s
@@ -366,18 +366,18 @@ one-job file at earlier r s d e = sym (back r) ∙ ap of (d ∙ sym e) ∙ back 
   where
     of : Parsed Job → JobRead
     of (got j next) = job.Job j next
-    of (no number) = job.Refused number
+    of (no refusal) = job.Refused refusal
 
     back : (r : JobRead) → of (jobView r) ≡ r
     back (job.Job j next) = refl
-    back (job.Refused number) = refl
+    back (job.Refused refusal) = refl
 
 pub some-job : (file : List ℕ) (at : ℕ) (earlier : List ℕ) → (r : JobRead) × ReadsJob file at earlier r
 some-job file at earlier = by (oneJob earlier file at)
   where
     by : (s : Parsed Job) → (r : JobRead) × (jobView r ≡ s)
     by (got j next) = (job.Job j next, refl)
-    by (no number) = (job.Refused number, refl)
+    by (no refusal) = (job.Refused refusal, refl)
 
 -- `planfields::numbers::read_row_count`.
 pub one-row-count : (file : List ℕ) (at : ℕ) (r s : Field) → ReadsRowCount file at r → ReadsRowCount file at s → r ≡ s

@@ -9,7 +9,7 @@ use native.Mathlib.Omega.{arith}
 use lib.Dec.{ltb, lit≤}
 use lib.ListN.{length, take, drop, replicate}
 use Rattle.plan.specs.Edition.{places}
-use Rattle.plan.specs.Refusal.{wrongVersion, belowFloorRule, speedAboveNormal, unsound, bufferTooShort}
+use Rattle.plan.specs.Refusal.{Refusal, refusalOf, wrongVersion, belowFloorRule, speedAboveNormal, unsound, bufferTooShort}
 use Rattle.base.specs.Below
 use Rattle.plan.specs.Rules.{nameAllowed, namesHold, namesDiffer, gradesHold, boundsHold, rulesHold}
 use Rattle.plan.specs.Boundaries.{insert, boundariesTo}
@@ -49,7 +49,7 @@ reader-22-leaves file table rest e = by (ltb (length table) places) (readFile fi
         × (cond b (record { answer = bufferTooShort ∷ []; plan = noPlan; table = table }) (leaves s table) .plan ≡ noPlan)
     by true s h e = (refl, refl)
     by false (got contents end) h e = absurd (let z : _≡_ {A = ℕ} 0 1 = cc in omega arith)
-    by false (no k) h e = absurd (false≢true (let n : k ≡ bufferTooShort = cc in sym (ap (isOneOf fileNumbers) n) ∙ h))
+    by false (no k) h e = absurd (false≢true (let n : k .number ≡ bufferTooShort = cc in sym (ap (isOneOf fileNumbers) n) ∙ h))
 
 -- Any other refusal leaves 2,016 zeros, the places past them unchanged, and a plan of zeros.
 pub reader-other-leaves : (file table : List ℕ) (number : ℕ) (rest : List ℕ) → reader file table .answer ≡ number ∷ rest → number ≢ bufferTooShort
@@ -66,9 +66,9 @@ reader-other-leaves file table number rest e other = by (ltb (length table) plac
     by false (no k) e = (refl, refl)
 
 -- Name lookup: a refused file shows nothing, and neither does a position without a job.
-pub refused-file-shows-nothing : (file : List ℕ) (number position : ℕ) → readFile file ≡ no number → nameShown file position ≡ []
+pub refused-file-shows-nothing : (file : List ℕ) (k : Refusal) (position : ℕ) → readFile file ≡ no k → nameShown file position ≡ []
 unfolding nameShown
-refused-file-shows-nothing file number position e = rw e refl
+refused-file-shows-nothing file k position e = rw e refl
 
 pub no-job-shows-nothing : (file : List ℕ) (contents : Contents) (end position : ℕ) → readFile file ≡ got contents end → contents .plan .count ≤ position
     → nameShown file position ≡ []
@@ -147,7 +147,7 @@ empty-file-leaves = reader-other-leaves [] (replicate places 7 ++ (9 ∷ [])) wr
 -- An empty file shows no name, and plan E's file shows no third one.
 empty-file-shows-nothing : nameShown [] 0 ≡ []
 unfolding version opening head preamble planFile
-empty-file-shows-nothing = refused-file-shows-nothing [] wrongVersion 0 refl
+empty-file-shows-nothing = refused-file-shows-nothing [] (refusalOf wrongVersion) 0 refl
 
 E-shows-no-third : nameShown fileE 2 ≡ []
 E-shows-no-third = no-job-shows-nothing fileE (record { plan = planE; table = tableE }) 116 2 read-E (lit≤ tt)

@@ -9,7 +9,7 @@ use lib.ListN.{length, getD, take, drop, set, replicate}
 use Rattle.base.specs.Sum.{sum}
 use Rattle.plan.specs.Edition.{mostJobs, mostRows, mostIntervals, places}
 use Rattle.planfields.specs.Layout.{jobLength, rowLength}
-use Rattle.plan.specs.Refusal.{wrongVersion, wrongExtent, wrongRecordLength, wrongRates, wrongJobCount, wrongNameByte, nameTaken, wrongGrade, wrongJobBounds, tooManyRows, rowWithoutJob, rowWithoutInterval, rowWithoutUnits, rowOutOfOrder, outsideWindow, wrongTotal, overCapacity, belowFloorRule, clockAtEnd, speedAboveNormal, unsound, bufferTooShort}
+use Rattle.plan.specs.Refusal.{refusalOf, wrongVersion, wrongExtent, wrongRecordLength, wrongRates, wrongJobCount, wrongNameByte, nameTaken, wrongGrade, wrongJobBounds, tooManyRows, rowWithoutJob, rowWithoutInterval, rowWithoutUnits, rowOutOfOrder, outsideWindow, wrongTotal, overCapacity, belowFloorRule, clockAtEnd, speedAboveNormal, unsound, bufferTooShort}
 use Rattle.base.specs.Below
 use Rattle.plan.specs.Rules.{counted, size, deadline, isHi, ratesAllowed, nameAllowed, isAbsent, gradeAllowed, windowAllowed, sizeAllowed, namesHold, namesDiffer, gradesHold, boundsHold, rulesHold}
 use Rattle.plan.specs.Boundaries.{insert, boundariesTo, boundary, intervals, lastDeadline}
@@ -44,15 +44,15 @@ same-number e = cc
 -- A parser's result is refused only by the listed numbers. Composition and tests preserve this.
 abbrev pub Only : {A : Type 0} → List ℕ → Parsed A → Type 0
 Only numbers (got a next) = Unit {0}
-Only numbers (no number) = isOneOf numbers number ≡ true
+Only numbers (no k) = isOneOf numbers (k .number) ≡ true
 
 only-onward : {A B : Type 0} (numbers : List ℕ) (s : Parsed A) (rest : A → Parser B) (file : List ℕ) → Only numbers s
     → ((a : A) (next : ℕ) → Only numbers (rest a file next)) → Only numbers (onward s rest file)
 only-onward numbers (got a next) rest file h r = r a next
-only-onward numbers (no number) rest file h r = h
+only-onward numbers (no k) rest file h r = h
 
 only-cond : {A : Type 0} (numbers : List ℕ) (b : Bool) (number : ℕ) (a : A) (next : ℕ) → isOneOf numbers number ≡ true
-    → Only numbers (cond b (got a next) (no number))
+    → Only numbers (cond b (got a next) (no (refusalOf number)))
 only-cond numbers true number a next h = tt
 only-cond numbers false number a next h = h
 
@@ -188,7 +188,7 @@ reader-numbers file table number rest e = by (ltb (length table) places) (readFi
         → isOneOf numbers number ≡ true
     by true s h e = ap (isOneOf numbers) (sym (same-number e))
     by false (got contents end) h e = absurd (let z : _≡_ {A = ℕ} 0 1 = cc in omega arith)
-    by false (no k) h e = ap (isOneOf numbers) (sym (same-number e)) ∙ more fileNumbers k bufferTooShort h
+    by false (no k) h e = ap (isOneOf numbers) (sym (same-number e)) ∙ more fileNumbers (k .number) bufferTooShort h
 
 -- The writer is refused only by 21 and 22.
 pub writer-numbers : (p : Plan) (table out : List ℕ) (number : ℕ) → writer p table out .answer ≡ writing.refused number

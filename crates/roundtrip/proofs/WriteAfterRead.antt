@@ -10,7 +10,7 @@ use lib.Dec.{leb, eqb}
 use lib.ListN.{length, getD, drop, replicate, length-map}
 use lib.Seq.{drop-cons, drop-length}
 use Rattle.plan.specs.Edition.{mostJobs, mostRows, mostIntervals, places}
-use Rattle.plan.specs.Refusal.{wrongExtent, tooManyRows}
+use Rattle.plan.specs.Refusal.{refusalOf, wrongExtent, tooManyRows}
 use Rattle.plan.specs.Rules.{noJob, names}
 use Rattle.plan.specs.Boundaries.{intervals}
 use Rattle.plan.specs.declared.kinds.Job.{Job}
@@ -51,7 +51,7 @@ ended-at : (file : List ℕ) (at : ℕ) {u : Unit {0}} {end : ℕ} → ended fil
 unfolding ended
 ended-at file at e = by (eqb at (length file)) refl e
   where
-    by : (t : Bool) → eqb at (length file) ≡ t → {u : Unit {0}} {end : ℕ} → cond t (got tt at) (no wrongExtent) ≡ got u end → at ≡ length file
+    by : (t : Bool) → eqb at (length file) ≡ t → {u : Unit {0}} {end : ℕ} → cond t (got tt at) (no (refusalOf wrongExtent)) ≡ got u end → at ≡ length file
     by true h e = eqb-true at (length file) h
     by false h e = absurd (let z : _≡_ {A = ℕ} 0 1 = cc in omega arith)
 

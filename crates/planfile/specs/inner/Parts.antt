@@ -5,6 +5,7 @@ use mathlib.Core.List.{List, _++_}
 use Prim.Native.Nat.{ℕ, _<_}
 use lib.ListN.{length, getD, drop, replicate}
 use Rattle.plan.specs.Edition.{places}
+use Rattle.plan.specs.Refusal.{Refusal, noRefusal}
 use Rattle.plan.specs.declared.kinds.Job.{Job}
 use Rattle.planfields.specs.declared.field.Field.the-variants as field
 use Rattle.planfields.specs.declared.field.Passed.{Passed}
@@ -23,43 +24,43 @@ use Rattle.planfields.specs.Fields.{Parsed, Head, got, no}
 abbrev pub Distinct : List ℕ → Type 0
 Distinct l = (i j : ℕ) → i < length l → j < length l → getD l i 0 ≡ getD l j 0 → i ≡ j
 
--- The view of a `RowRead`: the row and the offset of the next field, or the refusal number.
+-- The view of a `RowRead`: the row and the offset of the next field, or the refusal.
 abbrev pub rowView : RowRead → Parsed rule.Row
 rowView (row.Row r next) = got (record { at = r .at; units = r .units }) next
-rowView (row.Refused number) = no number
+rowView (row.Refused refusal) = no refusal
 
--- The refusal number of a `RowRead`, or 0.
-abbrev pub rowRefusal : RowRead → ℕ
-rowRefusal (row.Row r next) = 0
-rowRefusal (row.Refused number) = number
+-- The refusal of a `RowRead`, or `noRefusal` if it is a row.
+abbrev pub rowRefusal : RowRead → Refusal
+rowRefusal (row.Row r next) = noRefusal
+rowRefusal (row.Refused refusal) = refusal
 
 -- The contract of `read_jobs`: the next offset, the plan,
--- and the names stored over the prefix of `first`; after a refusal, only its number.
+-- and the names stored over the prefix of `first`; after a refusal, only the refusal.
 abbrev pub JobsAnswer : Head → List ℕ → Parsed (List Job) → Jobs → List ℕ → Type 0
 JobsAnswer h first (got jobs next) r names =
     (r .answer ≡ passed.Next next) × (r .plan ≡ rule.planFrom h jobs) × (names ≡ rule.namesOf jobs ++ drop (h .count) first)
-JobsAnswer h first (no number) r names = r .answer ≡ passed.Refused number
+JobsAnswer h first (no refusal) r names = r .answer ≡ passed.Refused refusal
 
 -- The contract of `read_preamble`: the row count, the plan and the names;
--- after a refusal, only its number.
+-- after a refusal, only the refusal.
 abbrev pub PreambleAnswer : List ℕ → Parsed rule.Preamble → Preamble → List ℕ → Type 0
 PreambleAnswer first (got f next) r names =
     (r .answer ≡ field.Value (f .rows) next) × (r .plan ≡ f .plan) × (names ≡ f .names ++ drop (f .plan .count) first)
-PreambleAnswer first (no number) r names = r .answer ≡ field.Refused number
+PreambleAnswer first (no refusal) r names = r .answer ≡ field.Refused refusal
 
--- The contract of `store_rows`: the next offset and the table; after a refusal, only its number.
+-- The contract of `store_rows`: the next offset and the table; after a refusal, only the refusal.
 abbrev pub RowsAnswer : Parsed (List ℕ) → Passed → List ℕ → Type 0
 RowsAnswer (got table next) r left = (r ≡ passed.Next next) × (left ≡ table)
-RowsAnswer (no number) r left = r ≡ passed.Refused number
+RowsAnswer (no refusal) r left = r ≡ passed.Refused refusal
 
 -- The contract of `fill`: the plan and, if the table was all zeros, the table; after a refusal,
--- only its number.
+-- only the refusal.
 abbrev pub FillAnswer : Parsed rule.Contents → (table : List ℕ) (r : PlanRead) (left : List ℕ) → Type 0
 FillAnswer (got contents next) table r left =
     (r .answer ≡ answer.Read) × (r .plan ≡ contents .plan) × (table ≡ replicate places 0 → left ≡ contents .table)
-FillAnswer (no number) table r left = r .answer ≡ answer.Refused number
+FillAnswer (no refusal) table r left = r .answer ≡ answer.Refused (refusal .number)
 
 -- The job count of a file's contents, or 0 for a refused file.
 abbrev pub countOf : Parsed rule.Contents → ℕ
 countOf (got contents next) = contents .plan .count
-countOf (no number) = 0
+countOf (no refusal) = 0

@@ -6,7 +6,7 @@ use borrow.Author.Needs.{needs}
 use Rattle.plan.specs.Edition.{mostJobs}
 use Rattle.planfile.specs.Reader.{allJobs}
 use Rattle.planfields.specs.Answers.{headView, headRefusal, headOf}
-use Rattle.planfields.proofs.ParserLaws.{so, refused, passed-number}
+use Rattle.planfields.proofs.ParserLaws.{so, refused, passed-refused}
 use Rattle.planfile.proofs.PreambleLaws.{head-count, jobs-refused, jobs-got, preamble-headless, preamble-jobless, preamble-whole}
 use Rattle.planfile.proofs.preamble.read_preamble.Statement.{statement}
 use Rattle.planfile.proofs.preamble.read_preamble.Tie as tie
@@ -67,7 +67,7 @@ returns-2 c =
     let at = at-read .read .given .0 .1 .0 in
     rw (preamble-jobless (a .names .now) (a .file .now) (so headView (at-read-head .read-head .ensures) (at-read .read .given .1))
     (jobs-refused (headOf head) (a .names .now) (at-read-jobs .read-jobs .result) (at-read-jobs .read-jobs .last .1 .1 .1 .0) (allJobs (head .count) [] (a .file .now) at) (at-read-jobs .read-jobs .ensures)
-    (passed-number (at-enum-told2 .enum-told2 .given .1) (c .passed-refusal .ensures)))) refl
+    (passed-refused (at-enum-told2 .enum-told2 .given .1) (c .passed-refusal .ensures)))) refl
 
 read-row-count-requires : tie.Need-read-row-count-requires
 read-row-count-requires c κs = search needs

@@ -10,7 +10,7 @@ use Rattle.planfields.specs.Fields.{got}
 use Rattle.planfile.specs.Reader.{Preamble, preamble}
 use Rattle.planfields.specs.Answers.{passedView, passedRefusal}
 use Rattle.planfile.specs.inner.Parts.{RowsAnswer}
-use Rattle.planfields.proofs.ParserLaws.{so, refused, passed-number, field-number}
+use Rattle.planfields.proofs.ParserLaws.{so, refused, passed-refused, field-refused}
 use Rattle.planfile.proofs.Rows.{onlyPassed, rows-only}
 use Rattle.planfile.proofs.PreambleLaws.{preamble-refused, preamble-got}
 use Rattle.planfile.proofs.WholeFile.{rowsOf, rows-passed, rows-left, only-refused, only-got, no-preamble, no-rows, no-end, file-whole, taken-length, count-within, rows-asked, rows-same}
@@ -72,7 +72,7 @@ returns c =
     let file = c .before .before .before .before .before .before .before .before .before .args .file .now in
     let r = c .before .before .before .before .before .read-preamble in
     rw (no-preamble file (preamble-refused (replicate mostJobs 0) (r .result) (r .last .1 .0) (preamble file 0) (r .ensures)
-    (field-number (c .before .enum-told .given .1) (c .field-refusal .ensures)))) refl
+    (field-refused (c .before .enum-told .given .1) (c .field-refusal .ensures)))) refl
 
 intervals-of-requires : tie.Need-intervals-of-requires
 intervals-of-requires c κs = search needs
@@ -110,7 +110,7 @@ returns-2 c =
     let matched = at-store-rows .before .before .before .before in
     let file = matched .before .before .before .before .before .before .before .before .before .args .file .now in
     rw (no-rows file (preamble-here matched .1)
-    (only-refused _ (passed-here at-store-rows) (passed-number (c .before .enum-told2 .given .1) (c .passed-refusal .ensures)))) refl
+    (only-refused _ (passed-here at-store-rows) (passed-refused (c .before .enum-told2 .given .1) (c .passed-refusal .ensures)))) refl
 
 read-end-requires : tie.Need-read-end-requires
 read-end-requires c κs = search needs

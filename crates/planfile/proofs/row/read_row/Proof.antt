@@ -127,8 +127,8 @@ returns-5 c =
     let a = entry .args in
     sym (row-late mostIntervals (a .names .now) (a .spans) (a .low) (a .file .now) (a .at) (so fieldView (at-read-named .read-named .ensures) (at-named .named .given .1)) (found (at-find .find .ensures) (at-if1 .if1 .left)) (so fieldView (at-read-interval .read-interval .ensures .0) (at-placed .placed .given .1)) (so fieldView (at-read-units .read-units .ensures .0) (at-counted .counted .given .1)) (rw (← (at-find .find .ensures)) (c .if2 .taken)))
 
-cast-t25 : tie.Need-cast-t25
-cast-t25 c =
+cast-t27 : tie.Need-cast-t27
+cast-t27 c =
     omega (arith, small (c .before .before .before .before .read-units .ensures .1) (c .before .before .counted .given .1))
 
 returns-6 : tie.Need-returns-6
@@ -170,5 +170,5 @@ read-row-spec =
     mul-here
     add-here
     returns-5
-    cast-t25
+    cast-t27
     returns-6)
