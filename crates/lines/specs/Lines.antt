@@ -36,7 +36,7 @@ unfoldable pub grantsText : (p : Plan) (grants : Row) (n : ℕ) → List ℕ
 grantsText p grants zero = []
 grantsText p grants (suc n) = grantsText p grants n ++ grantText (name p n) (getD grants n 0)
 
--- The text, or a dash if it is empty.
+-- The text, or a space and a dash if it is empty.
 abbrev pub orDash : List ℕ → List ℕ
 orDash [] = text " -"
 orDash (b ∷ l) = b ∷ l

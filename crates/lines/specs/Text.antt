@@ -7,16 +7,16 @@ use Prim.Native.String.{String, [] as none, _∷_ as _then_}
 use lib.Dec.{ltb}
 use Rattle.plan.specs.Rules.{byteOf}
 
--- The bytes of a text.
+-- The codes of a text, which are its bytes if all of it is ASCII.
 abbrev pub text : String → List ℕ
 text none = []
 text (c then s) = code c ∷ text s
 
--- The byte of a decimal digit.
+-- The byte of the decimal digit d, for d below 10.
 abbrev pub digit : ℕ → ℕ
 digit d = 48 + d
 
--- The decimal digits of n followed by `tail`; at most as many digits as the first argument.
+-- The decimal digits of n followed by `tail`; if they are more than `count`, the lowest `count` of them.
 unfoldable pub digits : (count n : ℕ) (tail : List ℕ) → List ℕ
 digits zero n tail = tail
 digits (suc most) n tail = cond (ltb n 10) (digit n ∷ tail) (digits most (n / 10) (digit (n % 10) ∷ tail))
@@ -29,7 +29,7 @@ decimal n = digits (suc n) n []
 abbrev pub mostDigits : ℕ
 mostDigits = 10
 
--- The eight bytes of a name, highest first.
+-- The lowest eight bytes of a number, highest first: all bytes of a name.
 abbrev pub nameText : ℕ → List ℕ
 nameText x =
     byteOf x 7 ∷ byteOf x 6 ∷ byteOf x 5 ∷ byteOf x 4 ∷ byteOf x 3 ∷ byteOf x 2 ∷ byteOf x 1 ∷ byteOf x 0 ∷ []

@@ -20,7 +20,7 @@ use Rattle.lines.specs.Lines.{slotHeader, outcomeHeader, strayLine, refusedLine
 abbrev pub planFault : ReadEffect → Report
 planFault left = orElse (left .answer) (judged (left .plan) (left .table))
 
--- The speed that two bytes encode, highest first.
+-- The speed that two bytes encode, highest first (for bytes: numbers below 256).
 abbrev pub speed : (high low : ℕ) → ℕ
 speed high low = high * 256 + low
 
@@ -42,7 +42,7 @@ isRefused ended = not (isNone (endingReport ended))
 abbrev pub endingText : (x : ℕ) (ended : Ending) (carried : Amount) → List ℕ
 endingText x ended carried = cond (isRefused ended) [] (outcomeLine x (endingWord ended) carried)
 
--- The line of job i.
+-- The line of job i, if its outcome is not refused.
 abbrev pub jobText : (p : Plan) (run : Run) (i : Position) → List ℕ
 jobText p run i = endingText (name p i) (outcome p run i) (carriedOf run i)
 
@@ -51,7 +51,7 @@ unfoldable pub jobsText : (p : Plan) (run : Run) (n : ℕ) → List ℕ
 jobsText p run zero = []
 jobsText p run (suc n) = jobsText p run n ++ jobText p run n
 
--- The text after the slots: the header, and a line for each job.
+-- The text after the slots: the header, and a line for each job whose outcome is not refused.
 unfoldable pub closing : Plan → Run → List ℕ
 closing p run = outcomeHeader ++ jobsText p run (counted p)
 
