@@ -1,19 +1,18 @@
 -- How far a plan file reaches in an input.
 use mathlib.Core.Path.{_≡_, refl, sym, _∙_, ap}
-use mathlib.Core.List.{List, [], _∷_, _++_, append-nil}
-use Prim.Native.Nat.{ℕ, _+_, _≤_, _<_}
-use native.Mathlib.Decide.{decLt}
+use mathlib.Core.List.{[], _∷_, _++_}
+use Prim.Native.Nat.{ℕ, _+_, _≤_}
 use native.Mathlib.Omega.{arith}
-use borrow.Author.Tests.{lt-ltb, le-ltb}
+use borrow.Author.Tests.{le-ltb}
 use lib.ListN.{length, take, drop, replicate, length-replicate}
-use lib.Seq.{take-all, take-append-le, take-at, drop-at, length-take-le}
+use lib.Seq.{take-append-le}
 use Rattle.plan.specs.Kinds.{Bytes}
 use Rattle.plan.specs.Edition.{mostJobs, places}
 use Rattle.planfields.specs.Bytes.{value}
-use Rattle.planfields.specs.Fields.{Parsed, got, no, head, field}
-use Rattle.planfields.specs.Layout.{openingBytes, largestFile, lengthSaid, fileBytes}
+use Rattle.planfields.specs.Fields.{Parsed, got, no, head}
+use Rattle.planfields.specs.Layout.{openingBytes, lengthSaid, fileBytes}
 use Rattle.planfields.proofs.ParserLaws.{through}
-use Rattle.planfile.specs.Reader.{Contents, preamble, planFile, readFile, leaves, reader}
+use Rattle.planfile.specs.Reader.{Contents, preamble, planFile, readFile, leaves}
 use Rattle.program.specs.Turns.{readIn}
 use Rattle.planfile.proofs.Offsets.{field-extent, opening-extent, head-read}
 use Rattle.planfile.proofs.WholeFile.{reader-long}

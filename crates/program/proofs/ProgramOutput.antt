@@ -4,7 +4,7 @@ use mathlib.Core.Bool.{Bool, true}
 use mathlib.Core.List.{List, [], _∷_, _++_, append-nil}
 use Prim.Native.Nat.{ℕ, _≤_}
 use native.Mathlib.Omega.{arith}
-use lib.ListN.{length, take, drop, length-append, drop-of-length-le}
+use lib.ListN.{length, take, length-append, drop-of-length-le}
 use lib.Seq.{take-all, take-at, drop-at, length-take-le}
 use Rattle.plan.specs.Kinds.{Bytes}
 use Rattle.plan.specs.Report.{Report}

@@ -106,9 +106,13 @@ Opens file table out r table-left left =
     (r .progress ≡ opened (reader file table) .progress) × (table-left ≡ reader file table .table)
     × Prints (opened (reader file table) .line) out (r .printed) left
 
+-- The number of bytes of a speed.
+abbrev pub speedBytes : ℕ
+speedBytes = 2
+
 -- The most bytes that a turn in this phase reads: those of a speed, or none.
 abbrev pub mostRead : Phase → ℕ
-mostRead phase = cond (reads phase) 2 0
+mostRead phase = cond (reads phase) speedBytes 0
 
 -- Several turns as one, from a progress on: one for each chunk of bytes, the latest chunk first. Its
 -- line is all of their lines.
@@ -164,10 +168,11 @@ pub record Played (n : Progress) (table : Table) (heard told : ℕ) (last : Prog
   pub tells : told-then ≡ told + length (after n table chunks .line)
   pub ends : (over (last .phase) ≡ true) ⊎ (written ≡ false) ⊎ (length chunks ≡ mostTurns)
 
--- What the reader leaves of a file with a table of zeros, and the first turn then.
+-- What the reader leaves of a file with a table of zeros.
 abbrev pub readIn : (file : Bytes) → ReadEffect
 readIn file = reader file (replicate places 0)
 
+-- The first turn, for a file.
 abbrev pub begun : (file : Bytes) → Turned
 begun file = opened (readIn file)
 

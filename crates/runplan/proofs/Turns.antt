@@ -2,7 +2,7 @@
 use mathlib.Core.Path.{_≡_, refl, sym, _∙_, ap}
 use mathlib.Core.Bool.{Bool, true, false, cond, _&&_, not}
 use mathlib.Core.Logic.{_⊎_, inl, inr}
-use mathlib.Core.List.{List, [], _∷_, _++_}
+use mathlib.Core.List.{List, [], _∷_}
 use Prim.Native.Nat.{ℕ, suc, _+_, _*_, _-_, _^_, _≤_, _<_}
 use native.Mathlib.Omega.{arith}
 use native.Mathlib.Nat.{zero-add}
@@ -14,7 +14,7 @@ use Rattle.planfile.specs.Reader.{reader}
 use Rattle.lines.specs.Lines.{longestLine}
 use Rattle.program.specs.declared.Phase.{Phase}
 use Rattle.program.specs.declared.Progress.{Progress}
-use Rattle.program.specs.Turns.{Turned, turned, opened, reads, over, mostRead, after, InTurn, bytesOf, mostTurns, Tells, TellsSome, Played, WholeProgram}
+use Rattle.program.specs.Turns.{Turned, turned, opened, reads, over, speedBytes, mostRead, after, InTurn, bytesOf, mostTurns, Tells, TellsSome, Played, WholeProgram}
 
 clash : {A : Type 0} → true ≡ false → A
 clash e = let z : _≡_ {A = ℕ} 0 1 = cc in absurd (omega arith)
@@ -28,7 +28,7 @@ pub record Going (n : Progress) (table : Table) (heard told turns : ℕ) (last :
   pub progress : last ≡ after n table chunks .progress
   pub hears : heard-then ≡ heard + length (bytesOf chunks)
   pub tells : told-then ≡ told + length (after n table chunks .line)
-  pub few : heard-then ≤ largestFile + 2 * length chunks
+  pub few : heard-then ≤ largestFile + speedBytes * length chunks
   pub small : told-then ≤ suc (length chunks) * longestLine
 
 pub going-start : (n : Progress) (table : Table) (heard told : ℕ) → heard ≤ largestFile → told ≤ longestLine → Going n table heard told mostTurns n heard told
@@ -47,14 +47,14 @@ going-start n table heard told few small =
 
 -- While turns are left, one more chunk and one more line can be counted.
 pub going-room : {n last : Progress} {table : Table} {heard told turns heard-then told-then : ℕ} → Going n table heard told turns last heard-then told-then
-    → 0 < turns → (heard-then + 2 < 2 ^ 64) × (told-then + longestLine < 2 ^ 64)
+    → 0 < turns → (heard-then + speedBytes < 2 ^ 64) × (told-then + longestLine < 2 ^ 64)
 going-room g h = (omega (arith, g .all, g .few), omega (arith, g .all, g .small))
 
 -- No phase reads more than a speed.
-most-read : (phase : Phase) → mostRead phase ≤ 2
+most-read : (phase : Phase) → mostRead phase ≤ speedBytes
 most-read phase = by (reads phase)
   where
-    by : (b : Bool) → cond b 2 0 ≤ 2
+    by : (b : Bool) → cond b speedBytes 0 ≤ speedBytes
     by true = omega arith
     by false = omega arith
 

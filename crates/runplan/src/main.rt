@@ -26,7 +26,7 @@ ghost use Rattle.planfields.specs.Layout.{largestFile, fileBytes};
 ghost use Rattle.planfile.specs.Reader.{reader};
 ghost use Rattle.lines.specs.Answers.{lengthOf};
 ghost use Rattle.lines.specs.Lines.{longestLine};
-ghost use Rattle.program.specs.Turns.{turned, opened, over, mostRead, Tells, TellsSome, Played, WholeProgram};
+ghost use Rattle.program.specs.Turns.{opened, over, speedBytes, mostRead, Tells, TellsSome, Played, WholeProgram};
 
 // The number of bytes of a speed.
 const SPEED_BYTES: usize = 2;
@@ -137,7 +137,7 @@ fn begin(file: &[u8], table: &mut [u32], line: &mut [u8]) -> Done
 
 // Reads the bytes for a turn: those of a speed if the progress takes one, otherwise none.
 fn read_speed(progress: Progress, heard: usize, speed: &mut [u8]) -> Came
-    requires { ⌜ (length (now speed) ≡ 2) × (heard + 2 < 2 ^ 64) ⌝ }
+    requires { ⌜ (length (now speed) ≡ speedBytes) × (heard + speedBytes < 2 ^ 64) ⌝ }
     ensures { λ r. ⌜ Counts (r .bytes) (now (speed .exit)) × (r .bytes ≤ mostRead (progress .phase)) × (r .heard ≡ heard + r .bytes) ⌝ }
 {
     if !is_reading(progress) {
@@ -148,7 +148,7 @@ fn read_speed(progress: Progress, heard: usize, speed: &mut [u8]) -> Came
 
 // One turn after the first; its line is written before more is read.
 fn one(done: Done, table: &[u32], line: &mut [u8]) -> Done
-    requires { ⌜ (length (now line) ≡ longestLine) × (done .heard + 2 < 2 ^ 64) × (done .told + longestLine < 2 ^ 64) ⌝ }
+    requires { ⌜ (length (now line) ≡ longestLine) × (done .heard + speedBytes < 2 ^ 64) × (done .told + longestLine < 2 ^ 64) ⌝ }
     ensures { λ r. ⌜ TellsSome (done .progress) (now (table .entry)) (done .heard) (done .told) (r .progress) (r .heard) (r .told) (now (line .exit)) ⌝ }
 {
     let mut speed = [0u8; SPEED_BYTES];
