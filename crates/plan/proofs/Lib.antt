@@ -5,3 +5,4 @@ pub mod Stray
 pub mod PresentInterval
 pub mod Soundness
 pub mod Reports
+pub mod VersionLimits

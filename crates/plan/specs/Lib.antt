@@ -1,5 +1,6 @@
 pub mod Kinds
 pub mod Edition
+pub mod Versions
 pub mod Refusal
 pub mod Report
 pub mod Rules

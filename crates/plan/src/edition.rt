@@ -8,6 +8,10 @@ impl Edition {
     pub const MOST_BOUNDARIES: usize = 2 * Self::MOST_JOBS;
 
     pub const MOST_INTERVALS: usize = Self::MOST_BOUNDARIES - 1;
+
+    // The newest version of plan files.
+    pub const NEWEST_VERSION: u8 = 1;
+
     // The bound on a file's row count. The number of the table's own places is PLACES,
     // independent of this bound.
     pub const MOST_ROWS: usize = 2016;

@@ -6,3 +6,4 @@ pub mod kinds;
 pub mod refusal;
 pub mod rules;
 pub mod table;
+pub mod versions;

@@ -1,83 +1,53 @@
--- Laws of the opening, the head and one job, field by field: the first fault decides the result.
+-- Laws of the head and of one job, field by field: the first fault decides the result.
 use mathlib.Core.Path.{_≡_}
-use mathlib.Core.Bool.{true, false, _&&_}
+use mathlib.Core.Bool.{Bool, true, false, _&&_}
 use mathlib.Core.List.{List}
-use Prim.Native.Nat.{ℕ, _+_, _<_}
-use native.Mathlib.Omega.{arith}
-use borrow.Author.Tests.{lt-ltb, le-ltb, eq-eqb, ne-eqb}
-use lib.Dec.{leb}
-use lib.ListN.{length, getD}
-use Rattle.plan.specs.Refusal.{Refusal, refusalOf, wrongVersion, wrongExtent, wrongRates, wrongJobCount, wrongGrade, wrongJobBounds}
+use Prim.Native.Nat.{ℕ}
+use Rattle.plan.specs.Versions.{newestVersion, countAllowedIn}
+use Rattle.plan.specs.Refusal.{Refusal, refusalOf, wrongRates, wrongJobCount, wrongGrade, wrongJobBounds}
 use Rattle.plan.specs.Rules.{ratesAllowed, gradeAllowed, windowAllowed, sizeAllowed}
 use Rattle.plan.specs.declared.kinds.Job.{Job}
-use Rattle.planfields.specs.Fields.{Parsed, got, no, field, checked, version, extent, opening, Head, head, jobName, oneJob}
-
--- An empty file is refused for its version.
-pub opening-empty : (file : List ℕ) → length file ≡ 0 → _≡_ {A = Parsed ℕ} (no (refusalOf wrongVersion)) (opening file 0)
-unfolding opening version
-opening-empty file h = rw (le-ltb 0 (length file) (omega (arith, h)))
-
--- After the first byte: the version, then the length field decides.
-module _ (file : List ℕ) (long : 0 < length file) where
-  pub opening-other : (getD file 0 0 ≡ 1 → ⊥) → _≡_ {A = Parsed ℕ} (no (refusalOf wrongVersion)) (opening file 0)
-  unfolding opening version
-  opening-other h = rw (lt-ltb 0 (length file) long, ne-eqb (getD file 0 0) 1 h)
-
-  module _ (is : getD file 0 0 ≡ 1) where
-    pub opening-cut : {k : Refusal} → field 4 file 1 ≡ no k → _≡_ {A = Parsed ℕ} (no k) (opening file 0)
-    unfolding opening version extent
-    opening-cut e = rw (lt-ltb 0 (length file) long, eq-eqb (getD file 0 0) 1 is, e)
-
-    pub opening-wrong : {n next : ℕ} → field 4 file 1 ≡ got n next → (next + n ≡ length file → ⊥)
-        → _≡_ {A = Parsed ℕ} (no (refusalOf wrongExtent)) (opening file 0)
-    unfolding opening version extent
-    opening-wrong {n} {next} e h =
-        rw (lt-ltb 0 (length file) long, eq-eqb (getD file 0 0) 1 is, e, ne-eqb (next + n) (length file) h)
-
-    pub opening-right : {n next : ℕ} → field 4 file 1 ≡ got n next → next + n ≡ length file
-        → _≡_ {A = Parsed ℕ} (got n next) (opening file 0)
-    unfolding opening version extent
-    opening-right {n} {next} e h =
-        rw (lt-ltb 0 (length file) long, eq-eqb (getD file 0 0) 1 is, e, eq-eqb (next + n) (length file) h)
+use Rattle.fields.specs.Parsers.{Parsed, got, no, field, checked, opening}
+use Rattle.planfields.specs.Records.{Head, head, jobName, oneJob}
 
 -- A head is refused by the first of its fields and tests that fails.
-module _ (most : ℕ) (file : List ℕ) (at : ℕ) where
-  pub head-unopened : {k : Refusal} → opening file at ≡ no k → _≡_ {A = Parsed Head} (no k) (head most file at)
+module _ (compared : Bool) (file : List ℕ) (at : ℕ) where
+  pub head-unopened : {k : Refusal} → opening newestVersion compared file at ≡ no k → _≡_ {A = Parsed Head} (no k) (head compared file at)
   unfolding head
   head-unopened e = rw e
 
-  module _ {v a₁ : ℕ} (e₁ : opening file at ≡ got v a₁) where
-    pub head-no-normal : {k : Refusal} → field 2 file a₁ ≡ no k → _≡_ {A = Parsed Head} (no k) (head most file at)
+  module _ {v a₁ : ℕ} (e₁ : opening newestVersion compared file at ≡ got v a₁) where
+    pub head-no-normal : {k : Refusal} → field 2 file a₁ ≡ no k → _≡_ {A = Parsed Head} (no k) (head compared file at)
     unfolding head
     head-no-normal e = rw (e₁, e)
 
     module _ {n a₂ : ℕ} (e₂ : field 2 file a₁ ≡ got n a₂) where
-      pub head-no-floor : {k : Refusal} → field 2 file a₂ ≡ no k → _≡_ {A = Parsed Head} (no k) (head most file at)
+      pub head-no-floor : {k : Refusal} → field 2 file a₂ ≡ no k → _≡_ {A = Parsed Head} (no k) (head compared file at)
       unfolding head
       head-no-floor e = rw (e₁, e₂, e)
 
       module _ {d a₃ : ℕ} (e₃ : field 2 file a₂ ≡ got d a₃) where
-        pub head-rates : ratesAllowed n d ≡ false → _≡_ {A = Parsed Head} (no (refusalOf wrongRates)) (head most file at)
+        pub head-rates : ratesAllowed n d ≡ false → _≡_ {A = Parsed Head} (no (refusalOf wrongRates)) (head compared file at)
         unfolding head
         head-rates t = rw (e₁, e₂, e₃, t)
 
         module _ (t : ratesAllowed n d ≡ true) where
-          pub head-no-count : {k : Refusal} → field 1 file a₃ ≡ no k → _≡_ {A = Parsed Head} (no k) (head most file at)
+          pub head-no-count : {k : Refusal} → field 1 file a₃ ≡ no k → _≡_ {A = Parsed Head} (no k) (head compared file at)
           unfolding head
           head-no-count e = rw (e₁, e₂, e₃, t, e)
 
-          pub head-count-refused : {count a₄ : ℕ} → field 1 file a₃ ≡ got count a₄ → (leb 1 count && leb count most) ≡ false
-              → _≡_ {A = Parsed Head} (no (refusalOf wrongJobCount)) (head most file at)
+          pub head-count-refused : {count a₄ : ℕ} → field 1 file a₃ ≡ got count a₄ → countAllowedIn v count ≡ false
+              → _≡_ {A = Parsed Head} (no (refusalOf wrongJobCount)) (head compared file at)
           unfolding head
           head-count-refused e u = rw (e₁, e₂, e₃, t, e, u)
 
 -- A head whose fields are all read and pass their tests is read.
-pub head-whole : (most : ℕ) (file : List ℕ) (at : ℕ) {v n d count a₁ a₂ a₃ a₄ : ℕ} → opening file at ≡ got v a₁
+pub head-whole : (compared : Bool) (file : List ℕ) (at : ℕ) {v n d count a₁ a₂ a₃ a₄ : ℕ} → opening newestVersion compared file at ≡ got v a₁
     → field 2 file a₁ ≡ got n a₂ → field 2 file a₂ ≡ got d a₃ → ratesAllowed n d ≡ true → field 1 file a₃ ≡ got count a₄
-    → (leb 1 count && leb count most) ≡ true
-    → _≡_ {A = Parsed Head} (got (record { n = n; d = d; count = count }) a₄) (head most file at)
+    → countAllowedIn v count ≡ true
+    → _≡_ {A = Parsed Head} (got (record { version = v; n = n; d = d; count = count }) a₄) (head compared file at)
 unfolding head
-head-whole most file at e₁ e₂ e₃ t e₄ u = rw (e₁, e₂, e₃, t, e₄, u)
+head-whole compared file at e₁ e₂ e₃ t e₄ u = rw (e₁, e₂, e₃, t, e₄, u)
 
 -- A job whose fields are all read: its bounds decide.
 module _ (earlier file : List ℕ) (at : ℕ) {name grade release size deadline a₁ a₂ a₃ a₄ a₅ : ℕ}

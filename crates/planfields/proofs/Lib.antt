@@ -1,3 +1,1 @@
-pub mod ByteLaws
-pub mod ParserLaws
 pub mod HeadLaws

@@ -1,14 +1,10 @@
--- The layout of a plan file: its version, the lengths of its parts, and how far it reaches.
+-- The layout of a plan file: the lengths of its parts, and how far it reaches.
 use mathlib.Core.Bool.{cond}
 use Prim.Native.Nat.{ℕ, _+_, _*_, min}
 use lib.Dec.{ltb}
 use lib.ListN.{length, getD}
 use Rattle.plan.specs.Kinds.{Bytes, Offset, Position}
-use Rattle.plan.specs.Edition.{mostJobs, mostRows}
-
--- The first byte of a plan file.
-abbrev pub versionByte : ℕ
-versionByte = 1
+use Rattle.plan.specs.Versions.{newestVersion, mostJobsIn, mostRowsIn}
 
 -- The number of bytes of the opening: version and length field, which counts the bytes after it.
 abbrev pub openingBytes : ℕ
@@ -30,9 +26,9 @@ rowCountBytes = 2
 abbrev pub rowLength : ℕ
 rowLength = 14
 
--- The size of the largest plan file.
+-- The size of the largest plan file, which is of the newest version.
 abbrev pub largestFile : ℕ
-largestFile = headerBytes + mostJobs * (1 + jobLength) + rowCountBytes + mostRows * (1 + rowLength)
+largestFile = headerBytes + mostJobsIn newestVersion * (1 + jobLength) + rowCountBytes + mostRowsIn newestVersion * (1 + rowLength)
 
 -- The offset at which the name of job i begins: after the header, the jobs before it, and its
 -- length byte.

@@ -1,4 +1,3 @@
 pub mod Layout
-pub mod Bytes
-pub mod Fields
+pub mod Records
 pub mod Answers

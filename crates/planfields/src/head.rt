@@ -1,22 +1,23 @@
 // Reading the fields before the jobs: version, length, both rates and the job count.
-use crate::field::Field;
-use crate::field::field_refusal;
-use crate::field::read_field;
-use crate::layout::Layout;
+use fields::field::Field;
+use fields::field::field_refusal;
+use fields::field::read_byte;
+use fields::field::read_two;
+use fields::opening::LengthRule;
+use fields::opening::read_opening;
+use plan::edition::Edition;
 use plan::kinds::Rate;
 use plan::refusal::DONE;
 use plan::refusal::Refusal;
-use plan::refusal::WRONG_EXTENT;
 use plan::refusal::WRONG_JOB_COUNT;
 use plan::refusal::WRONG_RATES;
-use plan::refusal::WRONG_VERSION;
-use plan::rules::count_allowed;
 use plan::rules::rates_allowed;
+use plan::versions::count_allowed_in;
 ghost use mathlib.Core.Path.{_≡_};
-ghost use Rattle.planfields.specs.Fields.{opening};
-ghost use Rattle.planfields.specs.Answers.{fieldView, headRefusal, ReadsHead};
+ghost use Rattle.planfields.specs.Answers.{headRefusal, ReadsHead};
 
 pub struct Head {
+    pub version: u8,
     pub n: Rate,
     pub d: Rate,
     pub count: usize,
@@ -36,49 +37,18 @@ pub fn head_refusal(h: HeadRead) -> Refusal
     }
 }
 
-// The version byte and the length field, which must be the number of bytes after it.
-fn read_opening(file: &[u8]) -> Field
-    ensures { λ r. ⌜ fieldView r ≡ opening (now (file .entry)) 0 ⌝ }
+pub fn read_head(file: &[u8], lengths: LengthRule) -> HeadRead
+    ensures { λ r. ⌜ ReadsHead (now (file .entry)) lengths r ⌝ }
 {
-    if file.len() == 0 {
-        return Field::Refused(Refusal {
-            number: WRONG_VERSION,
-        });
-    }
-    if file[0] != Layout::VERSION {
-        return Field::Refused(Refusal {
-            number: WRONG_VERSION,
-        });
-    }
-    let length = read_field(file, 1, 4);
-    let Field::Value(n, next) = length else {
-        return length;
-    };
-    if file.len() < next {
-        return Field::Refused(Refusal {
-            number: WRONG_EXTENT,
-        });
-    }
-    if (file.len() - next) as u64 != n {
-        return Field::Refused(Refusal {
-            number: WRONG_EXTENT,
-        });
-    }
-    length
-}
-
-pub fn read_head(file: &[u8]) -> HeadRead
-    ensures { λ r. ⌜ ReadsHead (now (file .entry)) r ⌝ }
-{
-    let opening = read_opening(file);
-    let Field::Value(_, at) = opening else {
+    let opening = read_opening(file, Edition::NEWEST_VERSION, lengths);
+    let Field::Value(version, at) = opening else {
         return HeadRead::Refused(field_refusal(opening));
     };
-    let normal = read_field(file, at, 2);
+    let normal = read_two(file, at);
     let Field::Value(n, after_n) = normal else {
         return HeadRead::Refused(field_refusal(normal));
     };
-    let floor = read_field(file, after_n, 2);
+    let floor = read_two(file, after_n);
     let Field::Value(d, after_d) = floor else {
         return HeadRead::Refused(field_refusal(floor));
     };
@@ -87,17 +57,18 @@ pub fn read_head(file: &[u8]) -> HeadRead
             number: WRONG_RATES,
         });
     }
-    let jobs = read_field(file, after_d, 1);
+    let jobs = read_byte(file, after_d);
     let Field::Value(count, next) = jobs else {
         return HeadRead::Refused(field_refusal(jobs));
     };
-    if !count_allowed(count as usize) {
+    if !count_allowed_in(version as u8, count) {
         return HeadRead::Refused(Refusal {
             number: WRONG_JOB_COUNT,
         });
     }
     HeadRead::Head(
         Head {
+            version: version as u8,
             n: Rate(n as u16),
             d: Rate(d as u16),
             count: count as usize,

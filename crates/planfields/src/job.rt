@@ -1,9 +1,10 @@
 // Reading one job.
-use crate::field::Field;
-use crate::field::field_refusal;
-use crate::field::read_field;
-use crate::field::read_named;
 use crate::layout::Layout;
+use crate::named::read_named;
+use fields::field::Field;
+use fields::field::field_refusal;
+use fields::field::read_byte;
+use fields::field::read_four;
 use plan::kinds::Job;
 use plan::kinds::Name;
 use plan::kinds::Slots;
@@ -23,8 +24,10 @@ ghost use mathlib.Core.Path.{_≡_};
 ghost use Prim.Native.Nat.{_<_, _^_};
 ghost use Rattle.plan.specs.Refusal.{wrongGrade};
 ghost use Rattle.plan.specs.Rules.{gradeAllowed};
-ghost use Rattle.planfields.specs.Fields.{jobName, checked};
-ghost use Rattle.planfields.specs.Answers.{fieldView, fieldValue, jobRefusal, ReadsJob};
+ghost use Rattle.fields.specs.Parsers.{checked};
+ghost use Rattle.fields.specs.Answers.{fieldView, fieldValue};
+ghost use Rattle.planfields.specs.Records.{jobName};
+ghost use Rattle.planfields.specs.Answers.{jobRefusal, ReadsJob};
 
 pub enum JobRead {
     Job(Job, usize),
@@ -62,7 +65,7 @@ fn read_name(file: &[u8], at: usize, earlier: &[u64]) -> Field
 fn read_grade(file: &[u8], at: usize) -> Field
     ensures { λ r. ⌜ (fieldView r ≡ checked 1 gradeAllowed wrongGrade (now (file .entry)) at) × (fieldValue r < 256 ^ 1) ⌝ }
 {
-    let byte = read_field(file, at, 1);
+    let byte = read_byte(file, at);
     let Field::Value(grade, next) = byte else {
         return byte;
     };
@@ -85,15 +88,15 @@ pub fn read_job(file: &[u8], at: usize, earlier: &[u64]) -> JobRead
     let Field::Value(grade, after_grade) = graded else {
         return JobRead::Refused(field_refusal(graded));
     };
-    let released = read_field(file, after_grade, 4);
+    let released = read_four(file, after_grade);
     let Field::Value(release, after_release) = released else {
         return JobRead::Refused(field_refusal(released));
     };
-    let sized = read_field(file, after_release, 4);
+    let sized = read_four(file, after_release);
     let Field::Value(size, after_size) = sized else {
         return JobRead::Refused(field_refusal(sized));
     };
-    let dead = read_field(file, after_size, 4);
+    let dead = read_four(file, after_size);
     let Field::Value(deadline, next) = dead else {
         return JobRead::Refused(field_refusal(dead));
     };

@@ -4,9 +4,6 @@ use plan::edition::Edition;
 pub struct Layout();
 
 impl Layout {
-    // The first byte of a plan file.
-    pub const VERSION: u8 = 1;
-
     // The version byte and the length field, which counts the bytes after these two.
     pub const OPENING_BYTES: usize = 5;
 

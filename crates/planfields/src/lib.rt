@@ -1,6 +1,6 @@
-// The parts of a plan file: numbers as bytes, single fields, the head and one job.
-pub mod field;
+// The parts of a plan file: its layout, the head, one job, and the numbers after the jobs.
 pub mod head;
 pub mod job;
 pub mod layout;
+pub mod named;
 pub mod numbers;

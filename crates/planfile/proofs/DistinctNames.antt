@@ -15,10 +15,11 @@ use Rattle.plan.specs.Refusal.{wrongNameByte, nameTaken, wrongGrade, wrongJobBo
 use Rattle.plan.specs.Rules.{nameAllowed, isAbsent, gradeAllowed, windowAllowed, sizeAllowed}
 use Rattle.plan.specs.declared.kinds.Job.{Job}
 use Rattle.base.proofs.Below.{every-at}
-use Rattle.planfields.specs.Fields.{got, field, checked, named, jobName, oneJob}
+use Rattle.fields.specs.Parsers.{got, field, checked}
+use Rattle.planfields.specs.Records.{named, jobName, oneJob}
 use Rattle.planfile.specs.Reader.{namesOf, allJobs}
 use Rattle.planfile.specs.inner.Parts.{Distinct}
-use Rattle.planfields.proofs.ParserLaws.{through, past, checked-is, same-value, same-next}
+use Rattle.fields.proofs.ParserLaws.{through, past, checked-is, same-value, same-next}
 use Rattle.planfile.proofs.JobLoop.{names-snoc, length-snoc}
 
 pub absent-each : (l : List ℕ) (x k : ℕ) → isAbsent l x ≡ true → k < length l → getD l k 0 ≡ x → ⊥

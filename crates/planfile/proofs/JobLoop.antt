@@ -11,7 +11,8 @@ use Rattle.plan.specs.Edition.{mostJobs}
 use Rattle.plan.specs.Rules.{noJob}
 use Rattle.plan.specs.declared.kinds.Job.{Job}
 use Rattle.plan.specs.declared.kinds.Plan.{Plan}
-use Rattle.planfields.specs.Fields.{got, no, oneJob, Head}
+use Rattle.fields.specs.Parsers.{got, no}
+use Rattle.planfields.specs.Records.{oneJob, Head}
 use Rattle.planfile.specs.Reader.{namesOf, allJobs, planFrom}
 
 -- Jobs, padded with zero records to length `mostJobs`.

@@ -1,47 +1,34 @@
 -- How many bytes each parser consumes, and that the file has them.
-use mathlib.Core.Path.{_≡_, refl, sym, _∙_, ap}
-use mathlib.Core.Bool.{Bool, true, false, cond, _&&_}
+use mathlib.Core.Path.{_≡_, refl, _∙_, ap}
+use mathlib.Core.Bool.{true}
 use mathlib.Core.List.{List, [], _∷_, _++_}
 use Prim.Native.Nat.{ℕ, zero, suc, _+_, _*_, _≤_, _<_}
 use native.Mathlib.Omega.{arith}
-use borrow.Author.Tests.{leb-true, ltb-true, eqb-true}
-use lib.Dec.{leb, ltb, eqb}
-use lib.ListN.{length, getD, take, drop, replicate}
-use Rattle.plan.specs.Edition.{mostJobs, mostRows, mostIntervals, places}
-use Rattle.planfields.specs.Layout.{jobLength, nameAt}
-use Rattle.plan.specs.Refusal.{refusalOf, wrongExtent, wrongVersion, wrongRecordLength, wrongRates, wrongJobCount, tooManyRows}
+use lib.ListN.{length, replicate}
+use Rattle.plan.specs.Edition.{mostIntervals, places}
+use Rattle.plan.specs.Versions.{newestVersion, countAllowedIn, rowsAllowedIn}
+use Rattle.plan.specs.Refusal.{wrongRates, wrongJobCount, tooManyRows}
 use Rattle.plan.specs.Rules.{ratesAllowed}
 use Rattle.plan.specs.Boundaries.{intervals}
 use Rattle.plan.specs.declared.kinds.Job.{Job}
-use Rattle.planfields.specs.Bytes.{value}
-use Rattle.planfields.specs.Fields.{Parsed, got, no, onward, field, checked, version, extent, opening, Head, head, named, oneJob, ended}
+use Rattle.fields.specs.Parsers.{Parsed, got, no, field, checked, recordLength, opening, ended}
+use Rattle.planfields.specs.Layout.{jobLength, nameAt}
+use Rattle.planfields.specs.Records.{Head, head, named, oneJob}
 use Rattle.planfile.specs.Reader.{namesOf, allJobs, Preamble, preamble, allRows, Contents, planFile, readFile}
 use Rattle.planfile.specs.inner.Parts.{countOf}
-use Rattle.planfields.proofs.ParserLaws.{through, past, checked-is, same-value, same-next}
+use Rattle.fields.proofs.ParserLaws.{through, past, checked-is, same-value, same-next, field-extent}
+use Rattle.fields.proofs.OpeningLaws.{length-is, opening-read}
 use Rattle.planfile.proofs.DistinctNames.{job-read}
 
--- A field of w bytes that is read ends at offset at + w, inside the file,
--- and has the value of its bytes.
-pub field-extent : (w : ℕ) (file : List ℕ) (at : ℕ) {v next : ℕ} → field w file at ≡ got v next
-    → (next ≡ at + w) × (at + w ≤ length file) × (v ≡ value 0 (take w (drop at file)))
-unfolding field
-field-extent w file at e = by (leb (at + w) (length file)) refl e
-  where
-    by : (t : Bool) → leb (at + w) (length file) ≡ t → {v next : ℕ}
-        → cond t (got (value 0 (take w (drop at file))) (at + w)) (no (refusalOf wrongExtent)) ≡ got v next
-        → (next ≡ at + w) × (at + w ≤ length file) × (v ≡ value 0 (take w (drop at file)))
-    by true h e = (sym (same-next e), leb-true (at + w) (length file) h, sym (same-value e))
-    by false h e = absurd (let z : _≡_ {A = ℕ} 0 1 = cc in omega arith)
-
+-- A name that is read stands behind its length byte.
 pub named-extent : (long : ℕ) (file : List ℕ) (at : ℕ) {v next : ℕ} → named long file at ≡ got v next
     → (field 1 file at ≡ got long (at + 1)) × (field 8 file (at + 1) ≡ got v next)
 unfolding named
 named-extent long file at e =
-    let t = through (checked 1 (λ x. eqb x long) wrongRecordLength file at) e in
-    let c = checked-is 1 (λ x. eqb x long) wrongRecordLength file at (t .is) in
-    let x = field-extent 1 file at (c .0) in
-    let is = eqb-true (t .value) long (c .1) in
-    (rw (is, x .0) at (c .0), rw (x .0) at (t .on))
+    let t = through (recordLength long file at) e in
+    let c = length-is long file at (t .is) in
+    let x = field-extent 1 file at c .0 in
+    (rw x at c, rw x at (t .on))
 
 -- A job takes 1 + jobLength bytes inside the file, and n jobs take n times as many.
 pub job-extent : (earlier file : List ℕ) (at : ℕ) {j : Job} {next : ℕ} → oneJob earlier file at ≡ got j next
@@ -70,56 +57,24 @@ jobs-extent (suc n) jobs file at all next e =
     by zero e h rest = omega arith
     by (suc n) e h rest = omega (arith, rest (omega arith))
 
--- If the opening is read, the first byte is 1 and the length field counts
--- the bytes from offset 5 on.
-pub opening-extent : (file : List ℕ) {v next : ℕ} → opening file 0 ≡ got v next
-    → (0 < length file) × (getD file 0 0 ≡ 1) × (field 4 file 1 ≡ got v 5) × (next ≡ 5) × (5 + v ≡ length file)
-unfolding opening version extent
-opening-extent file e = by (ltb 0 (length file)) refl (eqb (getD file 0 0) 1) refl e
-  where
-    lengths : (s : Parsed ℕ) → field 4 file 1 ≡ s → {v next : ℕ}
-        → onward s (λ n rest at. cond (eqb (at + n) (length rest)) (got n at) (no (refusalOf wrongExtent))) file ≡ got v next
-        → (field 4 file 1 ≡ got v 5) × (next ≡ 5) × (5 + v ≡ length file)
-    lengths (no k) f e = absurd (let z : _≡_ {A = ℕ} 0 1 = cc in omega arith)
-    lengths (got n at) f e = so (eqb (at + n) (length file)) refl e
-      where
-        so : (t : Bool) → eqb (at + n) (length file) ≡ t → {v next : ℕ} → cond t (got n at) (no (refusalOf wrongExtent)) ≡ got v next
-            → (field 4 file 1 ≡ got v 5) × (next ≡ 5) × (5 + v ≡ length file)
-        so false h e = absurd (let z : _≡_ {A = ℕ} 0 1 = cc in omega arith)
-        so true h {v} e =
-            let x = field-extent 4 file 1 f .0 in
-            let sum = eqb-true (at + n) (length file) h in
-            (f ∙ e ∙ ap (got v) (sym (same-next e) ∙ x), sym (same-next e) ∙ x, omega (arith, x, sum, same-value e))
-
-    by : (a : Bool) → ltb 0 (length file) ≡ a → (b : Bool) → eqb (getD file 0 0) 1 ≡ b → {v next : ℕ}
-        → onward {A = ℕ} (cond (a && b) (got 1 (0 + 1)) (no (refusalOf wrongVersion))) (λ _. extent) file ≡ got v next
-        → (0 < length file) × (getD file 0 0 ≡ 1) × (field 4 file 1 ≡ got v 5) × (next ≡ 5) × (5 + v ≡ length file)
-    by false ha b hb e = absurd (let z : _≡_ {A = ℕ} 0 1 = cc in omega arith)
-    by true ha false hb e = absurd (let z : _≡_ {A = ℕ} 0 1 = cc in omega arith)
-    by true ha true hb e =
-        let r = lengths (field 4 file 1) refl e in
-        (ltb-true 0 (length file) ha, eqb-true (getD file 0 0) 1 hb, r .0, r .1, r .2)
-
 -- The fields of a head that is read, at their offsets, and the tests that they pass.
-pub record HeadRead (most : ℕ) (file : List ℕ) (h : Head) (next : ℕ) : Type 0 where
-  pub follows : ℕ
-  pub opened : opening file 0 ≡ got follows 5
+pub record HeadRead (file : List ℕ) (h : Head) (next : ℕ) : Type 0 where
+  pub opened : opening newestVersion true file 0 ≡ got (h .version) 5
   pub normal : field 2 file 5 ≡ got (h .n) 7
   pub floor : field 2 file 7 ≡ got (h .d) 9
   pub rates : ratesAllowed (h .n) (h .d) ≡ true
   pub jobs : field 1 file 9 ≡ got (h .count) 10
-  pub some : (leb 1 (h .count) && leb (h .count) most) ≡ true
+  pub some : countAllowedIn (h .version) (h .count) ≡ true
   pub end : next ≡ 10
 
-moved : {most : ℕ} {file : List ℕ} {h k : Head} {m n : ℕ} → HeadRead most file h m → h ≡ k → m ≡ n → HeadRead most file k n
+moved : {file : List ℕ} {h k : Head} {m n : ℕ} → HeadRead file h m → h ≡ k → m ≡ n → HeadRead file k n
 moved r p q = rw q at (rw p at r)
 
-at-places : (most : ℕ) (file : List ℕ) {v n d c n₁ n₂ n₃ n₄ : ℕ} → opening file 0 ≡ got v n₁ → n₁ ≡ 5 → field 2 file n₁ ≡ got n n₂ → n₂ ≡ 7
+at-places : (file : List ℕ) {v n d c n₁ n₂ n₃ n₄ : ℕ} → opening newestVersion true file 0 ≡ got v n₁ → n₁ ≡ 5 → field 2 file n₁ ≡ got n n₂ → n₂ ≡ 7
     → field 2 file n₂ ≡ got d n₃ → n₃ ≡ 9 → ratesAllowed n d ≡ true → field 1 file n₃ ≡ got c n₄ → n₄ ≡ 10
-    → (leb 1 c && leb c most) ≡ true → HeadRead most file (record { n = n; d = d; count = c }) n₄
-at-places most file {v} e₁ p₁ e₂ p₂ e₃ p₃ r e₄ p₄ t =
+    → countAllowedIn v c ≡ true → HeadRead file (record { version = v; n = n; d = d; count = c }) n₄
+at-places file e₁ p₁ e₂ p₂ e₃ p₃ r e₄ p₄ t =
     record {
-      follows = v;
       opened = rw p₁ at e₁;
       normal = rw (p₁, p₂) at e₂;
       floor = rw (p₂, p₃) at e₃;
@@ -129,20 +84,20 @@ at-places most file {v} e₁ p₁ e₂ p₂ e₃ p₃ r e₄ p₄ t =
       end = p₄;
     }
 
-pub head-read : (most : ℕ) (file : List ℕ) {h : Head} {next : ℕ} → head most file 0 ≡ got h next → HeadRead most file h next
+pub head-read : (file : List ℕ) {h : Head} {next : ℕ} → head true file 0 ≡ got h next → HeadRead file h next
 unfolding head
-head-read most file e =
-    let t₁ = through (opening file 0) e in
-    let x₁ = opening-extent file (t₁ .is) .3 in
+head-read file e =
+    let t₁ = through (opening newestVersion true file 0) e in
+    let x₁ = opening-read newestVersion file (t₁ .is) .end in
     let t₂ = through (field 2 file (t₁ .next)) (t₁ .on) in
     let x₂ : t₂ .next ≡ 7 = field-extent 2 file (t₁ .next) (t₂ .is) .0 ∙ ap (λ k. k + 2) x₁ in
     let t₃ = through (field 2 file (t₂ .next)) (t₂ .on) in
     let x₃ : t₃ .next ≡ 9 = field-extent 2 file (t₂ .next) (t₃ .is) .0 ∙ ap (λ k. k + 2) x₂ in
     let t₄ = past (ratesAllowed (t₂ .value) (t₃ .value)) wrongRates file (t₃ .next) (t₃ .on) in
-    let t₅ = through (checked 1 (λ c. leb 1 c && leb c most) wrongJobCount file (t₃ .next)) (t₄ .on) in
-    let c = checked-is 1 (λ c. leb 1 c && leb c most) wrongJobCount file (t₃ .next) (t₅ .is) in
+    let t₅ = through (checked 1 (countAllowedIn (t₁ .value)) wrongJobCount file (t₃ .next)) (t₄ .on) in
+    let c = checked-is 1 (countAllowedIn (t₁ .value)) wrongJobCount file (t₃ .next) (t₅ .is) in
     let x₅ : t₅ .next ≡ 10 = field-extent 1 file (t₃ .next) (c .0) .0 ∙ ap (λ k. k + 1) x₃ in
-    moved (at-places most file (t₁ .is) x₁ (t₂ .is) x₂ (t₃ .is) x₃ (t₄ .is) (c .0) x₅ (c .1)) (same-value (t₅ .on)) (same-next (t₅ .on))
+    moved (at-places file (t₁ .is) x₁ (t₂ .is) x₂ (t₃ .is) x₃ (t₄ .is) (c .0) x₅ (c .1)) (same-value (t₅ .on)) (same-next (t₅ .on))
 
 -- If a file is read, the name of each of its jobs lies inside the file.
 pub shown-within : (file : List ℕ) {held : Contents} {end : ℕ} → readFile file ≡ got held end → (k : ℕ) → k < held .plan .count
@@ -150,10 +105,10 @@ pub shown-within : (file : List ℕ) {held : Contents} {end : ℕ} → readFile 
 unfolding planFile preamble
 shown-within file {held} e k h =
     let t = through (preamble file 0) e in
-    let t₁ = through (head mostJobs file 0) (t .is) in
-    let x₁ = head-read mostJobs file (t₁ .is) .end in
+    let t₁ = through (head true file 0) (t .is) in
+    let x₁ = head-read file (t₁ .is) .end in
     let t₂ = through (allJobs (t₁ .value .count) [] file (t₁ .next)) (t₁ .on) in
-    let t₃ = through (checked 2 (λ n. leb n mostRows) tooManyRows file (t₂ .next)) (t₂ .on) in
+    let t₃ = through (checked 2 (rowsAllowedIn (t₁ .value .version)) tooManyRows file (t₂ .next)) (t₂ .on) in
     let x₂ = jobs-extent (t₁ .value .count) [] file (t₁ .next) (t₂ .value) (t₂ .next) (t₂ .is) .1 in
     let u₁ = through (allRows (t .value .rows) mostIntervals (t .value .names) (intervals (t .value .plan)) 0 (replicate places 0) file (t .next)) (t .on) in
     let u₂ = through (ended file (u₁ .next)) (u₁ .on) in

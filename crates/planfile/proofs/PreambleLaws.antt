@@ -1,47 +1,39 @@
 -- Laws of the preamble.
 use mathlib.Core.Path.{_≡_, refl, _∙_, ap}
-use mathlib.Core.Bool.{_&&_}
+use mathlib.Core.Bool.{true}
 use mathlib.Core.List.{List, [], _++_}
 use Prim.Native.Nat.{ℕ, _≤_}
 use native.Mathlib.Omega.{arith}
-use borrow.Author.Tests.{leb-true}
-use lib.Dec.{leb}
 use lib.ListN.{length, drop}
-use Rattle.plan.specs.Edition.{mostJobs, mostRows, mostIntervals}
-use Rattle.plan.specs.Refusal.{Refusal, wrongRates, wrongJobCount, tooManyRows}
-use Rattle.plan.specs.Rules.{ratesAllowed, counted}
+use Rattle.plan.specs.Edition.{mostJobs, mostIntervals}
+use Rattle.plan.specs.Versions.{rowsAllowedIn}
+use Rattle.plan.specs.Refusal.{Refusal, tooManyRows}
+use Rattle.plan.specs.Rules.{counted}
 use Rattle.plan.specs.Boundaries.{intervals}
 use Rattle.plan.specs.declared.kinds.Job.{Job}
 use Rattle.plan.specs.declared.kinds.Plan.{Plan}
-use Rattle.base.proofs.Logic.{both}
-use Rattle.planfields.specs.Fields.{Parsed, got, no, field, checked, opening, Head, head}
+use Rattle.fields.specs.Parsers.{Parsed, got, no, checked}
+use Rattle.planfields.specs.Records.{Head, head}
 use Rattle.planfile.specs.Reader.{namesOf, allJobs, planFrom, Preamble, preamble}
-use Rattle.planfields.specs.Answers.{fieldView}
+use Rattle.fields.specs.Answers.{fieldView}
 use Rattle.planfile.specs.inner.Parts.{Distinct, JobsAnswer, PreambleAnswer}
-use Rattle.planfields.specs.declared.field.Field.{Field}
-use Rattle.planfields.specs.declared.field.Field.the-variants as field
-use Rattle.planfields.specs.declared.field.Passed.the-variants as passed
+use Rattle.fields.specs.declared.field.Field.{Field}
+use Rattle.fields.specs.declared.field.Field.the-variants as field
+use Rattle.fields.specs.declared.field.Passed.the-variants as passed
 use Rattle.planfile.specs.declared.preamble.Preamble.{Preamble as PreambleRead}
 use Rattle.planfile.specs.declared.preamble.Jobs.{Jobs}
 use Rattle.plan.proofs.BoundaryOrder.{boundaries-few}
+use Rattle.plan.proofs.VersionLimits.{count-some, count-fits}
+use Rattle.planfile.proofs.Offsets.{head-read}
 use Rattle.planfile.proofs.JobLoop.{names-length}
 use Rattle.planfile.proofs.DistinctNames.{jobs-apart}
-use Rattle.planfields.proofs.ParserLaws.{through, past, checked-is, same-value}
+use Rattle.fields.proofs.ParserLaws.{through, same-value}
 
--- A head that is read has 1 to `most` jobs.
-pub head-count : (most : ℕ) (file : List ℕ) (at : ℕ) {h : Head} {next : ℕ} → head most file at ≡ got h next
-    → (1 ≤ h .count) × (h .count ≤ most)
-unfolding head
-head-count most file at e =
-    let t₁ = through (opening file at) e in
-    let t₂ = through (field 2 file (t₁ .next)) (t₁ .on) in
-    let t₃ = through (field 2 file (t₂ .next)) (t₂ .on) in
-    let t₄ = past (ratesAllowed (t₂ .value) (t₃ .value)) wrongRates file (t₃ .next) (t₃ .on) in
-    let t₅ = through (checked 1 (λ c. leb 1 c && leb c most) wrongJobCount file (t₃ .next)) (t₄ .on) in
-    let c = checked-is 1 (λ c. leb 1 c && leb c most) wrongJobCount file (t₃ .next) (t₅ .is) .1 in
-    let both-hold = both (leb 1 (t₅ .value)) (leb (t₅ .value) most) c in
-    let q = ap (λ (h : Head). h .count) (same-value (t₅ .on)) in
-    (omega (arith, q, leb-true 1 (t₅ .value) (both-hold .0)), omega (arith, q, leb-true (t₅ .value) most (both-hold .1)))
+-- A head that is read has at least one job, and no more than a plan in hand has room for.
+pub head-count : (file : List ℕ) {h : Head} {next : ℕ} → head true file 0 ≡ got h next → (1 ≤ h .count) × (h .count ≤ mostJobs)
+head-count file {h} e =
+    let allowed = head-read file e .some in
+    (count-some (h .version) (h .count) allowed, count-fits (h .version) (h .count) allowed)
 
 -- What the answer of `read_jobs` says about the parser result.
 module _ (h : Head) (first : List ℕ) (r : Jobs) (names : List ℕ) where
@@ -56,17 +48,17 @@ module _ (h : Head) (first : List ℕ) (r : Jobs) (names : List ℕ) where
 
 -- The preamble, part by part: the first refusal decides the result.
 module _ (first file : List ℕ) where
-  pub preamble-headless : {k : Refusal} → head mostJobs file 0 ≡ no k → preamble file 0 ≡ no k
+  pub preamble-headless : {k : Refusal} → head true file 0 ≡ no k → preamble file 0 ≡ no k
   unfolding preamble
   preamble-headless e = rw e
 
-  module _ {h : Head} {at : ℕ} (e : head mostJobs file 0 ≡ got h at) where
+  module _ {h : Head} {at : ℕ} (e : head true file 0 ≡ got h at) where
     pub preamble-jobless : {k : Refusal} → allJobs (h .count) [] file at ≡ no k → preamble file 0 ≡ no k
     unfolding preamble
     preamble-jobless e′ = rw (e, e′)
 
     pub preamble-whole : {jobs : List Job} {next : ℕ} → allJobs (h .count) [] file at ≡ got jobs next → (f : Field)
-        → fieldView f ≡ checked 2 (λ n. leb n mostRows) tooManyRows file next → {plan : Plan} {names : List ℕ} → plan ≡ planFrom h jobs
+        → fieldView f ≡ checked 2 (rowsAllowedIn (h .version)) tooManyRows file next → {plan : Plan} {names : List ℕ} → plan ≡ planFrom h jobs
         → names ≡ namesOf jobs ++ drop (h .count) first → PreambleAnswer first (preamble file 0) (record { answer = f; plan = plan }) names
     unfolding preamble
     preamble-whole e′ (field.Value v n) t p q = rw (e, e′, ← t) (refl, p, q)
@@ -87,10 +79,10 @@ fine-of r e = rw e at r
 pub preamble-fine : (file : List ℕ) {f : Preamble} {next : ℕ} → preamble file 0 ≡ got f next → Fine f
 unfolding preamble
 preamble-fine file e =
-    let t₁ = through (head mostJobs file 0) e in
+    let t₁ = through (head true file 0) e in
     let t₂ = through (allJobs (t₁ .value .count) [] file (t₁ .next)) (t₁ .on) in
-    let t₃ = through (checked 2 (λ n. leb n mostRows) tooManyRows file (t₂ .next)) (t₂ .on) in
-    let c = head-count mostJobs file 0 (t₁ .is) in
+    let t₃ = through (checked 2 (rowsAllowedIn (t₁ .value .version)) tooManyRows file (t₂ .next)) (t₂ .on) in
+    let c = head-count file (t₁ .is) in
     let apart = jobs-apart (t₁ .value .count) [] file (t₁ .next) (t₂ .value) (t₂ .next) (t₂ .is) (λ i j hi hj e. absurd (omega arith)) in
     fine-of
     (record {

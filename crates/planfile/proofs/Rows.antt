@@ -12,9 +12,10 @@ use Rattle.plan.specs.Edition.{mostIntervals}
 use Rattle.planfields.specs.Layout.{rowLength}
 use Rattle.plan.specs.Refusal.{Refusal, refusalOf, rowWithoutJob, rowWithoutInterval, rowWithoutUnits, rowOutOfOrder}
 use Rattle.plan.specs.Table.{place}
-use Rattle.planfields.specs.Fields.{Parsed, got, no, onward, checked, named}
+use Rattle.fields.specs.Parsers.{Parsed, got, no, onward, checked}
+use Rattle.planfields.specs.Records.{named}
 use Rattle.planfile.specs.Reader.{position, Row, oneRow, allRows}
-use Rattle.planfields.proofs.ParserLaws.{through, past, checked-is, same-value}
+use Rattle.fields.proofs.ParserLaws.{through, past, checked-is, same-value}
 
 -- One row, field by field: the first fault decides the result.
 module _ (width : ℕ) (names : List ℕ) (spans low : ℕ) (file : List ℕ) (at : ℕ) where

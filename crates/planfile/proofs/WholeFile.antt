@@ -11,16 +11,16 @@ use Rattle.plan.specs.Edition.{mostJobs, mostIntervals, places}
 use Rattle.plan.specs.Refusal.{Refusal, bufferTooShort}
 use Rattle.plan.specs.Boundaries.{intervals}
 use Rattle.plan.specs.declared.kinds.Plan.{Plan}
-use Rattle.planfields.specs.Fields.{Parsed, got, no, ended}
+use Rattle.fields.specs.Parsers.{Parsed, got, no, ended}
 use Rattle.plan.specs.Rules.{noPlan}
 use Rattle.planfile.specs.Reader.{Preamble, preamble, allRows, Contents, planFile, readFile, ReadEffect, leaves, reader, shownBy, foundBy}
 use Rattle.base.proofs.Logic.{if-less}
 use Rattle.planfields.specs.Layout.{nameAt}
-use Rattle.planfields.specs.Answers.{passedView}
+use Rattle.fields.specs.Answers.{passedView}
 use Rattle.planfile.specs.Answers.{answerView, readView}
 use Rattle.planfile.specs.inner.Parts.{Distinct, RowsAnswer, FillAnswer, countOf}
-use Rattle.planfields.specs.declared.field.Passed.{Passed}
-use Rattle.planfields.specs.declared.field.Passed.the-variants as passed
+use Rattle.fields.specs.declared.field.Passed.{Passed}
+use Rattle.fields.specs.declared.field.Passed.the-variants as passed
 use Rattle.planfile.specs.declared.reader.Answer.the-variants as answer
 use Rattle.planfile.specs.declared.reader.PlanRead.{PlanRead}
 use Rattle.planfile.proofs.PreambleLaws.{preamble-fine}

@@ -1,12 +1,13 @@
 -- Reading a plan file (the head, the jobs, the rows, the end),
 -- and what the reader and the name lookup leave.
-use mathlib.Core.Bool.{not, cond}
+use mathlib.Core.Bool.{true, not, cond}
 use mathlib.Core.List.{List, [], _∷_, _++_, map}
 use Prim.Native.Nat.{ℕ, zero, suc, _+_, _*_, _-_}
 use lib.Dec.{leb, ltb, eqb}
 use lib.ListN.{length, take, drop, set, replicate}
 use Rattle.plan.specs.Kinds.{Bytes, Offset, Position, Table}
-use Rattle.plan.specs.Edition.{mostJobs, mostRows, mostIntervals, places, nameBytes}
+use Rattle.plan.specs.Edition.{mostJobs, mostIntervals, places, nameBytes}
+use Rattle.plan.specs.Versions.{rowsAllowedIn}
 use Rattle.planfields.specs.Layout.{rowLength, nameAt}
 use Rattle.plan.specs.Refusal.{tooManyRows, rowWithoutJob, rowWithoutInterval, rowWithoutUnits, rowOutOfOrder, bufferTooShort}
 use Rattle.plan.specs.Rules.{sameName, noJob, noPlan}
@@ -14,7 +15,8 @@ use Rattle.plan.specs.Boundaries.{intervals}
 use Rattle.plan.specs.Table.{place}
 use Rattle.plan.specs.declared.kinds.Job.{Job}
 use Rattle.plan.specs.declared.kinds.Plan.{Plan}
-use Rattle.planfields.specs.Fields.{Parsed, got, no, Parser, _>>=_, _>>_, done, test, checked, Head, head, named, oneJob, ended}
+use Rattle.fields.specs.Parsers.{Parsed, got, no, Parser, _>>=_, _>>_, done, test, checked, ended}
+use Rattle.planfields.specs.Records.{Head, head, named, oneJob}
 
 -- The names of a list of jobs.
 abbrev pub namesOf : List Job → List ℕ
@@ -82,9 +84,9 @@ pub record Preamble : Type 0 where
 -- The preamble: the head, the jobs and the row count.
 unfoldable pub preamble : Parser Preamble
 preamble = do
-  h ← head mostJobs
+  h ← head true
   jobs ← allJobs (h .count) []
-  rows ← checked 2 (λ r. leb r mostRows) tooManyRows
+  rows ← checked 2 (rowsAllowedIn (h .version)) tooManyRows
   done (record { plan = planFrom h jobs; names = namesOf jobs; rows = rows })
 
 -- A plan file: the preamble, the rows and the end.

@@ -1,4 +1,8 @@
 // Reading the preamble: the head, the jobs and the row count. Reader and lookup share it.
+use fields::field::Field;
+use fields::field::Passed;
+use fields::field::passed_refusal;
+use fields::opening::LengthRule;
 use plan::edition::Edition;
 use plan::kinds::Job;
 use plan::kinds::Name;
@@ -6,9 +10,6 @@ use plan::kinds::Plan;
 use plan::kinds::Rate;
 use plan::kinds::Slots;
 use plan::kinds::Units;
-use planfields::field::Field;
-use planfields::field::Passed;
-use planfields::field::passed_refusal;
 use planfields::head::Head;
 use planfields::head::HeadRead;
 use planfields::head::head_refusal;
@@ -64,6 +65,7 @@ pub(crate) fn no_plan() -> Plan
     ensures { λ r. ⌜ r ≡ noPlan ⌝ }
 {
     plan_with(Head {
+        version: 0,
         n: Rate(0),
         d: Rate(0),
         count: 0,
@@ -103,7 +105,7 @@ pub(crate) fn read_preamble(file: &[u8], names: &mut [u64]) -> Preamble
     requires { ⌜ length (now names) ≡ mostJobs ⌝ }
     ensures { λ r. ⌜ PreambleAnswer (now (names .entry)) (preamble (now (file .entry)) 0) r (now (names .exit)) ⌝ }
 {
-    let read = read_head(file);
+    let read = read_head(file, LengthRule::Compared);
     let HeadRead::Head(head, at) = read else {
         return Preamble {
             answer: Field::Refused(head_refusal(read)),
@@ -120,7 +122,7 @@ pub(crate) fn read_preamble(file: &[u8], names: &mut [u64]) -> Preamble
         };
     };
     Preamble {
-        answer: read_row_count(file, next),
+        answer: read_row_count(file, next, head.version),
         plan,
     }
 }

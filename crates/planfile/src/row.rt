@@ -1,13 +1,13 @@
 // Reading one row, and the search for its job.
+use fields::field::Field;
+use fields::field::field_refusal;
 use plan::edition::Edition;
 use plan::refusal::DONE;
 use plan::refusal::ROW_OUT_OF_ORDER;
 use plan::refusal::ROW_WITHOUT_JOB;
 use plan::refusal::Refusal;
-use planfields::field::Field;
-use planfields::field::field_refusal;
-use planfields::field::read_named;
 use planfields::layout::Layout;
+use planfields::named::read_named;
 use planfields::numbers::read_interval;
 use planfields::numbers::read_units;
 ghost use mathlib.Core.Path.{_≡_};

@@ -2,7 +2,7 @@
 use crate::row::RowRead;
 use crate::row::read_row;
 use crate::row::row_refusal;
-use planfields::field::Passed;
+use fields::field::Passed;
 ghost use Prim.Native.Nat.{_≤_};
 ghost use lib.ListN.{length};
 ghost use Rattle.plan.specs.Edition.{mostJobs, mostIntervals};

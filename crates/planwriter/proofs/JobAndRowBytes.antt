@@ -15,9 +15,9 @@ use Rattle.planfields.specs.Layout.{jobLength, rowLength}
 use Rattle.plan.specs.Rules.{jobOf}
 use Rattle.plan.specs.declared.kinds.Job.{Job}
 use Rattle.plan.specs.declared.kinds.Plan.{Plan}
-use Rattle.planfields.specs.Bytes.{bytes}
+use Rattle.fields.specs.Bytes.{bytes}
 use Rattle.planwriter.specs.Writing.{jobBytes, jobsBytes, rowBytes, rowAt, rowsBytes, rowCount}
-use Rattle.planfields.proofs.ByteLaws.{length-bytes}
+use Rattle.fields.proofs.ByteLaws.{length-bytes}
 use Rattle.planwriter.proofs.Sets.{Put, put-on}
 
 -- A field written after the bytes written so far.

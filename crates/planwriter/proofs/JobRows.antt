@@ -3,8 +3,9 @@
 use mathlib.Core.Path.{_≡_, refl, sym, _∙_, ap, ap₂}
 use mathlib.Core.Bool.{true, false, _&&_, _||_, and-false, or-false}
 use mathlib.Core.List.{List, [], _∷_, _++_, append-nil}
-use Prim.Native.Nat.{ℕ, suc, _+_, _*_, _-_, _/_, _%_, _≤_, _<_}
-use native.Mathlib.Nat.{add-zero, add-suc, suc-add, zero-add}
+use Prim.Native.Nat.{ℕ, zero, suc, _+_, _*_, _-_, _/_, _%_, _≤_, _<_}
+use native.Mathlib.Nat.{add-zero, add-suc, suc-add, suc-mul, zero-add}
+use native.Mathlib.Numerals.{add-one}
 use native.Mathlib.Omega.{arith}
 use borrow.Author.Tests.{le-ltb}
 use lib.Dec.{ltb, eqb}
@@ -13,8 +14,8 @@ use lib.Seq.{take-add, take-all, length-take-le}
 use Rattle.plan.specs.Edition.{mostIntervals}
 use Rattle.plan.specs.Table.{noStray}
 use Rattle.base.proofs.Logic.{both}
-use Rattle.planwriter.specs.Writing.{rowAt, rowsBytes}
-use Rattle.planwriter.proofs.JobAndRowBytes.{rows-split, rows-within}
+use Rattle.planwriter.specs.Writing.{rowAt, rowsBytes, rowCount}
+use Rattle.planwriter.proofs.JobAndRowBytes.{rows-split, rows-within, rows-long, count-few}
 
 -- The rows of some places of job i are those of a table with this job only.
 one-job : (names : List ℕ) (i j : ℕ) (l : List ℕ) → j + length l ≤ mostIntervals
@@ -108,3 +109,33 @@ module _ (names table : List ℕ) (jobs spans : ℕ) (clear : noStray mostInterv
       let n = mostIntervals * jobs in
       sym (rows-same n (length table) h (λ k a b. rw (le-ltb (k / mostIntervals) jobs (omega arith)) refl))
       ∙ ap (rowsBytes mostIntervals names 0) (take-all (n + length table) table (omega arith))
+
+-- With no stray place there is at most one row for each job and interval.
+module _ (table : List ℕ) (jobs spans : ℕ) (clear : noStray mostIntervals jobs spans 0 table ≡ true) (narrow : spans ≤ mostIntervals) where
+  -- The rows of lists of places, as many bytes, are as many rows.
+  same-count : (a b : List ℕ) → length (rowsBytes mostIntervals [] 0 a) ≡ length (rowsBytes mostIntervals [] 0 b) → rowCount a ≡ rowCount b
+  same-count a b e = omega (arith, e, rows-long mostIntervals [] 0 a, rows-long mostIntervals [] 0 b)
+
+  count-by-jobs : (i : ℕ) → mostIntervals * i ≤ length table → rowCount (take (mostIntervals * i) table) ≤ i * spans
+  unfolding rowCount
+  count-by-jobs zero h = omega arith
+  count-by-jobs (suc i) h =
+      let before = take (mostIntervals * i) table in
+      let row = take spans (drop (mostIntervals * i) table) in
+      let next : length (rowsBytes mostIntervals [] 0 before) + length (rowsBytes mostIntervals (0 ∷ []) 0 row) ≡ length (rowsBytes mostIntervals [] 0 (take (mostIntervals * suc i) table))
+      = sym (length-append (rowsBytes mostIntervals [] 0 before) (rowsBytes mostIntervals (0 ∷ []) 0 row))
+      ∙ ap length (job-rows-next [] table jobs spans clear i refl narrow (omega arith))
+      ∙ ap (λ n. length (rowsBytes mostIntervals [] 0 (take (mostIntervals * n) table))) (add-one i) in
+      let here : rowCount (take (mostIntervals * suc i) table) ≡ rowCount before + rowCount row
+      = omega (
+        arith,
+        next,
+        rows-long mostIntervals [] 0 before,
+        rows-long mostIntervals (0 ∷ []) 0 row,
+        rows-long mostIntervals [] 0 (take (mostIntervals * suc i) table),
+      ) in
+      omega (arith, here, count-by-jobs i (omega arith), count-few row, length-take spans (drop (mostIntervals * i) table), suc-mul i spans)
+
+  pub count-within : mostIntervals * jobs ≤ length table → rowCount table ≤ jobs * spans
+  count-within h =
+      rw (← (same-count (take (mostIntervals * jobs) table) table (ap length (job-rows-all [] table jobs spans clear h)))) (count-by-jobs jobs h)

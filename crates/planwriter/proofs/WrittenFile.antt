@@ -9,15 +9,16 @@ use lib.ListN.{length, take, length-append}
 use lib.Seq.{sets, length-take-le}
 use Rattle.plan.specs.Edition.{mostJobs, mostIntervals, places}
 use Rattle.planfields.specs.Layout.{jobLength, rowLength}
+use Rattle.plan.specs.Versions.{versionFor}
 use Rattle.plan.specs.Refusal.{unsound, bufferTooShort}
 use Rattle.plan.specs.Rules.{counted, names, size}
 use Rattle.plan.specs.Table.{sound}
 use Rattle.plan.specs.declared.kinds.Plan.{Plan}
-use Rattle.planfields.specs.Bytes.{bytes}
+use Rattle.fields.specs.Bytes.{bytes}
 use Rattle.planwriter.specs.Writing.{WriteEffect, wrote, withheld, jobsBytes, rowsBytes, rowCount, body, written, writer}
 use Rattle.plan.proofs.Soundness.{sound-parts, sound-bounded}
 use Rattle.planwriter.specs.inner.Writable.{Writable}
-use Rattle.planfields.proofs.ByteLaws.{length-bytes}
+use Rattle.fields.proofs.ByteLaws.{length-bytes}
 use Rattle.planwriter.proofs.JobAndRowBytes.{jobs-long, rows-long, count-few}
 use Rattle.base.proofs.Stores.{sets-whole}
 
@@ -47,7 +48,7 @@ body-long p table h =
     rw (← (body-of p table h refl refl))
     (simp (length-append, length-bytes, jobs-long, rows-long) (omega arith))
 
-pub written-of : (p : Plan) (table : List ℕ) → bytes 1 1 ++ bytes 4 (length (body p table)) ++ body p table ≡ written p table
+pub written-of : (p : Plan) (table : List ℕ) → bytes 1 (versionFor (p .count)) ++ bytes 4 (length (body p table)) ++ body p table ≡ written p table
 unfolding written
 written-of p table = refl
 

@@ -7,13 +7,14 @@ use lib.Dec.{ltb, eqb}
 use lib.ListN.{length, getD, take, drop}
 use Rattle.plan.specs.Kinds.{Amount, Bytes, Interval, Number, Table}
 use Rattle.plan.specs.Edition.{nameBytes, mostIntervals, places}
-use Rattle.planfields.specs.Layout.{versionByte, jobLength, rowLength}
+use Rattle.plan.specs.Versions.{versionFor}
+use Rattle.planfields.specs.Layout.{jobLength, rowLength}
 use Rattle.plan.specs.Refusal.{unsound, bufferTooShort}
 use Rattle.plan.specs.Rules.{counted, names, jobOf}
 use Rattle.plan.specs.Table.{sound}
 use Rattle.plan.specs.declared.kinds.Job.{Job}
 use Rattle.plan.specs.declared.kinds.Plan.{Plan}
-use Rattle.planfields.specs.Bytes.{bytes}
+use Rattle.fields.specs.Bytes.{bytes}
 
 -- The bytes of a job: its length byte and its fields.
 abbrev pub jobBytes : Job → Bytes
@@ -51,9 +52,10 @@ body p table =
     bytes 2 (p .n .0) ++ bytes 2 (p .d .0) ++ bytes 1 (p .count) ++ jobsBytes p (counted p) ++ bytes 2 (rowCount table)
     ++ rowsBytes mostIntervals (names p) 0 table
 
--- The file of a plan, given its table's own places.
+-- The file of a plan, given its table's own places: the version for its number of jobs, the length of
+-- what follows, and the body.
 unfoldable pub written : (p : Plan) (table : Table) → Bytes
-written p table = bytes 1 versionByte ++ bytes 4 (length (body p table)) ++ body p table
+written p table = bytes 1 (versionFor (p .count)) ++ bytes 4 (length (body p table)) ++ body p table
 
 -- The writer's answer: the file's length, or a refusal number.
 pub data Answer : Type 0 where

@@ -9,7 +9,7 @@ ghost use lib.ListN.{length};
 ghost use lib.Seq.{sets};
 ghost use Rattle.plan.specs.Edition.{mostIntervals};
 ghost use Rattle.planfields.specs.Layout.{jobLength, rowLength};
-ghost use Rattle.planfields.specs.Bytes.{bytes};
+ghost use Rattle.fields.specs.Bytes.{bytes};
 ghost use Rattle.planwriter.specs.Writing.{jobBytes, rowBytes, rowAt};
 
 // Writes x as a field of w bytes, highest byte first; returns the offset after it.

@@ -9,6 +9,7 @@ use plan::refusal::BUFFER_TOO_SHORT;
 use plan::refusal::UNSOUND;
 use plan::rules::names_of;
 use plan::table::sound_within;
+use plan::versions::version_for;
 use planfields::layout::Layout;
 ghost use mathlib.Core.Path.{_≡_};
 ghost use mathlib.Core.Bool.{true, cond};
@@ -121,7 +122,8 @@ fn put_file(out: &mut [u8], p: Plan, table: &[u32], rows: usize, follows: usize,
     requires { ⌜ (length (written p (now table)) ≤ length (now out)) × Writable p (now table) × (rows ≡ rowCount (now table)) × (follows ≡ length (body p (now table))) × (spans ≡ intervals p) ⌝ }
     ensures { λ r. ⌜ now (out .exit) ≡ sets (now (out .entry)) 0 (written p (now (table .entry))) ⌝ }
 {
-    let after_version = put(out, 0, 1, Layout::VERSION as u64);
+    let version = version_for(p.count);
+    let after_version = put(out, 0, 1, version as u64);
     let after_length = put(out, after_version, 4, follows as u64);
     put_body(out, after_length, p, table, rows, spans);
 }

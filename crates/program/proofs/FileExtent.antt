@@ -8,10 +8,11 @@ use lib.ListN.{length, take, drop, replicate, length-replicate}
 use lib.Seq.{take-append-le}
 use Rattle.plan.specs.Kinds.{Bytes}
 use Rattle.plan.specs.Edition.{mostJobs, places}
-use Rattle.planfields.specs.Bytes.{value}
-use Rattle.planfields.specs.Fields.{Parsed, got, no, head}
+use Rattle.fields.specs.Bytes.{value}
+use Rattle.fields.specs.Parsers.{Parsed, got, no}
+use Rattle.planfields.specs.Records.{head}
 use Rattle.planfields.specs.Layout.{openingBytes, lengthSaid, fileBytes}
-use Rattle.planfields.proofs.ParserLaws.{through}
+use Rattle.fields.proofs.ParserLaws.{through}
 use Rattle.planfile.specs.Reader.{Contents, preamble, planFile, readFile, leaves}
 use Rattle.program.specs.Turns.{readIn}
 use Rattle.planfile.proofs.Offsets.{field-extent, opening-extent, head-read}

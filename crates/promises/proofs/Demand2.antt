@@ -20,8 +20,9 @@ use Rattle.plan.specs.Table.{noStray, sound}
 use Rattle.plan.specs.Same.{Same}
 use Rattle.plan.specs.declared.kinds.Plan.{Plan}
 use Rattle.base.proofs.Logic.{and-left, and-right}
-use Rattle.planfields.specs.Bytes.{value}
-use Rattle.planfields.specs.Fields.{Parsed, got, no, field, version, extent, opening, head, named, jobName, oneJob, ended}
+use Rattle.fields.specs.Bytes.{value}
+use Rattle.fields.specs.Parsers.{Parsed, got, no, field, version, extent, opening, ended}
+use Rattle.planfields.specs.Records.{head, named, jobName, oneJob}
 use Rattle.plan.specs.Rules.{noPlan}
 use Rattle.planfile.specs.Reader.{allJobs, position, oneRow, allRows, preamble, planFile, Contents, readFile, ReadEffect, leaves, reader}
 use Rattle.planfile.proofs.WholeFile.{reader-long}

@@ -16,19 +16,21 @@ use Rattle.plan.specs.declared.kinds.Job.{Job}
 use Rattle.plan.specs.declared.kinds.Name.{Name}
 use Rattle.plan.specs.declared.kinds.Plan.{Plan}
 use Rattle.plan.specs.declared.kinds.Slots.{Slots}
-use Rattle.planfields.specs.Fields as rule
-use Rattle.planfields.specs.Fields.{Parsed, got, no, Head, checked, named, oneJob, ended}
-use Rattle.planfields.specs.Answers.{fieldView, fieldValue, passedView, headView, jobView, ReadsNamed, ReadsEnd, ReadsHead, ReadsJob, ReadsRowCount, ReadsInterval, ReadsUnits}
-use Rattle.planfields.specs.declared.field.Field.{Field}
-use Rattle.planfields.specs.declared.field.Field.the-variants as field
-use Rattle.planfields.specs.declared.field.Passed.{Passed}
-use Rattle.planfields.specs.declared.field.Passed.the-variants as passed
+use Rattle.fields.specs.Parsers as rule
+use Rattle.fields.specs.Parsers.{Parsed, got, no, checked, ended}
+use Rattle.planfields.specs.Records.{Head, named, oneJob}
+use Rattle.fields.specs.Answers.{fieldView, fieldValue, passedView, ReadsEnd}
+use Rattle.planfields.specs.Answers.{headView, jobView, ReadsNamed, ReadsHead, ReadsJob, ReadsRowCount, ReadsInterval, ReadsUnits}
+use Rattle.fields.specs.declared.field.Field.{Field}
+use Rattle.fields.specs.declared.field.Field.the-variants as field
+use Rattle.fields.specs.declared.field.Passed.{Passed}
+use Rattle.fields.specs.declared.field.Passed.the-variants as passed
 use Rattle.planfields.specs.declared.head.HeadRead.{HeadRead}
 use Rattle.planfields.specs.declared.head.HeadRead.the-variants as head
 use Rattle.planfields.specs.declared.job.JobRead.{JobRead}
 use Rattle.planfields.specs.declared.job.JobRead.the-variants as job
-use Rattle.planfields.proofs.ByteLaws.{Octets}
-use Rattle.planfields.proofs.ParserLaws.{checked-is}
+use Rattle.fields.proofs.ByteLaws.{Octets}
+use Rattle.fields.proofs.ParserLaws.{checked-is}
 use Rattle.plan.specs.Rules.{noPlan}
 use Rattle.planfile.specs.Reader.{Contents, leaves, readFile, reader, nameShown}
 use Rattle.planfile.specs.Answers.{readView, Reads, Shows}
@@ -41,7 +43,7 @@ use Rattle.planwriter.specs.Answers.{Writes}
 use Rattle.planwriter.specs.declared.writer.Written.{Written}
 use Rattle.planwriter.specs.declared.writer.Written.the-variants as write-answer
 use Rattle.planwriter.proofs.Injective.{writeView-injective}
-use Rattle.roundtrip.proofs.BytesAt.{field-again}
+use Rattle.fields.proofs.BytesAt.{field-again}
 use Rattle.judge.specs.Verdict.{handFault, constraintFault, floorFault, judged}
 use Rattle.plan.specs.Report.{Report, orElse, fault}
 use Rattle.judge.specs.Slack.{Figure, noneEssential, least, refused, slackOf, leastSlack, unless, slackFigure}

@@ -15,7 +15,8 @@ use Rattle.base.specs.Below
 use Rattle.plan.specs.Rules.{gradesHold, boundsHold}
 use Rattle.plan.specs.Refusal.{wrongVersion, wrongExtent, wrongRecordLength, wrongRates, wrongJobCount, wrongNameByte, nameTaken, wrongGrade, wrongJobBounds, tooManyRows, rowWithoutJob, rowWithoutInterval, rowWithoutUnits, rowOutOfOrder, outsideWindow, wrongTotal, overCapacity, belowFloorRule, clockAtEnd, speedAboveNormal, unsound, bufferTooShort}
 use Rattle.plan.specs.Same.{Same}
-use Rattle.planfields.specs.Fields.{version, opening, head}
+use Rattle.fields.specs.Parsers.{version, opening}
+use Rattle.planfields.specs.Records.{head}
 use Rattle.plan.specs.Rules.{noPlan}
 use Rattle.planfile.specs.Reader.{preamble, planFile, reader}
 use Rattle.planwriter.specs.Writing as writing

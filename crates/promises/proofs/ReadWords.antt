@@ -19,7 +19,7 @@ use Rattle.plan.specs.declared.kinds.Plan.{Plan}
 use Rattle.plan.proofs.Soundness.{Bounded, rules-parts, rules-bounded}
 use Rattle.planfile.specs.Reader.{Contents, ReadEffect, planFrom, leaves, reader}
 use Rattle.planfile.proofs.WholeFile.{reader-long}
-use Rattle.planfields.proofs.ByteLaws.{Octets}
+use Rattle.fields.proofs.ByteLaws.{Octets}
 use Rattle.roundtrip.proofs.ReadSound.{read-proper, rules-read}
 use Rattle.roundtrip.proofs.WriteAfterRead.{FileRead, file-read}
 use Rattle.hostmemory.specs.Memory.{most8, most32, planWords, shortPlan, Fits, planOf}

@@ -15,8 +15,9 @@ use Rattle.plan.specs.Rules.{nameAllowed, namesHold, namesDiffer, gradesHold, b
 use Rattle.plan.specs.Boundaries.{insert, boundariesTo}
 use Rattle.plan.specs.Table.{noStray, sound}
 use Rattle.plan.specs.declared.kinds.Plan.{Plan}
-use Rattle.planfields.specs.Bytes.{bytes}
-use Rattle.planfields.specs.Fields.{Parsed, got, no, version, opening, head}
+use Rattle.fields.specs.Bytes.{bytes}
+use Rattle.fields.specs.Parsers.{Parsed, got, no, version, opening}
+use Rattle.planfields.specs.Records.{head}
 use Rattle.plan.specs.Rules.{noPlan}
 use Rattle.planfile.specs.Reader.{Contents, preamble, planFile, readFile, leaves, reader, nameShown}
 use Rattle.planfile.proofs.WholeFile.{shown-none}

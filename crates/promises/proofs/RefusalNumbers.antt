@@ -16,8 +16,9 @@ use Rattle.plan.specs.Boundaries.{insert, boundariesTo, boundary, intervals, la
 use Rattle.plan.specs.Table.{place, noStray, sound}
 use Rattle.plan.specs.declared.kinds.Job.{Job}
 use Rattle.plan.specs.declared.kinds.Plan.{Plan}
-use Rattle.planfields.specs.Bytes.{bytes, value}
-use Rattle.planfields.specs.Fields.{Parsed, got, no, Parser, onward, test, field, checked, version, extent, opening, head, named, jobName, oneJob, ended}
+use Rattle.fields.specs.Bytes.{bytes, value}
+use Rattle.fields.specs.Parsers.{Parsed, got, no, Parser, onward, test, field, checked, version, extent, opening, ended}
+use Rattle.planfields.specs.Records.{head, named, jobName, oneJob}
 use Rattle.plan.specs.Rules.{noPlan}
 use Rattle.planfile.specs.Reader.{namesOf, allJobs, position, oneRow, allRows, Contents, preamble, planFile, readFile, leaves, reader}
 use Rattle.planwriter.specs.Writing as writing

@@ -17,8 +17,9 @@ use Rattle.plan.specs.Boundaries.{insert, boundariesTo}
 use Rattle.plan.specs.Table.{noStray, sound}
 use Rattle.plan.specs.declared.kinds.Plan.{Plan}
 use Rattle.planfields.specs.Layout.{versionByte, jobLength, rowLength}
-use Rattle.planfields.specs.Bytes.{bytes, value}
-use Rattle.planfields.specs.Fields.{field, version, extent, opening, head, named, jobName, oneJob, ended}
+use Rattle.fields.specs.Bytes.{bytes, value}
+use Rattle.fields.specs.Parsers.{field, version, extent, opening, ended}
+use Rattle.planfields.specs.Records.{head, named, jobName, oneJob}
 use Rattle.planfile.specs.Reader.{allJobs, position, oneRow, allRows, preamble, planFile, readFile, leaves, reader, ReadEffect}
 use Rattle.planfile.proofs.WholeFile.{reader-long}
 use Rattle.planwriter.specs.Writing as writing

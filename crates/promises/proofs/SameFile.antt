@@ -7,6 +7,7 @@ use native.Mathlib.Omega.{arith}
 use lib.Dec.{ltb}
 use lib.ListN.{length, take, drop, replicate}
 use Rattle.plan.specs.Edition.{mostIntervals, places}
+use Rattle.plan.specs.Versions.{versionFor}
 use Rattle.plan.specs.Refusal.{unsound, bufferTooShort}
 use Rattle.plan.specs.Rules.{counted, jobOf, names}
 use Rattle.plan.specs.Table.{sound}
@@ -14,7 +15,7 @@ use Rattle.plan.specs.Boundaries.{intervals}
 use Rattle.plan.specs.Same.{Same}
 use Rattle.plan.specs.declared.kinds.Plan.{Plan}
 use Rattle.plan.proofs.Names.{name-at}
-use Rattle.planfields.specs.Bytes.{bytes}
+use Rattle.fields.specs.Bytes.{bytes}
 use Rattle.planwriter.specs.Writing.{jobBytes, jobsBytes, rowsBytes, body, written, wrote, withheld, writer}
 use Rattle.plan.proofs.Soundness.{sound-parts}
 use Rattle.roundtrip.proofs.ReadAfterWrite.{rows-counted}
@@ -53,7 +54,7 @@ module _ (p : Plan) (table : List ℕ) (q : Plan) (other : List ℕ) (same : Sam
 
   written-same : sound p table ≡ true → written p (take places table) ≡ written q (take places other)
   unfolding written
-  written-same e = ap (λ l. bytes 1 1 ++ bytes 4 (length l) ++ l) (body-same e)
+  written-same e = ap₂ (λ (v : ℕ) (l : List ℕ). bytes 1 v ++ bytes 4 (length l) ++ l) (ap versionFor (same .count)) (body-same e)
 
   -- The writer gives plans that are the same the same answer and output.
   pub same-written : (out : List ℕ) → writer p table out ≡ writer q other out

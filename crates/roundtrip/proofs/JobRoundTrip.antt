@@ -6,43 +6,35 @@ use mathlib.Core.List.{List, [], _∷_, _++_, append-nil, append-assoc}
 use Prim.Native.Nat.{ℕ, zero, suc, _+_, _≤_, _<_, _^_}
 use native.Mathlib.Nat.{add-zero, add-suc, suc-add, zero-add}
 use native.Mathlib.Omega.{arith}
-use borrow.Author.Tests.{eq-eqb, eqb-true, ltb-true, leb-true}
+use borrow.Author.Tests.{eqb-true, ltb-true, leb-true}
 use lib.Dec.{leb, ltb, eqb, lit<}
 use lib.ListN.{length, getD, take, List·getD-append}
 use lib.Seq.{take-suc, getD-at}
 use Rattle.plan.specs.Edition.{mostDeadline, mostSize}
 use Rattle.planfields.specs.Layout.{jobLength}
-use Rattle.plan.specs.Refusal.{wrongGrade}
+use Rattle.plan.specs.Refusal.{wrongNameByte, nameTaken, wrongGrade, wrongJobBounds}
 use Rattle.plan.specs.Rules.{nameAllowed, isAbsent, gradeAllowed, windowAllowed, sizeAllowed, noJob, jobOf}
 use Rattle.plan.specs.declared.kinds.Job.{Job}
 use Rattle.plan.specs.declared.kinds.Plan.{Plan}
 use Rattle.base.proofs.Logic.{both}
-use Rattle.planfields.specs.Bytes.{bytes}
-use Rattle.planfields.specs.Fields.{got, field, checked, named, jobName, oneJob}
+use Rattle.fields.specs.Bytes.{bytes}
+use Rattle.fields.specs.Parsers.{got}
+use Rattle.planfields.specs.Records.{named, jobName, oneJob}
 use Rattle.planfile.specs.Reader.{namesOf, allJobs}
 use Rattle.planwriter.specs.Writing.{jobBytes, jobsBytes}
-use Rattle.planfields.proofs.ByteLaws.{Octets}
-use Rattle.planfields.proofs.ParserLaws.{through, same-value, same-next}
-use Rattle.planfields.proofs.HeadLaws.{job-whole}
-use Rattle.planfile.proofs.DistinctNames.{job-read}
-use Rattle.planfile.proofs.Offsets.{named-extent}
+use Rattle.fields.proofs.ByteLaws.{Octets}
+use Rattle.fields.proofs.ParserLaws.{through, same-value, same-next}
 use Rattle.planfile.proofs.JobLoop.{length-snoc, jobs-step, jobs-done}
-use Rattle.roundtrip.proofs.BytesAt.{Stands, stands-none, stands-then, stands-first, stands-rest, stands-at, field-back, field-again}
+use Rattle.fields.proofs.BytesAt.{Stands, stands-none, stands-then, stands-first, stands-rest, stands-at}
+use Rattle.fields.proofs.RoundTripLaws.{Law, law-as, then-law, test-law, done-law, field-law, checked-law, length-law}
 
--- A name is read if its length byte and its eight bytes are.
-pub named-back : (long name : ℕ) (file : List ℕ) (at : ℕ) {n₁ n₂ : ℕ} → field 1 file at ≡ got long n₁ → field 8 file n₁ ≡ got name n₂
-    → named long file at ≡ got name n₂
+-- The front of a record: its length byte and its name.
+pub named-law : (file : List ℕ) (long : ℕ) → long < 256 ^ 1
+    → Law file (named long) (λ x. bytes 1 long ++ bytes 8 x) (λ x. x < 256 ^ 8)
 unfolding named
-named-back long name file at e f = rw (e, eq-eqb long long refl, f)
-
--- Where a name is read, the file has the bytes of its length byte and of the name,
--- which fits in eight bytes.
-pub named-again : (long : ℕ) (file : List ℕ) (at : ℕ) {name next : ℕ} → Octets file → named long file at ≡ got name next
-    → Stands file at (bytes 1 long ++ bytes 8 name) next × (name < 256 ^ 8)
-named-again long file at octets e =
-    let n = named-extent long file at e in
-    let b = field-again 8 file (at + 1) octets (n .1) in
-    (stands-then (field-again 1 file at octets (n .0) .0) (b .0), b .1)
+named-law file long small =
+    law-as (then-law (λ _. tt) (length-law file long small) (λ _. field-law file 8 (omega arith)) (λ a b first good. refl))
+    (λ x good. (tt, good)) (λ x good. good .1) (λ x. refl)
 
 -- What a job needs to be read after jobs with the given names.
 pub record Readable (earlier : List ℕ) (j : Job) : Type 0 where
@@ -61,58 +53,48 @@ grade-small g e = by (eqb g 0) refl (eqb g 1) refl e
     by false ha true hb e = omega (arith, eqb-true g 1 hb)
     by false ha false hb e = absurd (let z : _≡_ {A = ℕ} 0 1 = cc in omega arith)
 
--- A job's name is read if its bytes are allowed and no earlier job has it.
-name-back : (earlier file : List ℕ) (at : ℕ) {name next : ℕ} → named jobLength file at ≡ got name next → nameAllowed name ≡ true
-    → isAbsent earlier name ≡ true → jobName earlier file at ≡ got name next
-unfolding jobName
-name-back earlier file at e a b = rw (e, a, b)
-
--- An allowed grade is read from its byte.
-grade-back : (file : List ℕ) (at : ℕ) {g next : ℕ} → field 1 file at ≡ got g next → gradeAllowed g ≡ true
-    → checked 1 gradeAllowed wrongGrade file at ≡ got g next
-grade-back file at e g = rw (e, g)
-
--- A `Readable` job is read where the file has its written bytes.
-pub job-back : (earlier : List ℕ) (j : Job) (file : List ℕ) (at : ℕ) {next : ℕ} → Readable earlier j → Stands file at (jobBytes j) next
-    → oneJob earlier file at ≡ got j next
-job-back earlier j file at ok s =
-    let a = bytes 1 jobLength in
-    let b = bytes 8 (j .name .0) in
-    let c = bytes 1 (j .grade) in
-    let d = bytes 4 (j .release .0) in
-    let e = bytes 4 (j .size .0) in
-    let f = bytes 4 (j .deadline .0) in
+-- A job, from its fields and their tests.
+pub job-law : (file earlier : List ℕ) → Law file (oneJob earlier) jobBytes (Readable earlier)
+unfolding oneJob jobName
+job-law file earlier =
+    law-as
+    (then-law (λ (j : Job). j .name .0)
+    (then-law (λ x. x) (named-law file jobLength (lit< tt))
+    (λ name. test-law (nameAllowed name) wrongNameByte (test-law (isAbsent earlier name) nameTaken (done-law file name))) (λ a b first good. good .1 .1))
+    (λ name. then-law (λ (j : Job). j .grade) (checked-law file 1 (omega arith) gradeAllowed wrongGrade)
+    (λ grade. then-law (λ (j : Job). j .release .0) (field-law file 4 (omega arith))
+    (λ release. then-law (λ (j : Job). j .size .0) (field-law file 4 (omega arith))
+    (λ size. then-law (λ (j : Job). j .deadline .0) (field-law file 4 (omega arith))
+    (λ deadline. test-law (windowAllowed release deadline && sizeAllowed size) wrongJobBounds
+    (done-law file
+    (record {
+      name = record { 0 = name };
+      grade = grade;
+      release = record { 0 = release };
+      size = record { 0 = size };
+      deadline = record { 0 = deadline };
+    })))
+    (λ a b first good. ap (λ (j : Job). j .deadline .0) (good .1)))
+    (λ a b first good. ap (λ (j : Job). j .size .0) (good .1 .1)))
+    (λ a b first good. ap (λ (j : Job). j .release .0) (good .1 .1 .1)))
+    (λ a b first good. ap (λ (j : Job). j .grade) (good .1 .1 .1 .1)))
+    (λ a b first good. ap (λ (j : Job). j .name .0) (good .1 .1 .1 .1 .1)))
+    (λ j ok.
     let t = both (windowAllowed (j .release .0) (j .deadline .0)) (sizeAllowed (j .size .0)) (ok .bounds) in
     let w = both (ltb (j .release .0) (j .deadline .0)) (leb (j .deadline .0) mostDeadline) (t .0) in
     let from = ltb-true (j .release .0) (j .deadline .0) (w .0) in
     let to = leb-true (j .deadline .0) mostDeadline (w .1) in
     let size = leb-true (j .size .0) mostSize (both (leb 1 (j .size .0)) (leb (j .size .0) mostSize) (t .1) .1) in
-    let s₅ = stands-first (a ++ b ++ c ++ d ++ e) f s in
-    let s₄ = stands-first (a ++ b ++ c ++ d) e s₅ in
-    let s₃ = stands-first (a ++ b ++ c) d s₄ in
-    let s₂ = stands-first (a ++ b) c s₃ in
-    let s₁ = stands-first a b s₂ in
-    let name = named-back jobLength (j .name .0) file at (field-back 1 jobLength file at (omega arith) (lit< tt) s₁)
-    (field-back 8 (j .name .0) file (at + length a) (omega arith) (ok .fits) (stands-rest a b s₂)) in
-    sym (job-whole earlier file at
-    (name-back earlier file at name (ok .allowed) (ok .absent))
-    (grade-back file (at + length (a ++ b)) (field-back 1 (j .grade) file (at + length (a ++ b)) (omega arith) (grade-small (j .grade) (ok .graded)) (stands-rest (a ++ b) c s₃)) (ok .graded))
-    (field-back 4 (j .release .0) file (at + length (a ++ b ++ c)) (omega arith) (omega (arith, from, to)) (stands-rest (a ++ b ++ c) d s₄))
-    (field-back 4 (j .size .0) file (at + length (a ++ b ++ c ++ d)) (omega arith) (omega (arith, size)) (stands-rest (a ++ b ++ c ++ d) e s₅))
-    (field-back 4 (j .deadline .0) file (at + length (a ++ b ++ c ++ d ++ e)) (omega arith) (omega (arith, to)) (stands-rest (a ++ b ++ c ++ d ++ e) f s))
-    (ok .bounds))
-
--- Where a job is read, the file has its written bytes, and the job is `Readable`.
-pub job-again : (earlier : List ℕ) (j : Job) (file : List ℕ) (at : ℕ) {next : ℕ} → Octets file → oneJob earlier file at ≡ got j next
-    → Stands file at (jobBytes j) next × Readable earlier j
-job-again earlier j file at {next} octets e =
-    let r = job-read earlier file at j next e in
-    let n = named-again jobLength file at octets (r .name) in (
-      stands-then (stands-then (stands-then (stands-then (n .0) (field-again 1 file (r .a₁) octets (r .grade) .0))
-          (field-again 4 file (r .a₂) octets (r .release) .0)) (field-again 4 file (r .a₃) octets (r .size) .0))
-          (field-again 4 file (r .a₄) octets (r .deadline) .0),
-      record { fits = n .1; allowed = r .allowed; absent = r .absent; graded = r .graded; bounds = r .bounds },
-    )
+    ((ok .fits, (ok .allowed, (ok .absent, refl))), ((grade-small (j .grade) (ok .graded), ok .graded),
+    (omega (arith, from, to), (omega (arith, size), (omega (arith, to), (ok .bounds, refl)))))))
+    (λ j good. record {
+      fits = good .0 .0;
+      allowed = good .0 .1 .0;
+      absent = good .0 .1 .1 .0;
+      graded = good .1 .0 .1;
+      bounds = good .1 .1 .1 .1 .1 .0;
+    })
+    (λ j. simp (append-nil, append-assoc))
 
 -- The bytes of n jobs from job i on.
 unfoldable pub spanBytes : Plan → ℕ → ℕ → List ℕ
@@ -142,7 +124,7 @@ jobs-back p file zero i at fits ok s =
     ∙ ap (got (take (i + 0) (p .jobs))) (sym (s .ends ∙ add-zero at))
 jobs-back p file (suc n) i at {next} fits ok s =
     let b = jobBytes (jobOf p i) in
-    let here = job-back (namesOf (take i (p .jobs))) (jobOf p i) file at (ok i (omega arith) (omega arith)) (stands-first b (spanBytes p (suc i) n) s) in
+    let here = job-law file (namesOf (take i (p .jobs))) .back (jobOf p i) at (ok i (omega arith) (omega arith)) (stands-first b (spanBytes p (suc i) n) s) in
     let rest = jobs-back p file n (suc i) (at + length b) (omega arith) (λ k h l. ok k (omega arith) (omega arith)) (stands-rest b (spanBytes p (suc i) n) s) in
     jobs-step n (take i (p .jobs)) file at here
     ∙ ap (λ l. allJobs n l file (at + length b)) (sym (take-suc (p .jobs) i noJob (omega arith)))
@@ -167,7 +149,7 @@ jobs-again p zero jobs file at all next octets same e = stands-at (stands-none f
 jobs-again p (suc n) jobs file at all next octets same e =
     let t = through (oneJob (namesOf jobs) file at) e in
     let long = length-snoc jobs (t .value) in
-    let here = job-again (namesOf jobs) (t .value) file at octets (t .is) .0 in
+    let here = job-law file (namesOf jobs) .again octets at (t .is) .0 in
     let is : jobOf p (length jobs) ≡ t .value
     = same (length jobs) (omega arith)
     ∙ jobs-keep n (jobs ++ (t .value ∷ [])) file (t .next) all next (t .on) (length jobs) (omega (arith, long))

@@ -6,12 +6,13 @@ use native.Mathlib.Omega.{arith}
 use lib.ListN.{length, getD, take, replicate, List·getD-map}
 use lib.Seq.{getD-take, take-at}
 use Rattle.plan.specs.Edition.{mostJobs}
+use Rattle.plan.specs.Versions.{versionFor}
 use Rattle.plan.specs.Rules.{noJob, jobOf, counted, names, name}
 use Rattle.plan.specs.Boundaries.{insert, boundariesTo, intervals}
 use Rattle.plan.specs.declared.kinds.Job.{Job}
 use Rattle.plan.specs.declared.kinds.Plan.{Plan}
 use Rattle.plan.proofs.Names.{prefix-at}
-use Rattle.planfields.specs.Fields.{Head}
+use Rattle.planfields.specs.Records.{Head}
 use Rattle.planfile.specs.Reader.{namesOf, planFrom}
 use Rattle.planwriter.specs.Writing.{rowAt, rowsBytes}
 use Rattle.base.proofs.Padding.{getD-pad}
@@ -32,7 +33,7 @@ rows-names width a b same q (u ∷ l) = rw (same (q / width)) (ap (λ r. rowAt w
 
 -- The plan as it is read back.
 abbrev pub kept : Plan → Plan
-kept p = planFrom (record { n = p .n .0; d = p .d .0; count = p .count }) (take (p .count) (p .jobs))
+kept p = planFrom (record { version = versionFor (p .count); n = p .n .0; d = p .d .0; count = p .count }) (take (p .count) (p .jobs))
 
 -- The counted jobs are read back unchanged.
 pub kept-job : (p : Plan) (i : ℕ) → i < p .count → jobOf (kept p) i ≡ jobOf p i

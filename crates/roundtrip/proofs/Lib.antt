@@ -1,4 +1,3 @@
-pub mod BytesAt
 pub mod JobRoundTrip
 pub mod RowRoundTrip
 pub mod KeptPlan

@@ -9,14 +9,14 @@ use Rattle.plan.specs.Edition.{mostJobs}
 use Rattle.planfields.specs.Layout.{jobLength}
 use Rattle.plan.specs.Rules.{noJob, jobOf, name}
 use Rattle.plan.specs.declared.kinds.Plan.{Plan}
-use Rattle.planfields.specs.Bytes.{bytes}
-use Rattle.planfields.specs.Fields.{got}
+use Rattle.fields.specs.Bytes.{bytes}
+use Rattle.fields.specs.Parsers.{got}
 use Rattle.planfile.specs.Reader.{planFrom, Contents, readFile, nameShown}
 use Rattle.planwriter.specs.Writing.{jobBytes, jobsBytes}
-use Rattle.planfields.proofs.ByteLaws.{Octets, length-bytes}
+use Rattle.fields.proofs.ByteLaws.{Octets, length-bytes}
 use Rattle.planwriter.proofs.JobAndRowBytes.{jobs-long}
 use Rattle.planfile.proofs.WholeFile.{shown-part}
-use Rattle.roundtrip.proofs.BytesAt.{Stands, stands-first, stands-rest, stands-as}
+use Rattle.fields.proofs.BytesAt.{Stands, stands-first, stands-rest, stands-as}
 use Rattle.roundtrip.proofs.JobRoundTrip.{spanBytes, span-on, span-whole, jobs-again}
 use Rattle.base.proofs.Padding.{getD-pad}
 use Rattle.roundtrip.proofs.WriteAfterRead.{FileRead, file-read}

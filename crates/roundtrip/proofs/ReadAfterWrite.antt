@@ -2,14 +2,15 @@
 use mathlib.Core.Path.{_≡_, refl, sym, _∙_, ap, ap₂}
 use mathlib.Core.Bool.{Bool, true, false, not, cond, _&&_, _||_}
 use mathlib.Core.List.{List, [], _∷_, _++_, append-nil}
-use Prim.Native.Nat.{ℕ, zero, suc, _+_, _/_, _%_, _≤_, _<_, _^_}
+use Prim.Native.Nat.{ℕ, zero, suc, _+_, _*_, _/_, _%_, _≤_, _<_, _^_}
 use native.Mathlib.Nat.{zero-add}
 use native.Mathlib.Omega.{arith}
-use borrow.Author.Tests.{eq-eqb, ltb-true, ltb-false, le-leb}
-use lib.Dec.{leb, ltb, eqb, lit<}
+use borrow.Author.Tests.{ltb-true, ltb-false, leb-true}
+use lib.Dec.{ltb, eqb, lit<}
 use lib.ListN.{length, getD, take, drop, replicate, length-append, length-map, List·getD-eq-default}
 use lib.Seq.{drop-length, take-all, take-take, length-take-le}
-use Rattle.plan.specs.Edition.{mostJobs, mostRows, mostIntervals, places}
+use Rattle.plan.specs.Edition.{mostJobs, mostIntervals, places}
+use Rattle.plan.specs.Versions.{newestVersion, mostRowsIn, rowsAllowedIn, versionFor}
 use Rattle.plan.specs.Refusal.{tooManyRows}
 use Rattle.base.specs.Below.{every}
 use Rattle.plan.specs.Rules.{jobOf, name, names, counted, nameAllowed, sameName, isAbsent, gradeAllowed, namesHold, namesDiffer, gradesHold}
@@ -21,19 +22,23 @@ use Rattle.base.proofs.Below.{every-ext, every-at}
 use Rattle.base.proofs.Logic.{both}
 use Rattle.plan.proofs.Names.{name-at}
 use Rattle.plan.proofs.BoundaryOrder.{boundaries-few}
-use Rattle.planfields.specs.Bytes.{bytes}
-use Rattle.planfields.specs.Fields.{got, field, checked, opening, Head, head, ended}
+use Rattle.plan.proofs.VersionLimits.{count-written, rows-written}
+use Rattle.fields.specs.Bytes.{bytes}
+use Rattle.fields.specs.Parsers.{got, field, checked, opening}
+use Rattle.planfields.specs.Records.{Head, head}
 use Rattle.planfile.specs.Reader.{namesOf, allJobs, planFrom, preamble, allRows, readFile}
 use Rattle.planwriter.specs.Writing.{jobsBytes, rowBytes, rowsBytes, rowCount, body, written}
 use Rattle.planwriter.specs.inner.Writable.{Writable}
-use Rattle.planfields.proofs.ByteLaws.{length-bytes}
-use Rattle.planfields.proofs.HeadLaws.{opening-right, head-whole}
+use Rattle.fields.proofs.ByteLaws.{length-bytes}
+use Rattle.fields.proofs.OpeningLaws.{ended-back}
+use Rattle.fields.proofs.RoundTripLaws.{opening-back}
+use Rattle.planfields.proofs.HeadLaws.{head-whole}
 use Rattle.planfile.proofs.DistinctNames.{jobs-apart}
 use Rattle.planfile.proofs.WholeFile.{file-whole}
 use Rattle.plan.proofs.Soundness.{Rules, rules-parts, Sound, sound-parts, Bounded, rules-bounded, job-bounds}
 use Rattle.planwriter.proofs.WrittenFile.{counted-is, writable, body-of, body-short, written-of, written-long}
-use Rattle.planwriter.proofs.JobAndRowBytes.{count-few}
-use Rattle.roundtrip.proofs.BytesAt.{Stands, stands-at, stands-as, stands-first, stands-rest, field-back}
+use Rattle.planwriter.proofs.JobRows.{count-within}
+use Rattle.fields.proofs.BytesAt.{Stands, stands-at, stands-as, stands-first, stands-rest, field-back}
 use Rattle.roundtrip.proofs.JobRoundTrip.{Readable, span-whole, jobs-back}
 use Rattle.roundtrip.proofs.RowRoundTrip.{rows-back}
 use Rattle.roundtrip.proofs.KeptPlan.{kept, kept-intervals, names-prefix}
@@ -80,21 +85,16 @@ rows-counted jobs spans a b same q (u ∷ l) clear =
         (same (q / mostIntervals) (ltb-true (q / mostIntervals) jobs (d .0))) (rest (c .1))
 
 -- The preamble from its three parts.
-preamble-is : (file : List ℕ) {h : Head} {jobs : List Job} {rows a b c : ℕ} → head mostJobs file 0 ≡ got h a → allJobs (h .count) [] file a ≡ got jobs b
-    → checked 2 (λ n. leb n mostRows) tooManyRows file b ≡ got rows c
+preamble-is : (file : List ℕ) {h : Head} {jobs : List Job} {rows a b c : ℕ} → head true file 0 ≡ got h a → allJobs (h .count) [] file a ≡ got jobs b
+    → checked 2 (rowsAllowedIn (h .version)) tooManyRows file b ≡ got rows c
     → preamble file 0 ≡ got (record { plan = planFrom h jobs; names = namesOf jobs; rows = rows }) c
 unfolding preamble
 preamble-is file e₁ e₂ e₃ = rw (e₁, e₂, e₃)
 
--- A row count within its bound is read from its field.
-count-back : (file : List ℕ) (at : ℕ) {rows next : ℕ} → field 2 file at ≡ got rows next → rows ≤ mostRows
-    → checked 2 (λ n. leb n mostRows) tooManyRows file at ≡ got rows next
-count-back file at {rows} e h = rw (e, le-leb rows mostRows h)
-
--- At the end of the file `ended` succeeds.
-ended-back : (file : List ℕ) (at : ℕ) → at ≡ length file → ended file at ≡ got tt at
-unfolding ended
-ended-back file at e = rw (eq-eqb at (length file) e)
+-- A row count that the version allows is read from its field.
+count-back : (version : ℕ) (file : List ℕ) (at : ℕ) {rows next : ℕ} → field 2 file at ≡ got rows next → rowsAllowedIn version rows ≡ true
+    → checked 2 (rowsAllowedIn version) tooManyRows file at ≡ got rows next
+count-back version file at e h = rw (e, h)
 
 -- A plan that is sound with a table is sound with the table's own places alone.
 pub sound-own : (p : Plan) (table : List ℕ) → sound p table ≡ true → sound p (take places table) ≡ true
@@ -128,40 +128,35 @@ module _ (p : Plan) (table : List ℕ) (sound-is : sound p table ≡ true) (exac
   writes : Writable p table
   writes = rw own at (writable p table sound-is (omega (arith, exact)))
 
+  abbrev version : ℕ
+  version = versionFor (p .count)
+
+  abbrev front : List ℕ
+  front = bytes 1 version ++ bytes 4 (length (body p table))
+
   -- The parts of the file at their offsets.
-  whole : Stands file 0 (bytes 1 1 ++ bytes 4 (length (body p table)) ++ body p table) (length file)
+  whole : Stands file 0 (front ++ body p table) (length file)
   whole = record {
     is =
         sym (append-nil file) ∙ ap (λ l. file ++ l) (sym (drop-length file))
         ∙ ap (λ l. l ++ drop (length file) file) (sym (written-of p table));
-    ends = ap length (sym (written-of p table)) ∙ sym (zero-add (length (bytes 1 1 ++ bytes 4 (length (body p table)) ++ body p table)));
+    ends = ap length (sym (written-of p table)) ∙ sym (zero-add (length (front ++ body p table)));
   }
 
-  version-is : getD file 0 0 ≡ 1
-  unfolding written bytes
-  version-is = refl
+  front-long : 0 + length front ≡ 5
+  front-long =
+      ap (λ k. 0 + k) (length-append (bytes 1 version) (bytes 4 (length (body p table))) ∙ ap₂ _+_ (length-bytes 1 version) (length-bytes 4 (length (body p table))))
 
-  opened : opening file 0 ≡ got (length (body p table)) 5
+  opened : opening newestVersion true file 0 ≡ got version 5
   opened =
-      let a = bytes 1 1 in
-      let b = bytes 4 (length (body p table)) in
-      let long = written-long p table in
-      let s = stands-first (a ++ b) (body p table) whole in
-      let e = length-append a b ∙ ap₂ _+_ (length-bytes 1 1) (length-bytes 4 (length (body p table))) in
-      sym (opening-right file (omega (arith, long)) version-is
-      (field-back 4 (length (body p table)) file 1 (omega arith) (body-short p table writes)
-      (stands-at (rw (length-bytes 1 1) at (stands-rest a b s)) (omega (arith, e))))
-      (sym long))
+      opening-back newestVersion version (length (body p table)) file refl (lit< tt) (body-short p table writes)
+      (stands-at (stands-first front (body p table) whole) front-long) (sym (written-long p table))
 
   body-parts : Stands file 5
       (bytes 2 (p .n .0) ++ bytes 2 (p .d .0) ++ bytes 1 (p .count) ++ jobsBytes p (p .count) ++ bytes 2 (rowCount table)
       ++ rowsBytes mostIntervals (names p) 0 table)
       (length file)
-  body-parts =
-      let a = bytes 1 1 in
-      let b = bytes 4 (length (body p table)) in
-      let e : 0 + length (a ++ b) ≡ 5 = ap (λ k. 0 + k) (length-append a b ∙ ap₂ _+_ (length-bytes 1 1) (length-bytes 4 (length (body p table)))) in
-      rw (body-of p table few refl refl) (rw e at (stands-rest (a ++ b) (body p table) whole))
+  body-parts = rw (body-of p table few refl refl) (rw front-long at (stands-rest front (body p table) whole))
 
   -- The prefixes of the body, part by part, and the head that is read.
   abbrev after-d : List ℕ
@@ -186,17 +181,17 @@ module _ (p : Plan) (table : List ℕ) (sound-is : sound p table ≡ true) (exac
   to-count = stands-first after-count (jobsBytes p (p .count)) to-jobs
 
   abbrev headed : Head
-  headed = record { n = p .n .0; d = p .d .0; count = p .count }
+  headed = record { version = version; n = p .n .0; d = p .d .0; count = p .count }
 
-  head-is : head mostJobs file 0 ≡ got headed (5 + length after-count)
+  head-is : head true file 0 ≡ got headed (5 + length after-count)
   head-is =
       let s = stands-first after-d (bytes 1 (p .count)) to-count in
-      sym (head-whole mostJobs file 0 opened
+      sym (head-whole true file 0 opened
       (field-back 2 (p .n .0) file 5 (omega arith) (omega (arith, limits .rate)) (stands-first (bytes 2 (p .n .0)) (bytes 2 (p .d .0)) s))
       (field-back 2 (p .d .0) file (5 + length (bytes 2 (p .n .0))) (omega arith) (omega (arith, limits .rate, limits .rates)) (stands-rest (bytes 2 (p .n .0)) (bytes 2 (p .d .0)) s))
       (rules .rates)
       (field-back 1 (p .count) file (5 + length after-d) (omega arith) (omega (arith, few)) (stands-rest after-d (bytes 1 (p .count)) to-count))
-      (rules .count))
+      (count-written (p .count) (rules .count)))
 
   jobs-are : allJobs (p .count) [] file (5 + length after-count) ≡ got counted-jobs (5 + length after-jobs)
   jobs-are =
@@ -205,12 +200,19 @@ module _ (p : Plan) (table : List ℕ) (sound-is : sound p table ≡ true) (exac
       (stands-as (stands-rest after-count (jobsBytes p (p .count)) to-jobs) (sym (span-whole p (p .count))))
       ∙ ap (λ k. got (take k (p .jobs)) (5 + length after-jobs)) (zero-add (p .count))
 
-  rows-are : checked 2 (λ n. leb n mostRows) tooManyRows file (5 + length after-jobs) ≡ got (rowCount table) (5 + length after-rows)
+  -- There is at most one row for each job and interval.
+  few-rows : rowCount table ≤ p .count * intervals p
+  few-rows =
+      let many = counted-is p few in
+      let within = count-within table (counted p) (intervals p) (rw own at (parts .clear)) (omega (arith, boundaries-few p (counted p), many, few)) (omega (arith, exact, many, few)) in
+      omega (arith, within, ap (λ k. k * intervals p) many)
+
+  rows-are : checked 2 (rowsAllowedIn version) tooManyRows file (5 + length after-jobs) ≡ got (rowCount table) (5 + length after-rows)
   rows-are =
-      let most = count-few table in
-      count-back file (5 + length after-jobs)
-      (field-back 2 (rowCount table) file (5 + length after-jobs) (omega arith) (omega (arith, most, exact)) (stands-rest after-jobs (bytes 2 (rowCount table)) to-rows))
-      (omega (arith, most, exact))
+      let allowed = rows-written (p .count) (intervals p) (rowCount table) (rules .count) (omega (arith, boundaries-few p (counted p), counted-is p few)) few-rows in
+      count-back version file (5 + length after-jobs)
+      (field-back 2 (rowCount table) file (5 + length after-jobs) (omega arith) (omega (arith, leb-true (rowCount table) (mostRowsIn version) allowed)) (stands-rest after-jobs (bytes 2 (rowCount table)) to-rows))
+      allowed
 
   abbrev counted-names : List ℕ
   counted-names = namesOf counted-jobs

@@ -18,14 +18,15 @@ use Rattle.plan.specs.Table.{noStray, sound}
 use Rattle.plan.specs.declared.kinds.Job.{Job}
 use Rattle.plan.specs.declared.kinds.Plan.{Plan}
 use Rattle.base.proofs.Below.{every-ext, every-all}
-use Rattle.planfields.specs.Fields.{got, oneJob}
+use Rattle.fields.specs.Parsers.{got}
+use Rattle.planfields.specs.Records.{oneJob}
 use Rattle.planfile.specs.Reader.{namesOf, allJobs, planFrom, Contents, readFile}
 use Rattle.planwriter.specs.Writing.{written}
-use Rattle.planfields.proofs.ByteLaws.{Octets}
-use Rattle.planfields.proofs.ParserLaws.{through, same-value}
+use Rattle.fields.proofs.ByteLaws.{Octets}
+use Rattle.fields.proofs.ParserLaws.{through, same-value}
 use Rattle.planfile.proofs.JobLoop.{length-snoc, room-length}
 use Rattle.planwriter.proofs.WrittenFile.{counted-is}
-use Rattle.roundtrip.proofs.JobRoundTrip.{Readable, job-again}
+use Rattle.roundtrip.proofs.JobRoundTrip.{Readable, job-law}
 use Rattle.roundtrip.proofs.KeptPlan.{names-prefix, kept}
 use Rattle.base.proofs.Padding.{getD-pad}
 use Rattle.roundtrip.proofs.ReadAfterWrite.{read-own}
@@ -49,7 +50,7 @@ jobs-readable zero jobs file at all next octets e k l h = absurd (omega arith)
 jobs-readable (suc n) jobs file at all next octets e k l h =
     let t = through (oneJob (namesOf jobs) file at) e in
     let long = length-snoc jobs (t .value) in
-    let here = job-again (namesOf jobs) (t .value) file at octets (t .is) .1 in
+    let here = job-law file (namesOf jobs) .again octets at (t .is) .1 in
     let g = jobs-grow n (jobs ++ (t .value ∷ [])) file (t .next) all next (t .on) in
     let whole : all ≡ jobs ++ (t .value ∷ g .0) = g .1 ∙ append-assoc jobs (t .value ∷ []) (g .0) in
     ⊎-elim

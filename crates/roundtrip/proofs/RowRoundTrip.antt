@@ -2,11 +2,11 @@
 -- and where rows are read the file has the written rows of the resulting table.
 use mathlib.Core.Path.{_≡_, refl, sym, _∙_, ap, ap₂}
 use mathlib.Core.Bool.{Bool, true, false, not, cond, _&&_, _||_}
-use mathlib.Core.List.{List, [], _∷_, _++_, append-assoc}
+use mathlib.Core.List.{List, [], _∷_, _++_, append-nil, append-assoc}
 use Prim.Native.Nat.{ℕ, zero, suc, _+_, _*_, _-_, _/_, _%_, _≤_, _<_, _^_}
 use native.Mathlib.Nat.{add-zero, add-suc, suc-add, zero-add, div-add-mod, mul-comm}
 use native.Mathlib.Omega.{arith}
-use borrow.Author.Tests.{ne-eqb, eqb-true, eqb-false, ltb-true, lt-ltb, leb-true, not-true}
+use borrow.Author.Tests.{ne-eqb, eqb-true, eqb-false, ltb-true, lt-ltb, leb-true, le-leb, not-true}
 use lib.Arith.{digits-div, digits-mod}
 use lib.Dec.{leb, ltb, eqb, lit<}
 use lib.ListN.{length, getD, set, replicate, length-append, length-replicate, replicate-append-replicate}
@@ -16,18 +16,18 @@ use Rattle.planfields.specs.Layout.{rowLength}
 use Rattle.plan.specs.Refusal.{rowWithoutJob, rowWithoutInterval, rowWithoutUnits, rowOutOfOrder}
 use Rattle.plan.specs.Table.{place, noStray}
 use Rattle.base.proofs.Logic.{both}
-use Rattle.planfields.specs.Bytes.{bytes}
-use Rattle.planfields.specs.Fields.{got, field, checked, named}
+use Rattle.fields.specs.Parsers.{got}
 use Rattle.planfile.specs.Reader.{position, Row, oneRow, allRows}
 use Rattle.planwriter.specs.Writing.{rowBytes, rowsBytes, rowCount}
 use Rattle.planfile.specs.inner.Parts.{Distinct}
-use Rattle.planfields.proofs.ByteLaws.{Octets}
-use Rattle.planfields.proofs.ParserLaws.{through, past, checked-is, same-value, same-next}
+use Rattle.fields.proofs.ByteLaws.{Octets}
+use Rattle.fields.proofs.ParserLaws.{through, same-value, same-next}
 use Rattle.planfile.proofs.PositionLaws.{position-only, position-found}
-use Rattle.planfile.proofs.Rows.{row-whole, row-inside, rows-step, rows-done}
+use Rattle.planfile.proofs.Rows.{row-inside, rows-step, rows-done}
 use Rattle.planwriter.proofs.JobAndRowBytes.{rows-split, count-split}
-use Rattle.roundtrip.proofs.BytesAt.{Stands, stands-none, stands-then, stands-first, stands-rest, stands-at, field-back, field-again}
-use Rattle.roundtrip.proofs.JobRoundTrip.{named-back, named-again}
+use Rattle.fields.proofs.BytesAt.{Stands, stands-none, stands-then, stands-first, stands-rest, stands-at}
+use Rattle.fields.proofs.RoundTripLaws.{Law, law-as, then-law, test-law, done-law, checked-law}
+use Rattle.roundtrip.proofs.JobRoundTrip.{named-law}
 
 -- Zeros have no rows.
 zeros-rows : (names : List ℕ) (q m : ℕ) → rowsBytes mostIntervals names q (replicate m 0) ≡ []
@@ -70,35 +70,75 @@ small-split (x ∷ a) b ha hb (suc k) = small-split a b (λ j. ha (suc j)) hb k
 
 -- A row is read with its place and units where the file has its written bytes.
 module _ (names : List ℕ) (spans : ℕ) (differ : Distinct names) (narrow : spans ≤ mostIntervals) where
-  interval-back : (file : List ℕ) (at : ℕ) {j next : ℕ} → field 2 file at ≡ got j next → j < spans
-      → checked 2 (λ j. ltb j spans) rowWithoutInterval file at ≡ got j next
-  interval-back file at {j} e h = rw (e, lt-ltb j spans h)
+  -- What a row needs to be read after rows at places below `low`.
+  pub record RowReadable (low : ℕ) (row : Row) : Type 0 where
+    pub fits : getD names (row .at / mostIntervals) 0 < 256 ^ 8
+    pub job : row .at / mostIntervals < length names
+    pub interval : row .at % mostIntervals < spans
+    pub some : row .units ≡ 0 → ⊥
+    pub small : row .units < 256 ^ 4
+    pub after : low ≤ row .at
 
-  units-back : (file : List ℕ) (at : ℕ) {u next : ℕ} → field 4 file at ≡ got u next → (u ≡ 0 → ⊥)
-      → checked 4 (λ u. not (eqb u 0)) rowWithoutUnits file at ≡ got u next
-  units-back file at {u} e h = rw (e, ne-eqb u 0 h)
+  -- The job and the interval of a place.
+  place-parts : (i j : ℕ) → j < spans → (place mostIntervals i j / mostIntervals ≡ i) × (place mostIntervals i j % mostIntervals ≡ j)
+  place-parts i j h =
+      let wide : j < mostIntervals = omega (arith, h, narrow) in
+      let is : place mostIntervals i j ≡ i * mostIntervals + j = ap (λ k. k + j) (mul-comm mostIntervals i) in
+      (ap (λ k. k / mostIntervals) is ∙ digits-div i wide, ap (λ k. k % mostIntervals) is ∙ digits-mod i wide)
 
-  pub row-back : ((k : ℕ) → getD names k 0 < 256 ^ 8) → (file : List ℕ) (at low q u : ℕ) {next : ℕ} → q / mostIntervals < length names → q % mostIntervals < spans → (u ≡ 0 → ⊥)
-      → u < 256 ^ 4 → low ≤ q → Stands file at (rowBytes (getD names (q / mostIntervals) 0) (q % mostIntervals) u) next
-      → oneRow mostIntervals names spans low file at ≡ got (record { at = q; units = u }) next
-  row-back fit file at low q u {next} job interval some small h s =
+  -- The name at the job of a place is the name that gave the job.
+  name-of-place : (name j : ℕ) → ltb (position names name) (length names) ≡ true → j < spans
+      → getD names (place mostIntervals (position names name) j / mostIntervals) 0 ≡ name
+  name-of-place name j found h =
+      ap (λ i. getD names i 0) (place-parts (position names name) j h .0) ∙ position-found names name (ltb-true (position names name) (length names) found)
+
+  -- The position of the name at the job of a place, and the place that it gives.
+  place-of-name : (q : ℕ) → q / mostIntervals < length names
+      → (ltb (position names (getD names (q / mostIntervals) 0)) (length names) ≡ true)
+      × (place mostIntervals (position names (getD names (q / mostIntervals) 0)) (q % mostIntervals) ≡ q)
+  place-of-name q job =
       let name = getD names (q / mostIntervals) 0 in
-      let a = bytes 1 rowLength in
-      let b = bytes 8 name in
-      let c = bytes 2 (q % mostIntervals) in
-      let d = bytes 4 u in
-      let s₃ = stands-first (a ++ b ++ c) d s in
-      let s₂ = stands-first (a ++ b) c s₃ in
-      let s₁ = stands-first a b s₂ in
       let p : q / mostIntervals ≡ position names name = position-only names name (q / mostIntervals) differ job refl in
-      let is : place mostIntervals (position names name) (q % mostIntervals) ≡ q = rw (← p) (div-add-mod q mostIntervals) in
-      let read = row-whole mostIntervals names spans low file at
-      (named-back rowLength name file at (field-back 1 rowLength file at (omega arith) (lit< tt) s₁) (field-back 8 name file (at + length a) (omega arith) (fit (q / mostIntervals)) (stands-rest a b s₂)))
-      (lt-ltb (position names name) (length names) (rw (← p) job))
-      (interval-back file (at + length (a ++ b)) (field-back 2 (q % mostIntervals) file (at + length (a ++ b)) (omega arith) (omega (arith, interval, narrow)) (stands-rest (a ++ b) c s₃)) interval)
-      (units-back file (at + length (a ++ b ++ c)) (field-back 4 u file (at + length (a ++ b ++ c)) (omega arith) small (stands-rest (a ++ b ++ c) d s)) some)
-      (rw is h) in
-      read ∙ ap (λ k. got (record { at = k; units = u }) next) is
+      (lt-ltb (position names name) (length names) (rw (← p) job), rw (← p) (div-add-mod q mostIntervals))
+
+  -- A row, from its fields and their tests.
+  pub row-law : (file : List ℕ) (low : ℕ)
+      → Law file (oneRow mostIntervals names spans low) (λ row. rowBytes (getD names (row .at / mostIntervals) 0) (row .at % mostIntervals) (row .units)) (RowReadable low)
+  unfolding oneRow
+  row-law file low =
+      law-as
+      (then-law (λ (r : Row). getD names (r .at / mostIntervals) 0) (named-law file rowLength (lit< tt))
+      (λ name. test-law (ltb (position names name) (length names)) rowWithoutJob
+      (then-law (λ (r : Row). r .at % mostIntervals) (checked-law file 2 (omega arith) (λ j. ltb j spans) rowWithoutInterval)
+      (λ interval. then-law (λ (r : Row). r .units) (checked-law file 4 (omega arith) (λ u. not (eqb u 0)) rowWithoutUnits)
+      (λ units. test-law (leb low (place mostIntervals (position names name) interval)) rowOutOfOrder
+      (done-law file (record { at = place mostIntervals (position names name) interval; units = units })))
+      (λ a b first good. ap (λ (r : Row). r .units) (good .1)))
+      (λ a b first good.
+      ap (λ (r : Row). r .at % mostIntervals) (good .1 .1) ∙ place-parts (position names name) a (ltb-true a spans (first .1)) .1)))
+      (λ a b first good.
+      ap (λ (r : Row). getD names (r .at / mostIntervals) 0) (good .1 .1 .1 .1) ∙ name-of-place a (b .at % mostIntervals) (good .0) (ltb-true _ spans (good .1 .0 .1))))
+      (λ r ok.
+      let p = place-of-name (r .at) (ok .job) in
+      (ok .fits, (p .0, ((omega (arith, ok .interval, narrow), lt-ltb (r .at % mostIntervals) spans (ok .interval)), ((ok .small, unit-test (ok .some)),
+      (rw (p .1) (le-leb low (r .at) (ok .after)), ap (λ k. record { at = k; units = r .units }) (sym (p .1))))))))
+      (λ r good.
+      let i = position names (getD names (r .at / mostIntervals) 0) in
+      let j = r .at % mostIntervals in
+      let in-span = ltb-true j spans (good .1 .1 .0 .1) in
+      let is : r .at ≡ place mostIntervals i j = ap (λ (r : Row). r .at) (good .1 .1 .1 .1 .1) in
+      record {
+        fits = good .0;
+        job = omega (arith, ap (λ k. k / mostIntervals) is ∙ place-parts i j in-span .0, ltb-true i (length names) (good .1 .0));
+        interval = in-span;
+        some = eqb-false (r .units) 0 (not-true (eqb (r .units) 0) (good .1 .1 .1 .0 .1));
+        small = good .1 .1 .1 .0 .0;
+        after = omega (arith, is, leb-true low (place mostIntervals i j) (good .1 .1 .1 .1 .0));
+      })
+      (λ r. simp (append-nil, append-assoc))
+    where
+      unit-test : {u : ℕ} → (u ≡ 0 → ⊥) → not (eqb u 0) ≡ true
+      unit-test {u} h = rw (ne-eqb u 0 h) refl
 
   -- The written rows of the numbers l from place q on, read into zeros after `pre`, give pre ++ l.
   pub rows-back : ((k : ℕ) → getD names k 0 < 256 ^ 8) → (file l pre : List ℕ) (q low at : ℕ) {next : ℕ} → q ≡ length pre → low ≤ q → noStray mostIntervals (length names) spans q l ≡ true
@@ -125,59 +165,21 @@ module _ (names : List ℕ) (spans : ℕ) (differ : Distinct names) (narrow : sp
           let b = rowBytes (getD names (q / mostIntervals) 0) (q % mostIntervals) u in
           let c = both (ltb (q / mostIntervals) (length names) && ltb (q % mostIntervals) spans) (noStray mostIntervals (length names) spans (suc q) l) clear in
           let d = both (ltb (q / mostIntervals) (length names)) (ltb (q % mostIntervals) spans) (c .0) in
-          let here = row-back fit file at low q u (ltb-true (q / mostIntervals) (length names) (d .0)) (ltb-true (q % mostIntervals) spans (d .1)) (eqb-false u 0 z) (small 0) h
-          (stands-first b (rowsBytes mostIntervals names (suc q) l) s) in
+          let good : RowReadable low (record { at = q; units = u })
+          = record {
+            fits = fit (q / mostIntervals);
+            job = ltb-true (q / mostIntervals) (length names) (d .0);
+            interval = ltb-true (q % mostIntervals) spans (d .1);
+            some = eqb-false u 0 z;
+            small = small 0;
+            after = h;
+          } in
+          let here = row-law file low .back (record { at = q; units = u }) at good (stands-first b (rowsBytes mostIntervals names (suc q) l) s) in
           rows-step (rowCount l) mostIntervals names spans low (pre ++ (0 ∷ replicate (length l) 0)) file at here
           ∙ ap (λ t. allRows (rowCount l) mostIntervals names spans (suc q) t file (at + length b))
           (set-at pre 0 (replicate (length l) 0) u q (sym long) ∙ sym (append-assoc pre (u ∷ []) (replicate (length l) 0)))
           ∙ rest u (suc q) (at + length b) (omega arith) (c .1) (stands-rest b (rowsBytes mostIntervals names (suc q) l) s)
           ∙ ap (λ t. got t next) (append-assoc pre (u ∷ []) l)
-
-  -- What holds where a row is read: the file has its written bytes, and its job, interval,
-  -- units and place are in bounds.
-  pub record RowRead (file : List ℕ) (at low : ℕ) (row : Row) (next : ℕ) : Type 0 where
-    pub stands : Stands file at (rowBytes (getD names (row .at / mostIntervals) 0) (row .at % mostIntervals) (row .units)) next
-    pub job : row .at / mostIntervals < length names
-    pub interval : row .at % mostIntervals < spans
-    pub some : row .units ≡ 0 → ⊥
-    pub small : row .units < 256 ^ 4
-    pub after : low ≤ row .at
-
-  moved : {file : List ℕ} {at low : ℕ} {r t : Row} {m n : ℕ} → RowRead file at low r m → r ≡ t → m ≡ n → RowRead file at low t n
-  moved x p q = rw q at (rw p at x)
-
-  pub row-again : (file : List ℕ) (at low : ℕ) {row : Row} {next : ℕ} → Octets file → oneRow mostIntervals names spans low file at ≡ got row next
-      → RowRead file at low row next
-  unfolding oneRow
-  row-again file at low octets e =
-      let t₁ = through (named rowLength file at) e in
-      let t₂ = past (ltb (position names (t₁ .value)) (length names)) rowWithoutJob file (t₁ .next) (t₁ .on) in
-      let t₃ = through (checked 2 (λ j. ltb j spans) rowWithoutInterval file (t₁ .next)) (t₂ .on) in
-      let t₄ = through (checked 4 (λ u. not (eqb u 0)) rowWithoutUnits file (t₃ .next)) (t₃ .on) in
-      let t₅ = past (leb low (place mostIntervals (position names (t₁ .value)) (t₃ .value))) rowOutOfOrder file (t₄ .next) (t₄ .on) in
-      let i = position names (t₁ .value) in
-      let j = t₃ .value in
-      let job = ltb-true i (length names) (t₂ .is) in
-      let c₃ = checked-is 2 (λ j. ltb j spans) rowWithoutInterval file (t₁ .next) (t₃ .is) in
-      let c₄ = checked-is 4 (λ u. not (eqb u 0)) rowWithoutUnits file (t₃ .next) (t₄ .is) in
-      let in-span = ltb-true j spans (c₃ .1) in
-      let n = named-again rowLength file at octets (t₁ .is) in
-      let f₃ = field-again 2 file (t₁ .next) octets (c₃ .0) in
-      let f₄ = field-again 4 file (t₃ .next) octets (c₄ .0) in
-      let wide : j < mostIntervals = omega (arith, in-span, narrow) in
-      let place-is : place mostIntervals i j ≡ i * mostIntervals + j = ap (λ k. k + j) (mul-comm mostIntervals i) in
-      let quot : place mostIntervals i j / mostIntervals ≡ i = ap (λ k. k / mostIntervals) place-is ∙ digits-div i wide in
-      let rem : place mostIntervals i j % mostIntervals ≡ j = ap (λ k. k % mostIntervals) place-is ∙ digits-mod i wide in
-      moved
-      (record {
-        stands = rw (quot, rem, position-found names (t₁ .value) job) (stands-then (stands-then (n .0) (f₃ .0)) (f₄ .0));
-        job = rw quot job;
-        interval = rw rem in-span;
-        some = eqb-false (t₄ .value) 0 (not-true (eqb (t₄ .value) 0) (c₄ .1));
-        small = f₄ .1;
-        after = leb-true low (place mostIntervals i j) (t₅ .is);
-      })
-      (same-value (t₅ .on)) (same-next (t₅ .on))
 
   -- What reading n rows into m zeros after `pre` gives:
   -- m numbers, whose n written rows the file has.
@@ -192,10 +194,10 @@ module _ (names : List ℕ) (spans : ℕ) (differ : Distinct names) (narrow : sp
 
   -- One more row adds k zeros and its units in front of the numbers of the remaining rows.
   filled-on : {file : List ℕ} {n m q : ℕ} {pre : List ℕ} {at : ℕ} {table : List ℕ} {next n₁ : ℕ} (row : Row) (k m′ : ℕ) → q + k ≡ row .at → m ≡ k + suc m′
-      → RowRead file at q row n₁ → Filled file n m′ (suc (row .at)) (pre ++ replicate k 0 ++ (row .units ∷ [])) n₁ table next
+      → Stands file at (rowBytes (getD names (row .at / mostIntervals) 0) (row .at % mostIntervals) (row .units)) n₁ → RowReadable q row → Filled file n m′ (suc (row .at)) (pre ++ replicate k 0 ++ (row .units ∷ [])) n₁ table next
       → Filled file (suc n) m q pre at table next
   unfolding rowsBytes rowCount noStray
-  filled-on {file} {n} {m} {q} {pre} {at} {table} {next} row k m′ here long r f =
+  filled-on {file} {n} {m} {q} {pre} {at} {table} {next} row k m′ here long s r f =
       let u = row .units in
       let l = f .numbers in
       let zeros = length-replicate {A = ℕ} k 0 in
@@ -208,7 +210,7 @@ module _ (names : List ℕ) (spans : ℕ) (differ : Distinct names) (narrow : sp
         rows = count-split (replicate k 0) (u ∷ l) ∙ rw (zeros-count k, test, f .rows) (zero-add (suc n));
         stands =
             rw (rows-split mostIntervals names q (replicate k 0) (u ∷ l), zeros-rows names q k, at-k, test)
-            (stands-then (r .stands) (f .stands));
+            (stands-then s (f .stands));
         clear =
             clear-split (length names) spans q (replicate k 0) (u ∷ l) (zeros-clear (length names) spans q k)
             (rw (at-k, test, lt-ltb (row .at / mostIntervals) (length names) (r .job), lt-ltb (row .at % mostIntervals) spans (r .interval)) (f .clear));
@@ -248,14 +250,14 @@ module _ (names : List ℕ) (spans : ℕ) (differ : Distinct names) (narrow : sp
   rows-again file (suc n) m q pre at table next octets long room e =
       let t = through (oneRow mostIntervals names spans q file at) e in
       let row = t .value in
-      let r = row-again file at q octets (t .is) in
+      let r = row-law file q .again octets at (t .is) in
       let inside = row-inside names spans q file at (t .is) narrow in
       let k = row .at - q in
       let m′ = m - suc k in
-      let here : q + k ≡ row .at = omega (arith, r .after) in
-      let parts : m ≡ k + suc m′ = omega (arith, r .after, inside, room) in
+      let here : q + k ≡ row .at = omega (arith, r .1 .after) in
+      let parts : m ≡ k + suc m′ = omega (arith, r .1 .after, inside, room) in
       let store = ap₂ (λ (i j : ℕ). set (pre ++ replicate i 0) j (row .units)) parts (sym here) ∙ stored pre q k m′ (row .units) long in
-      filled-on row k m′ here parts r
+      filled-on row k m′ here parts (r .0) (r .1)
       (rows-again file n m′ (suc (row .at)) (pre ++ replicate k 0 ++ (row .units ∷ [])) (t .next) table next octets
       (omega (arith, here, long, length-replicate {A = ℕ} k 0, length-append (pre ++ replicate k 0) (row .units ∷ []), length-append pre (replicate k 0)))
       (omega (arith, here, parts, room))

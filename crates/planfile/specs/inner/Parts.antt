@@ -7,9 +7,9 @@ use lib.ListN.{length, getD, drop, replicate}
 use Rattle.plan.specs.Edition.{places}
 use Rattle.plan.specs.Refusal.{Refusal, noRefusal}
 use Rattle.plan.specs.declared.kinds.Job.{Job}
-use Rattle.planfields.specs.declared.field.Field.the-variants as field
-use Rattle.planfields.specs.declared.field.Passed.{Passed}
-use Rattle.planfields.specs.declared.field.Passed.the-variants as passed
+use Rattle.fields.specs.declared.field.Field.the-variants as field
+use Rattle.fields.specs.declared.field.Passed.{Passed}
+use Rattle.fields.specs.declared.field.Passed.the-variants as passed
 use Rattle.planfile.specs.declared.row.RowRead.{RowRead}
 use Rattle.planfile.specs.declared.row.RowRead.the-variants as row
 use Rattle.planfile.specs.declared.preamble.Jobs.{Jobs}
@@ -18,7 +18,8 @@ use Rattle.planfile.specs.declared.reader.Answer.{Answer}
 use Rattle.planfile.specs.declared.reader.Answer.the-variants as answer
 use Rattle.planfile.specs.declared.reader.PlanRead.{PlanRead}
 use Rattle.planfile.specs.Reader as rule
-use Rattle.planfields.specs.Fields.{Parsed, Head, got, no}
+use Rattle.fields.specs.Parsers.{Parsed, got, no}
+use Rattle.planfields.specs.Records.{Head}
 
 -- The elements of the list are pairwise distinct.
 abbrev pub Distinct : List ℕ → Type 0

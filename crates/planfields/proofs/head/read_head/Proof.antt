@@ -1,11 +1,10 @@
 -- `planfields::head::read_head` meets its contract.
-use Rattle.plan.specs.Edition.{mostJobs}
 use Rattle.planfields.proofs.HeadLaws.{head-unopened, head-no-normal, head-no-floor, head-rates, head-no-count, head-count-refused, head-whole}
 use mathlib.Core.Path.{refl}
 use native.Mathlib.Omega.{arith}
 use borrow.Author.Needs.{needs}
-use Rattle.planfields.specs.Answers.{fieldView, fieldRefusal}
-use Rattle.planfields.proofs.ParserLaws.{so, small, refused, failed, held}
+use Rattle.fields.specs.Answers.{fieldView, fieldRefusal, isCompared}
+use Rattle.fields.proofs.ParserLaws.{so, small, refused, failed, held}
 use Rattle.planfields.proofs.head.read_head.Statement.{statement}
 use Rattle.planfields.proofs.head.read_head.Tie as tie
 
@@ -23,11 +22,11 @@ field-refusal-requires c κs = search needs
 
 returns : tie.Need-returns
 returns c =
-    head-unopened mostJobs (c .before .before .before .before .before .args .file .now) 0
-    (refused fieldView fieldRefusal (c .before .before .before .read-opening .ensures) (c .before .enum-told .given .1) refl refl (c .field-refusal .ensures))
+    head-unopened (isCompared (c .before .before .before .before .before .args .lengths)) (c .before .before .before .before .before .args .file .now) 0
+    (refused fieldView fieldRefusal (c .before .before .before .read-opening .ensures .0) (c .before .enum-told .given .1) refl refl (c .field-refusal .ensures))
 
-read-field-requires : tie.Need-read-field-requires
-read-field-requires c κs = search needs
+read-two-requires : tie.Need-read-two-requires
+read-two-requires c κs = search needs
 
 enum-known-normal : tie.Need-enum-known-normal
 enum-known-normal c = search needs
@@ -41,16 +40,16 @@ field-refusal-requires-2 c κs = search needs
 returns-2 : tie.Need-returns-2
 returns-2 c =
     let at-enum-told2 = c .before in
-    let at-read-field = at-enum-told2 .before .before in
-    let at-opening = at-read-field .before .before in
+    let at-read-two = at-enum-told2 .before .before in
+    let at-opening = at-read-two .before .before in
     let at-read-opening = at-opening .before .before in
     let entry = at-read-opening .before .before in
-    head-no-normal mostJobs (entry .args .file .now) 0
-    (so fieldView (at-read-opening .read-opening .ensures) (at-opening .opening .given .1))
-    (refused fieldView fieldRefusal (at-read-field .read-field .ensures .0) (at-enum-told2 .enum-told2 .given .1) refl refl (c .field-refusal2 .ensures))
+    head-no-normal (isCompared (entry .args .lengths)) (entry .args .file .now) 0
+    (so fieldView (at-read-opening .read-opening .ensures .0) (at-opening .opening .given .1))
+    (refused fieldView fieldRefusal (at-read-two .read-two .ensures .0) (at-enum-told2 .enum-told2 .given .1) refl refl (c .field-refusal2 .ensures))
 
-read-field-requires-2 : tie.Need-read-field-requires-2
-read-field-requires-2 c κs = search needs
+read-two-requires-2 : tie.Need-read-two-requires-2
+read-two-requires-2 c κs = search needs
 
 enum-known-floor : tie.Need-enum-known-floor
 enum-known-floor c = search needs
@@ -64,24 +63,24 @@ field-refusal-requires-3 c κs = search needs
 returns-3 : tie.Need-returns-3
 returns-3 c =
     let at-enum-told3 = c .before in
-    let at-read-field2 = at-enum-told3 .before .before in
-    let at-normal = at-read-field2 .before .before in
-    let at-read-field = at-normal .before .before in
-    let at-opening = at-read-field .before .before in
+    let at-read-two2 = at-enum-told3 .before .before in
+    let at-normal = at-read-two2 .before .before in
+    let at-read-two = at-normal .before .before in
+    let at-opening = at-read-two .before .before in
     let at-read-opening = at-opening .before .before in
     let entry = at-read-opening .before .before in
-    head-no-floor mostJobs (entry .args .file .now) 0
-    (so fieldView (at-read-opening .read-opening .ensures) (at-opening .opening .given .1))
-    (so fieldView (at-read-field .read-field .ensures .0) (at-normal .normal .given .1))
-    (refused fieldView fieldRefusal (at-read-field2 .read-field2 .ensures .0) (at-enum-told3 .enum-told3 .given .1) refl refl (c .field-refusal3 .ensures))
-
-cast-t17 : tie.Need-cast-t17
-cast-t17 c =
-    omega (arith, small (c .before .before .before .before .before .before .before .read-field .ensures .1) (c .before .before .before .before .before .normal .given .1))
+    head-no-floor (isCompared (entry .args .lengths)) (entry .args .file .now) 0
+    (so fieldView (at-read-opening .read-opening .ensures .0) (at-opening .opening .given .1))
+    (so fieldView (at-read-two .read-two .ensures .0) (at-normal .normal .given .1))
+    (refused fieldView fieldRefusal (at-read-two2 .read-two2 .ensures .0) (at-enum-told3 .enum-told3 .given .1) refl refl (c .field-refusal3 .ensures))
 
 cast-t19 : tie.Need-cast-t19
 cast-t19 c =
-    omega (arith, small (c .before .before .before .read-field2 .ensures .1) (c .before .floor .given .1))
+    omega (arith, small (c .before .before .before .before .before .before .before .read-two .ensures .1) (c .before .before .before .before .before .normal .given .1))
+
+cast-t21 : tie.Need-cast-t21
+cast-t21 c =
+    omega (arith, small (c .before .before .before .read-two2 .ensures .1) (c .before .floor .given .1))
 
 rates-allowed-requires : tie.Need-rates-allowed-requires
 rates-allowed-requires c κs = search needs
@@ -90,20 +89,20 @@ returns-4 : tie.Need-returns-4
 returns-4 c =
     let at-rates-allowed = c .before in
     let at-floor = at-rates-allowed .before .before in
-    let at-read-field2 = at-floor .before .before in
-    let at-normal = at-read-field2 .before .before in
-    let at-read-field = at-normal .before .before in
-    let at-opening = at-read-field .before .before in
+    let at-read-two2 = at-floor .before .before in
+    let at-normal = at-read-two2 .before .before in
+    let at-read-two = at-normal .before .before in
+    let at-opening = at-read-two .before .before in
     let at-read-opening = at-opening .before .before in
     let entry = at-read-opening .before .before in
-    head-rates mostJobs (entry .args .file .now) 0
-    (so fieldView (at-read-opening .read-opening .ensures) (at-opening .opening .given .1))
-    (so fieldView (at-read-field .read-field .ensures .0) (at-normal .normal .given .1))
-    (so fieldView (at-read-field2 .read-field2 .ensures .0) (at-floor .floor .given .1))
+    head-rates (isCompared (entry .args .lengths)) (entry .args .file .now) 0
+    (so fieldView (at-read-opening .read-opening .ensures .0) (at-opening .opening .given .1))
+    (so fieldView (at-read-two .read-two .ensures .0) (at-normal .normal .given .1))
+    (so fieldView (at-read-two2 .read-two2 .ensures .0) (at-floor .floor .given .1))
     (failed (at-rates-allowed .rates-allowed .ensures) (c .if1 .taken))
 
-read-field-requires-3 : tie.Need-read-field-requires-3
-read-field-requires-3 c κs = search needs
+read-byte-requires : tie.Need-read-byte-requires
+read-byte-requires c κs = search needs
 
 enum-known-jobs : tie.Need-enum-known-jobs
 enum-known-jobs c = search needs
@@ -117,77 +116,103 @@ field-refusal-requires-4 c κs = search needs
 returns-5 : tie.Need-returns-5
 returns-5 c =
     let at-enum-told4 = c .before in
-    let at-read-field3 = at-enum-told4 .before .before in
-    let at-if1 = at-read-field3 .before in
+    let at-read-byte = at-enum-told4 .before .before in
+    let at-if1 = at-read-byte .before in
     let at-rates-allowed = at-if1 .before in
     let at-floor = at-rates-allowed .before .before in
-    let at-read-field2 = at-floor .before .before in
-    let at-normal = at-read-field2 .before .before in
-    let at-read-field = at-normal .before .before in
-    let at-opening = at-read-field .before .before in
+    let at-read-two2 = at-floor .before .before in
+    let at-normal = at-read-two2 .before .before in
+    let at-read-two = at-normal .before .before in
+    let at-opening = at-read-two .before .before in
     let at-read-opening = at-opening .before .before in
     let entry = at-read-opening .before .before in
-    head-no-count mostJobs (entry .args .file .now) 0
-    (so fieldView (at-read-opening .read-opening .ensures) (at-opening .opening .given .1))
-    (so fieldView (at-read-field .read-field .ensures .0) (at-normal .normal .given .1))
-    (so fieldView (at-read-field2 .read-field2 .ensures .0) (at-floor .floor .given .1))
+    head-no-count (isCompared (entry .args .lengths)) (entry .args .file .now) 0
+    (so fieldView (at-read-opening .read-opening .ensures .0) (at-opening .opening .given .1))
+    (so fieldView (at-read-two .read-two .ensures .0) (at-normal .normal .given .1))
+    (so fieldView (at-read-two2 .read-two2 .ensures .0) (at-floor .floor .given .1))
     (held (at-rates-allowed .rates-allowed .ensures) (at-if1 .if1 .left))
-    (refused fieldView fieldRefusal (at-read-field3 .read-field3 .ensures .0) (at-enum-told4 .enum-told4 .given .1) refl refl (c .field-refusal4 .ensures))
+    (refused fieldView fieldRefusal (at-read-byte .read-byte .ensures .0) (at-enum-told4 .enum-told4 .given .1) refl refl (c .field-refusal4 .ensures))
 
-count-allowed-requires : tie.Need-count-allowed-requires
-count-allowed-requires c κs = search needs
+cast-count-allowed-in : tie.Need-cast-count-allowed-in
+cast-count-allowed-in c =
+    let at-jobs = c .before in
+    let at-read-byte = at-jobs .before .before in
+    let at-if1 = at-read-byte .before in
+    let at-rates-allowed = at-if1 .before in
+    let at-floor = at-rates-allowed .before .before in
+    let at-read-two2 = at-floor .before .before in
+    let at-normal = at-read-two2 .before .before in
+    let at-read-two = at-normal .before .before in
+    let at-opening = at-read-two .before .before in
+    omega (arith, small (at-opening .before .before .read-opening .ensures .1) (at-opening .opening .given .1))
+
+count-allowed-in-requires : tie.Need-count-allowed-in-requires
+count-allowed-in-requires c κs = search needs
 
 returns-6 : tie.Need-returns-6
 returns-6 c =
-    let at-count-allowed = c .before in
-    let at-jobs = at-count-allowed .before .before in
-    let at-read-field3 = at-jobs .before .before in
-    let at-if1 = at-read-field3 .before in
+    let at-count-allowed-in = c .before in
+    let at-jobs = at-count-allowed-in .before .before in
+    let at-read-byte = at-jobs .before .before in
+    let at-if1 = at-read-byte .before in
     let at-rates-allowed = at-if1 .before in
     let at-floor = at-rates-allowed .before .before in
-    let at-read-field2 = at-floor .before .before in
-    let at-normal = at-read-field2 .before .before in
-    let at-read-field = at-normal .before .before in
-    let at-opening = at-read-field .before .before in
+    let at-read-two2 = at-floor .before .before in
+    let at-normal = at-read-two2 .before .before in
+    let at-read-two = at-normal .before .before in
+    let at-opening = at-read-two .before .before in
     let at-read-opening = at-opening .before .before in
     let entry = at-read-opening .before .before in
-    head-count-refused mostJobs (entry .args .file .now) 0
-    (so fieldView (at-read-opening .read-opening .ensures) (at-opening .opening .given .1))
-    (so fieldView (at-read-field .read-field .ensures .0) (at-normal .normal .given .1))
-    (so fieldView (at-read-field2 .read-field2 .ensures .0) (at-floor .floor .given .1))
+    head-count-refused (isCompared (entry .args .lengths)) (entry .args .file .now) 0
+    (so fieldView (at-read-opening .read-opening .ensures .0) (at-opening .opening .given .1))
+    (so fieldView (at-read-two .read-two .ensures .0) (at-normal .normal .given .1))
+    (so fieldView (at-read-two2 .read-two2 .ensures .0) (at-floor .floor .given .1))
     (held (at-rates-allowed .rates-allowed .ensures) (at-if1 .if1 .left))
-    (so fieldView (at-read-field3 .read-field3 .ensures .0) (at-jobs .jobs .given .1))
-    (failed (at-count-allowed .count-allowed .ensures) (c .if2 .taken))
+    (so fieldView (at-read-byte .read-byte .ensures .0) (at-jobs .jobs .given .1))
+    (failed (at-count-allowed-in .count-allowed-in .ensures) (c .if2 .taken))
 
-cast-t17-2 : tie.Need-cast-t17-2
-cast-t17-2 c =
-    omega (arith, small (c .before .before .before .before .before .before .before .before .before .before .before .before .before .before .before .read-field .ensures .1) (c .before .before .before .before .before .before .before .before .before .before .before .before .before .normal .given .1))
+cast-t26 : tie.Need-cast-t26
+cast-t26 c =
+    let at-jobs = c .before .before .before in
+    let at-read-byte = at-jobs .before .before in
+    let at-if1 = at-read-byte .before in
+    let at-rates-allowed = at-if1 .before in
+    let at-floor = at-rates-allowed .before .before in
+    let at-read-two2 = at-floor .before .before in
+    let at-normal = at-read-two2 .before .before in
+    let at-read-two = at-normal .before .before in
+    let at-opening = at-read-two .before .before in
+    omega (arith, small (at-opening .before .before .read-opening .ensures .1) (at-opening .opening .given .1))
 
 cast-t19-2 : tie.Need-cast-t19-2
 cast-t19-2 c =
-    omega (arith, small (c .before .before .before .before .before .before .before .before .before .before .before .read-field2 .ensures .1) (c .before .before .before .before .before .before .before .before .before .floor .given .1))
+    omega (arith, small (c .before .before .before .before .before .before .before .before .before .before .before .before .before .before .before .read-two .ensures .1) (c .before .before .before .before .before .before .before .before .before .before .before .before .before .normal .given .1))
+
+cast-t21-2 : tie.Need-cast-t21-2
+cast-t21-2 c =
+    omega (arith, small (c .before .before .before .before .before .before .before .before .before .before .before .read-two2 .ensures .1) (c .before .before .before .before .before .before .before .before .before .floor .given .1))
 
 returns-7 : tie.Need-returns-7
 returns-7 c =
-    let at-count-allowed = c .before in
-    let at-jobs = at-count-allowed .before .before in
-    let at-read-field3 = at-jobs .before .before in
-    let at-if1 = at-read-field3 .before in
+    let at-count-allowed-in = c .before in
+    let at-jobs = at-count-allowed-in .before .before in
+    let at-read-byte = at-jobs .before .before in
+    let at-if1 = at-read-byte .before in
     let at-rates-allowed = at-if1 .before in
     let at-floor = at-rates-allowed .before .before in
-    let at-read-field2 = at-floor .before .before in
-    let at-normal = at-read-field2 .before .before in
-    let at-read-field = at-normal .before .before in
-    let at-opening = at-read-field .before .before in
+    let at-read-two2 = at-floor .before .before in
+    let at-normal = at-read-two2 .before .before in
+    let at-read-two = at-normal .before .before in
+    let at-opening = at-read-two .before .before in
     let at-read-opening = at-opening .before .before in
     let entry = at-read-opening .before .before in
-    head-whole mostJobs (entry .args .file .now) 0
-    (so fieldView (at-read-opening .read-opening .ensures) (at-opening .opening .given .1))
-    (so fieldView (at-read-field .read-field .ensures .0) (at-normal .normal .given .1))
-    (so fieldView (at-read-field2 .read-field2 .ensures .0) (at-floor .floor .given .1))
+    head-whole (isCompared (entry .args .lengths)) (entry .args .file .now) 0
+    (so fieldView (at-read-opening .read-opening .ensures .0) (at-opening .opening .given .1))
+    (so fieldView (at-read-two .read-two .ensures .0) (at-normal .normal .given .1))
+    (so fieldView (at-read-two2 .read-two2 .ensures .0) (at-floor .floor .given .1))
     (held (at-rates-allowed .rates-allowed .ensures) (at-if1 .if1 .left))
-    (so fieldView (at-read-field3 .read-field3 .ensures .0) (at-jobs .jobs .given .1))
-    (held (at-count-allowed .count-allowed .ensures) (c .if2 .left))
+    (so fieldView (at-read-byte .read-byte .ensures .0) (at-jobs .jobs .given .1))
+    (held (at-count-allowed-in .count-allowed-in .ensures) (c .if2 .left))
 
 pub read-head-spec : {M : Type 1} → statement M
 read-head-spec =
@@ -198,27 +223,29 @@ read-head-spec =
     enum-told
     field-refusal-requires
     returns
-    read-field-requires
+    read-two-requires
     enum-known-normal
     enum-told-2
     field-refusal-requires-2
     returns-2
-    read-field-requires-2
+    read-two-requires-2
     enum-known-floor
     enum-told-3
     field-refusal-requires-3
     returns-3
-    cast-t17
     cast-t19
+    cast-t21
     rates-allowed-requires
     returns-4
-    read-field-requires-3
+    read-byte-requires
     enum-known-jobs
     enum-told-4
     field-refusal-requires-4
     returns-5
-    count-allowed-requires
+    cast-count-allowed-in
+    count-allowed-in-requires
     returns-6
-    cast-t17-2
+    cast-t26
     cast-t19-2
+    cast-t21-2
     returns-7)

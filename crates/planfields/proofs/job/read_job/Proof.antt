@@ -4,9 +4,9 @@ use mathlib.Core.Path.{refl, ap₂}
 use mathlib.Core.Bool.{_&&_}
 use native.Mathlib.Omega.{arith}
 use borrow.Author.Needs.{needs}
-use Rattle.planfields.specs.Answers.{fieldView, fieldRefusal}
-use Rattle.planfields.specs.Fields.{oneJob}
-use Rattle.planfields.proofs.ParserLaws.{so, small, refused, failed, held}
+use Rattle.fields.specs.Answers.{fieldView, fieldRefusal}
+use Rattle.planfields.specs.Records.{oneJob}
+use Rattle.fields.proofs.ParserLaws.{so, small, refused, failed, held}
 use Rattle.planfields.proofs.job.read_job.Statement.{statement}
 use Rattle.planfields.proofs.job.read_job.Tie as tie
 
@@ -48,8 +48,8 @@ returns-2 c =
     let at-read-name = at-named .before .before in
     simp (so fieldView (at-read-name .read-name .ensures) (at-named .named .given .1), refused fieldView fieldRefusal (at-read-grade .read-grade .ensures .0) (at-enum-told2 .enum-told2 .given .1) refl refl (c .field-refusal2 .ensures))
 
-read-field-requires : tie.Need-read-field-requires
-read-field-requires c κs = search needs
+read-four-requires : tie.Need-read-four-requires
+read-four-requires c κs = search needs
 
 enum-known-released : tie.Need-enum-known-released
 enum-known-released c = search needs
@@ -64,15 +64,15 @@ returns-3 : tie.Need-returns-3
 unfolding oneJob
 returns-3 c =
     let at-enum-told3 = c .before in
-    let at-read-field = at-enum-told3 .before .before in
-    let at-graded = at-read-field .before .before in
+    let at-read-four = at-enum-told3 .before .before in
+    let at-graded = at-read-four .before .before in
     let at-read-grade = at-graded .before .before in
     let at-named = at-read-grade .before .before in
     let at-read-name = at-named .before .before in
-    simp (so fieldView (at-read-name .read-name .ensures) (at-named .named .given .1), so fieldView (at-read-grade .read-grade .ensures .0) (at-graded .graded .given .1), refused fieldView fieldRefusal (at-read-field .read-field .ensures .0) (at-enum-told3 .enum-told3 .given .1) refl refl (c .field-refusal3 .ensures))
+    simp (so fieldView (at-read-name .read-name .ensures) (at-named .named .given .1), so fieldView (at-read-grade .read-grade .ensures .0) (at-graded .graded .given .1), refused fieldView fieldRefusal (at-read-four .read-four .ensures .0) (at-enum-told3 .enum-told3 .given .1) refl refl (c .field-refusal3 .ensures))
 
-read-field-requires-2 : tie.Need-read-field-requires-2
-read-field-requires-2 c κs = search needs
+read-four-requires-2 : tie.Need-read-four-requires-2
+read-four-requires-2 c κs = search needs
 
 enum-known-sized : tie.Need-enum-known-sized
 enum-known-sized c = search needs
@@ -87,17 +87,17 @@ returns-4 : tie.Need-returns-4
 unfolding oneJob
 returns-4 c =
     let at-enum-told4 = c .before in
-    let at-read-field2 = at-enum-told4 .before .before in
-    let at-released = at-read-field2 .before .before in
-    let at-read-field = at-released .before .before in
-    let at-graded = at-read-field .before .before in
+    let at-read-four2 = at-enum-told4 .before .before in
+    let at-released = at-read-four2 .before .before in
+    let at-read-four = at-released .before .before in
+    let at-graded = at-read-four .before .before in
     let at-read-grade = at-graded .before .before in
     let at-named = at-read-grade .before .before in
     let at-read-name = at-named .before .before in
-    simp (so fieldView (at-read-name .read-name .ensures) (at-named .named .given .1), so fieldView (at-read-grade .read-grade .ensures .0) (at-graded .graded .given .1), so fieldView (at-read-field .read-field .ensures .0) (at-released .released .given .1), refused fieldView fieldRefusal (at-read-field2 .read-field2 .ensures .0) (at-enum-told4 .enum-told4 .given .1) refl refl (c .field-refusal4 .ensures))
+    simp (so fieldView (at-read-name .read-name .ensures) (at-named .named .given .1), so fieldView (at-read-grade .read-grade .ensures .0) (at-graded .graded .given .1), so fieldView (at-read-four .read-four .ensures .0) (at-released .released .given .1), refused fieldView fieldRefusal (at-read-four2 .read-four2 .ensures .0) (at-enum-told4 .enum-told4 .given .1) refl refl (c .field-refusal4 .ensures))
 
-read-field-requires-3 : tie.Need-read-field-requires-3
-read-field-requires-3 c κs = search needs
+read-four-requires-3 : tie.Need-read-four-requires-3
+read-four-requires-3 c κs = search needs
 
 enum-known-dead : tie.Need-enum-known-dead
 enum-known-dead c = search needs
@@ -112,16 +112,16 @@ returns-5 : tie.Need-returns-5
 unfolding oneJob
 returns-5 c =
     let at-enum-told5 = c .before in
-    let at-read-field3 = at-enum-told5 .before .before in
-    let at-sized = at-read-field3 .before .before in
-    let at-read-field2 = at-sized .before .before in
-    let at-released = at-read-field2 .before .before in
-    let at-read-field = at-released .before .before in
-    let at-graded = at-read-field .before .before in
+    let at-read-four3 = at-enum-told5 .before .before in
+    let at-sized = at-read-four3 .before .before in
+    let at-read-four2 = at-sized .before .before in
+    let at-released = at-read-four2 .before .before in
+    let at-read-four = at-released .before .before in
+    let at-graded = at-read-four .before .before in
     let at-read-grade = at-graded .before .before in
     let at-named = at-read-grade .before .before in
     let at-read-name = at-named .before .before in
-    simp (so fieldView (at-read-name .read-name .ensures) (at-named .named .given .1), so fieldView (at-read-grade .read-grade .ensures .0) (at-graded .graded .given .1), so fieldView (at-read-field .read-field .ensures .0) (at-released .released .given .1), so fieldView (at-read-field2 .read-field2 .ensures .0) (at-sized .sized .given .1), refused fieldView fieldRefusal (at-read-field3 .read-field3 .ensures .0) (at-enum-told5 .enum-told5 .given .1) refl refl (c .field-refusal5 .ensures))
+    simp (so fieldView (at-read-name .read-name .ensures) (at-named .named .given .1), so fieldView (at-read-grade .read-grade .ensures .0) (at-graded .graded .given .1), so fieldView (at-read-four .read-four .ensures .0) (at-released .released .given .1), so fieldView (at-read-four2 .read-four2 .ensures .0) (at-sized .sized .given .1), refused fieldView fieldRefusal (at-read-four3 .read-four3 .ensures .0) (at-enum-told5 .enum-told5 .given .1) refl refl (c .field-refusal5 .ensures))
 
 cast-t26 : tie.Need-cast-t26
 cast-t26 c =
@@ -129,11 +129,11 @@ cast-t26 c =
 
 cast-t27 : tie.Need-cast-t27
 cast-t27 c =
-    omega (arith, small (c .before .before .before .before .before .before .before .before .before .before .before .read-field .ensures .1) (c .before .before .before .before .before .before .before .before .before .released .given .1))
+    omega (arith, small (c .before .before .before .before .before .before .before .before .before .before .before .read-four .ensures .1) (c .before .before .before .before .before .before .before .before .before .released .given .1))
 
 cast-t30 : tie.Need-cast-t30
 cast-t30 c =
-    omega (arith, small (c .before .before .before .read-field3 .ensures .1) (c .before .dead .given .1))
+    omega (arith, small (c .before .before .before .read-four3 .ensures .1) (c .before .dead .given .1))
 
 window-allowed-requires : tie.Need-window-allowed-requires
 window-allowed-requires c κs = search needs
@@ -146,12 +146,12 @@ returns-6 c =
     let at-size-allowed = c .before in
     let at-window-allowed = at-size-allowed .before in
     let at-dead = at-window-allowed .before .before in
-    let at-read-field3 = at-dead .before .before in
-    let at-sized = at-read-field3 .before .before in
-    let at-read-field2 = at-sized .before .before in
-    let at-released = at-read-field2 .before .before in
-    let at-read-field = at-released .before .before in
-    let at-graded = at-read-field .before .before in
+    let at-read-four3 = at-dead .before .before in
+    let at-sized = at-read-four3 .before .before in
+    let at-read-four2 = at-sized .before .before in
+    let at-released = at-read-four2 .before .before in
+    let at-read-four = at-released .before .before in
+    let at-graded = at-read-four .before .before in
     let at-read-grade = at-graded .before .before in
     let at-named = at-read-grade .before .before in
     let at-read-name = at-named .before .before in
@@ -160,9 +160,9 @@ returns-6 c =
     job-bounds (a .earlier .now) (a .file .now) (a .at)
     (so fieldView (at-read-name .read-name .ensures) (at-named .named .given .1))
     (so fieldView (at-read-grade .read-grade .ensures .0) (at-graded .graded .given .1))
-    (so fieldView (at-read-field .read-field .ensures .0) (at-released .released .given .1))
-    (so fieldView (at-read-field2 .read-field2 .ensures .0) (at-sized .sized .given .1))
-    (so fieldView (at-read-field3 .read-field3 .ensures .0) (at-dead .dead .given .1))
+    (so fieldView (at-read-four .read-four .ensures .0) (at-released .released .given .1))
+    (so fieldView (at-read-four2 .read-four2 .ensures .0) (at-sized .sized .given .1))
+    (so fieldView (at-read-four3 .read-four3 .ensures .0) (at-dead .dead .given .1))
     (failed (ap₂ _&&_ (at-window-allowed .window-allowed .ensures) (at-size-allowed .size-allowed .ensures)) (c .if1 .taken))
 
 returns-7 : tie.Need-returns-7
@@ -170,12 +170,12 @@ returns-7 c =
     let at-size-allowed = c .before in
     let at-window-allowed = at-size-allowed .before in
     let at-dead = at-window-allowed .before .before in
-    let at-read-field3 = at-dead .before .before in
-    let at-sized = at-read-field3 .before .before in
-    let at-read-field2 = at-sized .before .before in
-    let at-released = at-read-field2 .before .before in
-    let at-read-field = at-released .before .before in
-    let at-graded = at-read-field .before .before in
+    let at-read-four3 = at-dead .before .before in
+    let at-sized = at-read-four3 .before .before in
+    let at-read-four2 = at-sized .before .before in
+    let at-released = at-read-four2 .before .before in
+    let at-read-four = at-released .before .before in
+    let at-graded = at-read-four .before .before in
     let at-read-grade = at-graded .before .before in
     let at-named = at-read-grade .before .before in
     let at-read-name = at-named .before .before in
@@ -184,9 +184,9 @@ returns-7 c =
     job-whole (a .earlier .now) (a .file .now) (a .at)
     (so fieldView (at-read-name .read-name .ensures) (at-named .named .given .1))
     (so fieldView (at-read-grade .read-grade .ensures .0) (at-graded .graded .given .1))
-    (so fieldView (at-read-field .read-field .ensures .0) (at-released .released .given .1))
-    (so fieldView (at-read-field2 .read-field2 .ensures .0) (at-sized .sized .given .1))
-    (so fieldView (at-read-field3 .read-field3 .ensures .0) (at-dead .dead .given .1))
+    (so fieldView (at-read-four .read-four .ensures .0) (at-released .released .given .1))
+    (so fieldView (at-read-four2 .read-four2 .ensures .0) (at-sized .sized .given .1))
+    (so fieldView (at-read-four3 .read-four3 .ensures .0) (at-dead .dead .given .1))
     (held (ap₂ _&&_ (at-window-allowed .window-allowed .ensures) (at-size-allowed .size-allowed .ensures)) (c .if1 .left))
 
 pub read-job-spec : {M : Type 1} → statement M
@@ -203,17 +203,17 @@ read-job-spec =
     enum-told-2
     field-refusal-requires-2
     returns-2
-    read-field-requires
+    read-four-requires
     enum-known-released
     enum-told-3
     field-refusal-requires-3
     returns-3
-    read-field-requires-2
+    read-four-requires-2
     enum-known-sized
     enum-told-4
     field-refusal-requires-4
     returns-4
-    read-field-requires-3
+    read-four-requires-3
     enum-known-dead
     enum-told-5
     field-refusal-requires-5

@@ -1,8 +1,8 @@
 -- `planfields::job::read_name` meets its contract.
 use borrow.Author.Needs.{needs}
-use Rattle.planfields.specs.Answers.{fieldView}
-use Rattle.planfields.specs.Fields.{jobName}
-use Rattle.planfields.proofs.ParserLaws.{so, failed, held}
+use Rattle.fields.specs.Answers.{fieldView}
+use Rattle.planfields.specs.Records.{jobName}
+use Rattle.fields.proofs.ParserLaws.{so, failed, held}
 use Rattle.planfields.proofs.job.read_name.Statement.{statement}
 use Rattle.planfields.proofs.job.read_name.Tie as tie
 

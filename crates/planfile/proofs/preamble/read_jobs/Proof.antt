@@ -9,7 +9,7 @@ use lib.ListN.{length}
 use lib.Seq.{length-take-le}
 use Rattle.plan.specs.Edition.{mostJobs}
 use Rattle.planfields.specs.Answers.{jobView, jobRefusal, headOf}
-use Rattle.planfields.proofs.ParserLaws.{so, refused}
+use Rattle.fields.proofs.ParserLaws.{so, refused}
 use Rattle.planfile.proofs.JobLoop.{JobsRead, jobs-read-start, jobs-read-names, jobs-read-next, jobs-read-refused, jobs-read-end}
 use Rattle.planfile.proofs.preamble.read_jobs.Statement.{statement}
 use Rattle.planfile.proofs.preamble.read_jobs.Tie as tie

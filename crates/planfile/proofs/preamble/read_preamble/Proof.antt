@@ -3,10 +3,9 @@
 use mathlib.Core.Path.{refl}
 use mathlib.Core.List.{[]}
 use borrow.Author.Needs.{needs}
-use Rattle.plan.specs.Edition.{mostJobs}
 use Rattle.planfile.specs.Reader.{allJobs}
 use Rattle.planfields.specs.Answers.{headView, headRefusal, headOf}
-use Rattle.planfields.proofs.ParserLaws.{so, refused, passed-refused}
+use Rattle.fields.proofs.ParserLaws.{so, refused, passed-refused}
 use Rattle.planfile.proofs.PreambleLaws.{head-count, jobs-refused, jobs-got, preamble-headless, preamble-jobless, preamble-whole}
 use Rattle.planfile.proofs.preamble.read_preamble.Statement.{statement}
 use Rattle.planfile.proofs.preamble.read_preamble.Tie as tie
@@ -41,7 +40,7 @@ read-jobs-requires c κs =
     let at-read = c .before .before in
     let at-read-head = at-read .before .before in
     let entry = at-read-head .before .before .before in
-    (entry .pre, head-count mostJobs (entry .args .file .now) 0 (so headView (at-read-head .read-head .ensures) (at-read .read .given .1)) .1)
+    (entry .pre, head-count (entry .args .file .now) (so headView (at-read-head .read-head .ensures) (at-read .read .given .1)) .1)
 
 enum-known-passed : tie.Need-enum-known-passed
 enum-known-passed c = search needs

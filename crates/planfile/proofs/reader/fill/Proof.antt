@@ -6,11 +6,11 @@ use borrow.Author.Needs.{needs}
 use lib.ListN.{drop, replicate}
 use Rattle.plan.specs.Edition.{mostJobs, mostIntervals, places}
 use Rattle.plan.specs.Boundaries.{intervals}
-use Rattle.planfields.specs.Fields.{got}
+use Rattle.fields.specs.Parsers.{got}
 use Rattle.planfile.specs.Reader.{Preamble, preamble}
-use Rattle.planfields.specs.Answers.{passedView, passedRefusal}
+use Rattle.fields.specs.Answers.{passedView, passedRefusal}
 use Rattle.planfile.specs.inner.Parts.{RowsAnswer}
-use Rattle.planfields.proofs.ParserLaws.{so, refused, passed-refused, field-refused}
+use Rattle.fields.proofs.ParserLaws.{so, refused, passed-refused, field-refused}
 use Rattle.planfile.proofs.Rows.{onlyPassed, rows-only}
 use Rattle.planfile.proofs.PreambleLaws.{preamble-refused, preamble-got}
 use Rattle.planfile.proofs.WholeFile.{rowsOf, rows-passed, rows-left, only-refused, only-got, no-preamble, no-rows, no-end, file-whole, taken-length, count-within, rows-asked, rows-same}

@@ -6,9 +6,9 @@ use native.Mathlib.Omega.{arith}
 use borrow.Author.Tests.{lt-ltb, le-ltb}
 use borrow.Author.Needs.{needs}
 use lib.Dec.{ltb}
-use Rattle.planfields.specs.Answers.{fieldView, fieldRefusal}
+use Rattle.fields.specs.Answers.{fieldView, fieldRefusal}
 use Rattle.plan.specs.Edition.{mostIntervals}
-use Rattle.planfields.proofs.ParserLaws.{so, small, refused}
+use Rattle.fields.proofs.ParserLaws.{so, small, refused}
 use Rattle.planfile.proofs.Rows.{row-unnamed, row-jobless, row-unplaced, row-empty, row-late, row-whole}
 use Rattle.planfile.proofs.row.read_row.Statement.{statement}
 use Rattle.planfile.proofs.row.read_row.Tie as tie

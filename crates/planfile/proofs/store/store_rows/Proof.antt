@@ -9,10 +9,10 @@ use borrow.Author.Needs.{needs}
 use lib.ListN.{length, set, length-set}
 use lib.Seq.{set-out}
 use Rattle.plan.specs.Edition.{mostIntervals, places}
-use Rattle.planfields.specs.Fields.{got}
+use Rattle.fields.specs.Parsers.{got}
 use Rattle.planfile.specs.Reader.{oneRow, allRows}
 use Rattle.planfile.specs.inner.Parts.{rowView, rowRefusal}
-use Rattle.planfields.proofs.ParserLaws.{so, refused}
+use Rattle.fields.proofs.ParserLaws.{so, refused}
 use Rattle.planfile.proofs.Rows.{row-inside, left-next, left-stop, left-done}
 use Rattle.planfile.proofs.store.store_rows.Statement.{statement}
 use Rattle.planfile.proofs.store.store_rows.Tie as tie

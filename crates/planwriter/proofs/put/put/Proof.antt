@@ -9,8 +9,8 @@ use borrow.Author.Needs.{needs}
 use lib.Dec.{lit<}
 use lib.ListN.{length, drop, drop-of-length-le}
 use lib.Seq.{sets, length-sets}
-use Rattle.planfields.specs.Bytes.{bytes}
-use Rattle.planfields.proofs.ByteLaws.{length-bytes, bytes-turn}
+use Rattle.fields.specs.Bytes.{bytes}
+use Rattle.fields.proofs.ByteLaws.{length-bytes, bytes-turn}
 use Rattle.planwriter.proofs.Sets.{put-turn}
 use Rattle.planwriter.proofs.put.put.Statement.{statement}
 use Rattle.planwriter.proofs.put.put.Tie as tie

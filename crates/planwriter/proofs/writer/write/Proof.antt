@@ -12,7 +12,7 @@ use Rattle.plan.specs.Table.{sound}
 use Rattle.plan.proofs.Stray.{sound-told}
 use Rattle.planwriter.specs.Writing.{body, written}
 use Rattle.planwriter.specs.inner.Writable.{Writable}
-use Rattle.planfields.proofs.ParserLaws.{failed, held}
+use Rattle.fields.proofs.ParserLaws.{failed, held}
 use Rattle.planwriter.proofs.JobAndRowBytes.{count-few}
 use Rattle.planwriter.proofs.WrittenFile.{writable, body-long, written-long, writer-short, writer-unsound, writer-tight, writer-whole}
 use Rattle.planwriter.proofs.writer.write.Statement.{statement}

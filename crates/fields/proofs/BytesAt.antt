@@ -8,11 +8,10 @@ use native.Mathlib.Omega.{arith}
 use lib.Dec.{lit<}
 use lib.ListN.{length, take, drop, length-append, length-drop, take-append-drop}
 use lib.Seq.{take-at, drop-at, drop-drop, getD-drop, length-take-le}
-use Rattle.planfields.specs.Bytes.{bytes, value}
-use Rattle.planfields.specs.Fields.{got, field}
-use Rattle.planfields.proofs.ByteLaws.{Octets, length-bytes, value-bytes, value-below, bytes-value}
-use Rattle.planfields.proofs.ParserLaws.{field-whole}
-use Rattle.planfile.proofs.Offsets.{field-extent}
+use Rattle.fields.specs.Bytes.{bytes, value}
+use Rattle.fields.specs.Parsers.{got, field}
+use Rattle.fields.proofs.ByteLaws.{Octets, length-bytes, value-bytes, value-below, bytes-value}
+use Rattle.fields.proofs.ParserLaws.{field-whole, field-extent}
 
 -- The file has the bytes `bs` at offset `at`, and they end at offset `next`.
 pub record Stands (file : List ℕ) (at : ℕ) (bs : List ℕ) (next : ℕ) : Type 0 where

@@ -1,19 +1,20 @@
 -- Laws of parser steps: fields, tests, and refusals that are passed on.
 use mathlib.Core.Path.{_≡_, refl, sym, _∙_, ap}
-use mathlib.Core.Bool.{Bool, true, false, not}
+use mathlib.Core.Bool.{Bool, true, false, not, cond}
 use mathlib.Core.List.{List}
 use Prim.Native.Nat.{ℕ, _+_, _≤_, _<_}
 use native.Mathlib.Omega.{arith}
-use borrow.Author.Tests.{le-leb, lt-leb, not-true, not-false}
+use borrow.Author.Tests.{le-leb, lt-leb, leb-true, not-true, not-false}
+use lib.Dec.{leb}
 use lib.ListN.{length, take, drop}
 use Rattle.plan.specs.Refusal.{Refusal, refusalOf, wrongExtent}
-use Rattle.planfields.specs.Bytes.{value}
-use Rattle.planfields.specs.Fields.{Parsed, got, no, Parser, onward, test, field, checked}
-use Rattle.planfields.specs.Answers.{fieldValue, fieldRefusal, passedRefusal}
-use Rattle.planfields.specs.declared.field.Field.{Field}
-use Rattle.planfields.specs.declared.field.Field.the-variants as field
-use Rattle.planfields.specs.declared.field.Passed.{Passed}
-use Rattle.planfields.specs.declared.field.Passed.the-variants as passed
+use Rattle.fields.specs.Bytes.{value}
+use Rattle.fields.specs.Parsers.{Parsed, got, no, Parser, onward, test, field, checked}
+use Rattle.fields.specs.Answers.{fieldValue, fieldRefusal, passedRefusal}
+use Rattle.fields.specs.declared.field.Field.{Field}
+use Rattle.fields.specs.declared.field.Field.the-variants as field
+use Rattle.fields.specs.declared.field.Passed.{Passed}
+use Rattle.fields.specs.declared.field.Passed.the-variants as passed
 
 -- A field inside the file is read, and one that the file cuts short is refused.
 pub field-whole : (w : ℕ) (file : List ℕ) (at : ℕ) {v : ℕ} → at + w ≤ length file → v ≡ value 0 (take w (drop at file))
@@ -68,6 +69,11 @@ pub past : {B : Type 0} (b : Bool) (number : ℕ) (file : List ℕ) (at : ℕ) {
 past true number file at e = record { is = refl; on = e }
 past false number file at e = absurd (let z : _≡_ {A = ℕ} 0 1 = cc in omega arith)
 
+-- If a test succeeds, it is true and has consumed no bytes.
+pub test-is : (b : Bool) (number : ℕ) (file : List ℕ) (at : ℕ) {u : Unit {0}} {next : ℕ} → test b number file at ≡ got u next → (b ≡ true) × (at ≡ next)
+test-is true number file at e = (refl, cc)
+test-is false number file at e = absurd (let z : _≡_ {A = ℕ} 0 1 = cc in omega arith)
+
 -- `got` is injective in its value and in its next offset.
 pub same-value : {A : Type 0} {a b : A} {m n : ℕ} → _≡_ {A = Parsed A} (got a m) (got b n) → a ≡ b
 same-value e = cc
@@ -90,3 +96,16 @@ passed-refused e h = e ∙ ap passed.Refused (sym (h ∙ ap passedRefusal e))
 
 pub field-refused : {f : Field} {x k : Refusal} → f ≡ field.Refused k → x ≡ fieldRefusal f → f ≡ field.Refused x
 field-refused e h = e ∙ ap field.Refused (sym (h ∙ ap fieldRefusal e))
+
+-- A field of w bytes that is read ends at offset at + w, inside the file,
+-- and has the value of its bytes.
+pub field-extent : (w : ℕ) (file : List ℕ) (at : ℕ) {v next : ℕ} → field w file at ≡ got v next
+    → (next ≡ at + w) × (at + w ≤ length file) × (v ≡ value 0 (take w (drop at file)))
+unfolding field
+field-extent w file at e = by (leb (at + w) (length file)) refl e
+  where
+    by : (t : Bool) → leb (at + w) (length file) ≡ t → {v next : ℕ}
+        → cond t (got (value 0 (take w (drop at file))) (at + w)) (no (refusalOf wrongExtent)) ≡ got v next
+        → (next ≡ at + w) × (at + w ≤ length file) × (v ≡ value 0 (take w (drop at file)))
+    by true h e = (sym (same-next e), leb-true (at + w) (length file) h, sym (same-value e))
+    by false h e = absurd (let z : _≡_ {A = ℕ} 0 1 = cc in omega arith)

@@ -1,4 +1,4 @@
--- `planfields::field::read_field` meets its contract:
+-- `fields::field::read_field` meets its contract:
 -- at index k, `value` is the value of the field's bytes from k on.
 use mathlib.Core.Path.{_≡_, refl, sym}
 use mathlib.Core.List.{List}
@@ -8,11 +8,11 @@ use native.Mathlib.Nat.{one-le-pow, pow-suc, pow-le-pow-right, sub-zero, add-zer
 use borrow.Author.Needs.{needs}
 use lib.Dec.{lit<}
 use lib.ListN.{getD, take, drop}
-use Rattle.planfields.specs.Bytes as rule
-use Rattle.planfields.proofs.ByteLaws.{value-start, value-turn, within, room}
-use Rattle.planfields.proofs.ParserLaws.{field-whole, field-cut}
-use Rattle.planfields.proofs.field.read_field.Statement.{statement}
-use Rattle.planfields.proofs.field.read_field.Tie as tie
+use Rattle.fields.specs.Bytes as rule
+use Rattle.fields.proofs.ByteLaws.{value-start, value-turn, within, room}
+use Rattle.fields.proofs.ParserLaws.{field-whole, field-cut}
+use Rattle.fields.proofs.field.read_field.Statement.{statement}
+use Rattle.fields.proofs.field.read_field.Tie as tie
 
 -- `value` is the value of the last w − k bytes of the field, and is below 256^(w − k).
 abbrev Has : List ℕ → ℕ → ℕ → ℕ → ℕ → Type 0

@@ -8,7 +8,7 @@ use lib.Arith.{digits-lt, digits-div, digits-mod, mod-mul}
 use lib.Dec.{lit<}
 use lib.ListN.{length, getD, take, drop, length-drop}
 use lib.Seq.{length-take-le, drop-cons, drop-at}
-use Rattle.planfields.specs.Bytes.{bytes, value}
+use Rattle.fields.specs.Bytes.{bytes, value}
 
 pub length-bytes : (w x : ℕ) → length (bytes w x) ≡ w
 unfolding bytes

@@ -1,8 +1,8 @@
--- `planfields::field::field_refusal` meets its contract.
+-- `fields::field::field_refusal` meets its contract.
 use mathlib.Core.Path.{refl}
 use borrow.Author.Needs.{needs}
-use Rattle.planfields.proofs.field.field_refusal.Statement.{statement}
-use Rattle.planfields.proofs.field.field_refusal.Tie as tie
+use Rattle.fields.proofs.field.field_refusal.Statement.{statement}
+use Rattle.fields.proofs.field.field_refusal.Tie as tie
 
 enum-told : tie.Need-enum-told
 enum-told c = search needs

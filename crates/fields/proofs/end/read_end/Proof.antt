@@ -1,8 +1,8 @@
--- `planfields::field::read_end` meets its contract.
-use Rattle.planfields.specs.Fields.{ended}
+-- `fields::end::read_end` meets its contract.
+use Rattle.fields.specs.Parsers.{ended}
 use borrow.Author.Tests.{eq-eqb, ne-eqb}
-use Rattle.planfields.proofs.field.read_end.Statement.{statement}
-use Rattle.planfields.proofs.field.read_end.Tie as tie
+use Rattle.fields.proofs.end.read_end.Statement.{statement}
+use Rattle.fields.proofs.end.read_end.Tie as tie
 
 returns : tie.Need-returns
 unfolding ended

@@ -1,14 +1,11 @@
-// Reading one field. The reader takes every byte of a plan file except the first
-// through `read_field`.
-use plan::edition::Edition;
+// Reading one field of 1, 2, 4 or 8 bytes, highest byte first.
+// Every byte of a file is read through `read_field`.
 use plan::refusal::DONE;
 use plan::refusal::Refusal;
 use plan::refusal::WRONG_EXTENT;
-use plan::refusal::WRONG_RECORD_LENGTH;
 ghost use mathlib.Core.Path.{_≡_};
-ghost use Prim.Native.Nat.{_≤_, _<_, _^_};
-ghost use Rattle.planfields.specs.Fields.{field};
-ghost use Rattle.planfields.specs.Answers.{fieldView, fieldValue, fieldRefusal, passedRefusal, ReadsNamed, ReadsEnd};
+ghost use Prim.Native.Nat.{_≤_};
+ghost use Rattle.fields.specs.Answers.{fieldRefusal, passedRefusal, ReadsField};
 
 // A value and the offset of the next field, or the refusal.
 pub enum Field {
@@ -40,10 +37,10 @@ pub fn passed_refusal(p: Passed) -> Refusal
     }
 }
 
-// A field of w bytes, highest byte first.
-pub(crate) fn read_field(file: &[u8], at: usize, w: usize) -> Field
+// A field of w bytes.
+fn read_field(file: &[u8], at: usize, w: usize) -> Field
     requires { ⌜ w ≤ 8 ⌝ }
-    ensures { λ r. ⌜ (fieldView r ≡ field w (now (file .entry)) at) × (fieldValue r < 256 ^ w) ⌝ }
+    ensures { λ r. ⌜ ReadsField w (now (file .entry)) at r ⌝ }
 {
     if file.len() < at {
         return Field::Refused(Refusal {
@@ -70,30 +67,26 @@ pub(crate) fn read_field(file: &[u8], at: usize, w: usize) -> Field
     Field::Value(value, at + w)
 }
 
-// The length byte of a record, which must be `length`, then its name.
-pub fn read_named(file: &[u8], at: usize, length: u64) -> Field
-    ensures { λ r. ⌜ ReadsNamed (now (file .entry)) at length r ⌝ }
+pub fn read_byte(file: &[u8], at: usize) -> Field
+    ensures { λ r. ⌜ ReadsField 1 (now (file .entry)) at r ⌝ }
 {
-    let long = read_field(file, at, 1);
-    let Field::Value(says, next) = long else {
-        return Field::Refused(field_refusal(long));
-    };
-    if says != length {
-        return Field::Refused(Refusal {
-            number: WRONG_RECORD_LENGTH,
-        });
-    }
-    read_field(file, next, Edition::NAME_BYTES)
+    read_field(file, at, 1)
 }
 
-// The end of the file: the offset must be the file's length.
-pub fn read_end(file: &[u8], at: usize) -> Passed
-    ensures { λ r. ⌜ ReadsEnd (now (file .entry)) at r ⌝ }
+pub fn read_two(file: &[u8], at: usize) -> Field
+    ensures { λ r. ⌜ ReadsField 2 (now (file .entry)) at r ⌝ }
 {
-    if at != file.len() {
-        return Passed::Refused(Refusal {
-            number: WRONG_EXTENT,
-        });
-    }
-    Passed::Next(at)
+    read_field(file, at, 2)
+}
+
+pub fn read_four(file: &[u8], at: usize) -> Field
+    ensures { λ r. ⌜ ReadsField 4 (now (file .entry)) at r ⌝ }
+{
+    read_field(file, at, 4)
+}
+
+pub fn read_eight(file: &[u8], at: usize) -> Field
+    ensures { λ r. ⌜ ReadsField 8 (now (file .entry)) at r ⌝ }
+{
+    read_field(file, at, 8)
 }

@@ -1,0 +1,5 @@
+pub mod ByteLaws
+pub mod ParserLaws
+pub mod OpeningLaws
+pub mod BytesAt
+pub mod RoundTripLaws
