@@ -29,8 +29,8 @@ use Rattle.hostmemory.specs.Memory.{planWords, runWords, locationWords, shortPl
 use Rattle.hostmemory.proofs.RoundTrip.{run-back}
 use Rattle.gateway.specs.Calls.{HostStartEffect, HostStepEffect, startWords, located, shortLocation, slotWords, endingNumber, startCall, stepCall, outcomeCall}
 use Rattle.gateway.proofs.Laws.{all-long}
-use Rattle.promises.specs.Night.{Call, runAfter, latest, isDone, had, Allowed, Kept}
-use Rattle.promises.specs.HostNight.{HostStart, HostStep, runWordsLeft, planStarted, HostNight, slotCall, nightOf, hostHad, Shown, HostKept}
+use Rattle.promises.specs.Night.{isDone, AllowedCall, runAfter, had, Allowed}
+use Rattle.promises.specs.HostNight.{HostStart, HostStep, HostCall, step, returned, MeetsContract, callOf, runWordsLeft, planStarted, HostAllowed, HostNight, nightOf, hostHad, CallShown, Shown, HostKept}
 use Rattle.promises.specs.Numbers.{isOneOf}
 use Rattle.promises.proofs.Cases.{tableOf, planE, tableE}
 use Rattle.promises.proofs.Strategy.{same-self}
@@ -180,29 +180,49 @@ unfolding started
 started-long p = length-replicate {A = ℕ} mostJobs 0
 
 -- The start of a host's night.
-start-of : (s : HostStart) (steps : List HostStep) → HostNight s steps → HostNight s []
+start-of : (s : HostStart) (calls : List HostCall) → HostNight s calls → HostNight s []
 unfolding HostNight
 start-of s [] h = h
 start-of s (c ∷ earlier) h = start-of s earlier (h .0)
 
 -- The latest words have good marks and encode the run after the night.
-shown-run : (s : HostStart) (steps : List HostStep) → Shown s steps → runOf (runWordsLeft s steps) ≡ runAfter (planStarted s) (nightOf steps)
-unfolding Shown
+shown-run : (s : HostStart) (calls : List HostCall) → Shown s calls → runOf (runWordsLeft s calls) ≡ runAfter (planStarted s) (nightOf calls)
+unfolding Shown runAfter
 shown-run s [] h = h .0
-shown-run s (c ∷ earlier) h = h .1
+shown-run s (c ∷ earlier) h = h .1 .run-left
 
-shown-marks : (s : HostStart) (steps : List HostStep) → Shown s steps → marksHold (runWordsLeft s steps) ≡ true
+shown-marks : (s : HostStart) (calls : List HostCall) → Shown s calls → marksHold (runWordsLeft s calls) ≡ true
 unfolding Shown
 shown-marks s [] h = h .1
-shown-marks s (c ∷ earlier) h = h .2
+shown-marks s (c ∷ earlier) h = h .1 .marks
 
 -- A number that counts under one test is that which counts under an equal one.
 on-same : (a b : Bool) {x y : ℕ} → a ≡ b → (b ≡ true → x ≡ y) → on a x ≡ on b y
 on-same a true e h = rw e (h refl)
 on-same a false e h = rw e refl
 
+-- A call on words with good marks is shown to the host as the night's call on the run that they
+-- encode.
+call-shown : (c : HostCall) (words : List ℕ) (run : Run) → marksHold words ≡ true → runOf words ≡ run → MeetsContract c words → CallShown c run
+call-shown (step c) words run marks was contract =
+    let so = step-shown (c .plan) (c .table) words (c .speed) (c .row) marks in
+    let done : eqb (c .number) doneNumber ≡ isDone (effect run .answer)
+    = ap (λ (x : HostStepEffect). eqb (x .number) doneNumber) contract ∙ so .number ∙ ap (λ r. isDone (effect r .answer)) was in
+    record {
+      run-left = ap (λ (x : HostStepEffect). runOf (x .run)) contract ∙ so .run ∙ ap (λ r. effect r .run) was;
+      marks = ap (λ (x : HostStepEffect). marksHold (x .run)) contract ∙ so .marks;
+      done = done;
+      gives = λ i.
+          on-same (eqb (c .number) doneNumber) (isDone (effect run .answer)) done
+          (λ e. ap (λ l. getD l i 0)
+          (ap (λ (x : HostStepEffect). x .grants) contract ∙ so .row (ap (λ r. isDone (effect r .answer)) was ∙ e) ∙ ap (λ r. effect r .grants) was));
+    }
+  where
+    effect : Run → SlotEffect
+    effect r = stepped (planOf (c .plan)) (c .table) r (c .speed) (c .row)
+
 -- Every host's night is shown to the host as the night that its words encode.
-pub night-shown : (s : HostStart) (steps : List HostStep) → HostNight s steps → Shown s steps
+pub night-shown : (s : HostStart) (calls : List HostCall) → HostNight s calls → Shown s calls
 unfolding HostNight Shown runAfter
 night-shown s [] h =
     let b = begun s h in
@@ -212,58 +232,40 @@ night-shown s [] h =
     )
 night-shown s (c ∷ earlier) h =
     let before = night-shown s earlier (h .0) in
-    let run = runWordsLeft s earlier in
-    let so = step-shown (c .plan) (c .table) run (c .speed) (c .row) (shown-marks s earlier before) in
-    let was = shown-run s earlier before in
-    let contract = h .1 in
-    let number = ap (λ (x : HostStepEffect). x .number) contract in
-    let left = ap (λ (x : HostStepEffect). x .run) contract in
-    let row = ap (λ (x : HostStepEffect). x .grants) contract in
-    let done : eqb (c .number) doneNumber ≡ isDone (latest (planStarted s) (slotCall c) (nightOf earlier) .answer)
-    = ap (λ n. eqb n doneNumber) number ∙ so .number ∙ ap answered was in (
-      before,
-      ap runOf left ∙ so .run ∙ ap (λ r. stepped (planOf (c .plan)) (c .table) r (c .speed) (c .row) .run) was,
-      ap marksHold left ∙ so .marks,
-      done,
-      λ i. on-same (eqb (c .number) doneNumber) (isDone (latest (planStarted s) (slotCall c) (nightOf earlier) .answer)) done
-          (λ e. ap (λ l. getD l i 0) (row ∙ so .row (ap answered was ∙ e) ∙ ap grantsOf was)),
-    )
-  where
-    -- The slot's call on a run: whether it is done, and its grants.
-    answered : Run → Bool
-    answered r = isDone (stepped (planOf (c .plan)) (c .table) r (c .speed) (c .row) .answer)
+    (before, call-shown c (runWordsLeft s earlier) (runAfter (planStarted s) (nightOf earlier)) (shown-marks s earlier before) (shown-run s earlier before) (h .1))
 
-    grantsOf : Run → List ℕ
-    grantsOf r = stepped (planOf (c .plan)) (c .table) r (c .speed) (c .row) .grants
+-- What is asked of a host's call is what is asked of the night's call that it is.
+call-allowed : (s : HostStart) (c : HostCall) → HostAllowed s c → AllowedCall (planStarted s) (s .table) (callOf c)
+call-allowed s (step c) w = w
 
 -- The night that the words encode is allowed.
-night-allowed : (s : HostStart) (steps : List HostStep) → HostNight s steps → Allowed (planStarted s) (s .table) (nightOf steps)
+night-allowed : (s : HostStart) (calls : List HostCall) → HostNight s calls → Allowed (planStarted s) (s .table) (nightOf calls)
 unfolding HostNight Allowed Shown
 night-allowed s [] h = tt
 night-allowed s (c ∷ earlier) h =
     let shown = night-shown s (c ∷ earlier) h in (
       night-allowed s earlier (h .0),
-      ⊎-elim (λ busy. inl (sym (shown .3) ∙ ne-eqb (c .number) doneNumber busy)) (λ w. inr (w .0, w .1, w .2)) (h .2),
+      ⊎-elim (λ busy. inl (sym (shown .1 .done) ∙ ne-eqb (returned c) doneNumber busy)) (λ w. inr (call-allowed s c w)) (h .2),
     )
 
 -- What a job has had by the rows is what it has had in the night.
-pub had-by-rows : (s : HostStart) (steps : List HostStep) → HostNight s steps → (i : ℕ) → hostHad steps i ≡ had (planStarted s) (nightOf steps) i
+pub had-by-rows : (s : HostStart) (calls : List HostCall) → HostNight s calls → (i : ℕ) → hostHad calls i ≡ had (planStarted s) (nightOf calls) i
 unfolding HostNight Shown hostHad had
 had-by-rows s [] h i = refl
-had-by-rows s (c ∷ earlier) h i = ap₂ _+_ (had-by-rows s earlier (h .0) i) (night-shown s (c ∷ earlier) h .4 i)
+had-by-rows s (c ∷ earlier) h i = ap₂ _+_ (had-by-rows s earlier (h .0) i) (night-shown s (c ∷ earlier) h .1 .gives i)
 
 -- Demand 3 for hosts: what is promised of a host's night holds.
-pub host-promise-kept : (s : HostStart) (steps : List HostStep) → HostNight s steps → HostKept s steps
-host-promise-kept s steps h =
-    let b = begun s (start-of s steps h) in
+pub host-promise-kept : (s : HostStart) (calls : List HostCall) → HostNight s calls → HostKept s calls
+host-promise-kept s calls h =
+    let b = begun s (start-of s calls h) in
     let p = planStarted s in
-    let shown = night-shown s steps h in
-    let allowed = night-allowed s steps h in
-    let kept = promise-kept p (s .table) (b .accepted) (nightOf steps) allowed in
-    let outcomes = outcomes-kept p (s .table) (b .accepted) (nightOf steps) allowed in
-    let run-is = shown-run s steps shown in
-    let endings : (i : ℕ) → outcomeCall (s .plan) (runWordsLeft s steps) i ≡ endingNumber (outcome p (runAfter p (nightOf steps)) i)
-    = λ i. good-marks-outcome (s .plan) (runWordsLeft s steps) i (shown-marks s steps shown)
+    let shown = night-shown s calls h in
+    let allowed = night-allowed s calls h in
+    let kept = promise-kept p (s .table) (b .accepted) (nightOf calls) allowed in
+    let outcomes = outcomes-kept p (s .table) (b .accepted) (nightOf calls) allowed in
+    let run-is = shown-run s calls shown in
+    let endings : (i : ℕ) → outcomeCall (s .plan) (runWordsLeft s calls) i ≡ endingNumber (outcome p (runAfter p (nightOf calls)) i)
+    = λ i. good-marks-outcome (s .plan) (runWordsLeft s calls) i (shown-marks s calls shown)
     ∙ rw (le-ltb (length (s .plan)) planWords (b .plan-long), run-is) refl in
     record {
       shown = shown;
@@ -272,10 +274,10 @@ host-promise-kept s steps h =
       endings = endings;
       essential = λ i k e come.
           let came = rw run-is at come in (
-            had-by-rows s steps h i ∙ kept .essential i k e came .0,
+            had-by-rows s calls h i ∙ kept .essential i k e came .0,
             endings i ∙ ap endingNumber (outcomes .essential-met i k e came),
           );
-      no-more = λ i k. rw (had-by-rows s steps h i) (kept .no-more i k);
+      no-more = λ i k. rw (had-by-rows s calls h i) (kept .no-more i k);
     }
 
 -- An instance: plan E is started in words that held sevens, a step at speed 3 is refused, one
@@ -340,7 +342,10 @@ rates-E = (refl, refl)
 start-meets : (x : HostStartEffect) → x .number ≡ doneNumber → record { number = doneNumber; run = x .run; location = x .location } ≡ x
 start-meets x e = λ t. record { number = sym e t; run = x .run; location = x .location }
 
-night-E : HostNight startE (slowE ∷ planlessE ∷ fastE ∷ [])
+abbrev callsE : List HostCall
+callsE = step slowE ∷ step planlessE ∷ step fastE ∷ []
+
+night-E : HostNight startE callsE
 unfolding HostNight
 night-E = (
   ((start-meets startedE start-E-done, refl, inl (λ e. absurd (omega (arith, fast-E-refused, e)))), refl, inl (λ e. absurd (omega (arith, planless-E-refused, e)))),
@@ -348,5 +353,5 @@ night-E = (
   inr (same-self (planOf planWordsE) tableE, omega (arith, rates-E), omega (arith, rates-E)),
 )
 
-kept-E : HostKept startE (slowE ∷ planlessE ∷ fastE ∷ [])
-kept-E = host-promise-kept startE (slowE ∷ planlessE ∷ fastE ∷ []) night-E
+kept-E : HostKept startE callsE
+kept-E = host-promise-kept startE callsE night-E

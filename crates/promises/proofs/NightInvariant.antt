@@ -24,13 +24,29 @@ use Rattle.dispatch.specs.Step.{started, slotFault, granted, advanced, slotBy, 
 use Rattle.base.proofs.Logic.{if-true, neither}
 use Rattle.base.proofs.Choice.{on-zero}
 use Rattle.dispatch.proofs.RowShares.{added-length}
-use Rattle.promises.specs.Night.{Call, runAfter, latest, isDone, clockAt, given, had, hadInWindow, isSlow, slowed, slowedBefore, hadSinceSlow, Allowed, WithinSpeeds, Kept}
+use Rattle.promises.specs.Night.{SlotCall, Call, slot, isDone, slotEffect, answerOf, runLeft, given, isSlow, AllowedCall, runAfter, clockAt, had, hadInWindow, slowed, slowedBefore, hadSinceSlow, Allowed, WithinSpeeds, Kept}
 use Rattle.promises.proofs.FloorTail.{Good}
 use Rattle.promises.proofs.SlotInvariants
 use Rattle.promises.proofs.SlotInvariants.{NoMore, FloorHolds, OnPace, keeps-no-more, keeps-floor, keeps-pace, on-pace-here, on-pace-ended, floor-ended, begins-with-floor, begins-on-pace}
 use Rattle.plan.proofs.Soundness.{Bounded}
 use Rattle.promises.proofs.SameSlot.{done, same-slot}
 use Rattle.promises.proofs.CallAsSlot.{factsOf, stateOf, good-plan, slot-of}
+
+-- A refused call leaves the run as it was, gives nothing, and is no slow slot.
+pub refused-keeps : (c : Call) (run : Run) → isDone (answerOf c run) ≡ false → runLeft c run ≡ run
+unfolding stepped
+refused-keeps (slot c) run e = go (slotFault (c .plan) (c .table) run (c .speed) (c .row)) e
+  where
+    go : (r : Report) → isDone (slotBy r (c .plan) (c .table) run (c .speed) (c .row) .answer) ≡ false
+        → slotBy r (c .plan) (c .table) run (c .speed) (c .row) .run ≡ run
+    go [] e′ = absurd (true≢false e′)
+    go (number ∷ rest) e′ = refl
+
+refused-gives-none : (c : Call) (run : Run) → isDone (answerOf c run) ≡ false → (i : ℕ) → given c run i ≡ 0
+refused-gives-none (slot c) run e i = rw e refl
+
+refused-not-slow : (p : Plan) (c : Call) (run : Run) → isDone (answerOf c run) ≡ false → isSlow p c run ≡ false
+refused-not-slow p (slot c) run e = rw e refl
 
 module _ (p : Plan) (table : List ℕ) (rules : Bounded p) (allotted : Allotted p table) where
   good : Good (factsOf p table)
@@ -68,36 +84,26 @@ module _ (p : Plan) (table : List ℕ) (rules : Bounded p) (allotted : Allotted 
         speeds = tt;
       }
 
-  -- A refused call leaves the run as it was.
-  refused-keeps : (c : Call) (earlier : List Call) → isDone (latest p c earlier .answer) ≡ false → latest p c earlier .run ≡ runAfter p earlier
-  unfolding stepped
-  refused-keeps c earlier e = go (slotFault (c .plan) (c .table) (runAfter p earlier) (c .speed) (c .row)) e
-    where
-      go : (r : Report) → isDone (slotBy r (c .plan) (c .table) (runAfter p earlier) (c .speed) (c .row) .answer) ≡ false
-          → slotBy r (c .plan) (c .table) (runAfter p earlier) (c .speed) (c .row) .run ≡ runAfter p earlier
-      go [] e′ = absurd (true≢false e′)
-      go (number ∷ rest) e′ = refl
-
   -- A refused call preserves the invariant.
-  holds-refused : (c : Call) (earlier : List Call) → isDone (latest p c earlier .answer) ≡ false → Holds earlier → Holds (c ∷ earlier)
+  holds-refused : (c : Call) (earlier : List Call) → isDone (answerOf c (runAfter p earlier)) ≡ false → Holds earlier → Holds (c ∷ earlier)
   unfolding runAfter had hadInWindow slowed slowedBefore hadSinceSlow WithinSpeeds
   holds-refused c earlier e h =
-      let run-is = refused-keeps c earlier e in
-      let nothing : (i : ℕ) → given p c earlier i ≡ 0 = λ i. rw e refl in
+      let run-is = refused-keeps c (runAfter p earlier) e in
+      let nothing = refused-gives-none c (runAfter p earlier) e in
       record {
         long = rw run-is (h .long);
         counts = λ i k. rw (run-is, nothing i) (omega (arith, h .counts i k));
         in-window = λ i k. rw (nothing i, on-zero (inItsWindow p (clockAt p earlier) i)) (omega (arith, h .in-window i k));
         no-more = rw run-is (h .no-more);
         pace = rw run-is (h .pace);
-        mark = rw (run-is, e, or-false (slowed p earlier)) (h .mark);
+        mark = rw (run-is, refused-not-slow p c (runAfter p earlier) e, or-false (slowed p earlier)) (h .mark);
         in-time = λ i k s b. rw run-is (h .in-time i k (rw run-is at s) (neither (slowedBefore p (deadline p i) earlier) _ b .0));
         discards = λ i k l. rw (nothing i, on-zero (slowed p (c ∷ earlier))) (omega (arith, h .discards i k l));
-        speeds = (h .speeds, omega (arith, sum-none (given p c earlier) (counted p) (λ i k. nothing i)));
+        speeds = (h .speeds, omega (arith, sum-none (given c (runAfter p earlier)) (counted p) (λ i k. nothing i)));
       }
 
-  module _ (c : Call) (earlier : List Call) (h : Holds earlier)
-      (is : latest p c earlier ≡ stepped p table (runAfter p earlier) (c .speed) (c .row))
+  module _ (c : SlotCall) (earlier : List Call) (h : Holds earlier)
+      (is : slotEffect c (runAfter p earlier) ≡ stepped p table (runAfter p earlier) (c .speed) (c .row))
       (clear : slotFault p table (runAfter p earlier) (c .speed) (c .row) ≡ []) where
     abbrev was : Run
     was = runAfter p earlier
@@ -112,41 +118,41 @@ module _ (p : Plan) (table : List ℕ) (rules : Bounded p) (allotted : Allotted 
     here = present p (was .clock .0)
 
     -- A done call leaves the advanced run and the slot's grants.
-    leaves : latest p c earlier ≡ record { answer = []; run = next; grants = granted p table was (c .speed) (c .row) }
+    leaves : slotEffect c was ≡ record { answer = []; run = next; grants = granted p table was (c .speed) (c .row) }
     unfolding stepped
     leaves = is ∙ ap (λ r. slotBy r p table was (c .speed) (c .row)) clear
 
-    answer-is : isDone (latest p c earlier .answer) ≡ true
+    answer-is : isDone (slotEffect c was .answer) ≡ true
     answer-is = ap (λ s. isDone (s .answer)) leaves
 
-    run-is : latest p c earlier .run ≡ next
+    run-is : slotEffect c was .run ≡ next
     run-is = ap (λ s. s .run) leaves
 
-    given-is : (i : ℕ) → given p c earlier i ≡ grant i
+    given-is : (i : ℕ) → given (slot c) was i ≡ grant i
     given-is i = rw answer-is (ap (λ s. getD (s .grants) i 0) leaves)
 
-    slot : SlotInvariants.Slot (factsOf p table) (stateOf was) (stateOf next) here (c .speed) grant
-    slot = slot-of p table was (c .speed) (c .row) (done p table was (c .speed) (c .row) clear) (h .long)
+    served : SlotInvariants.Slot (factsOf p table) (stateOf was) (stateOf next) here (c .speed) grant
+    served = slot-of p table was (c .speed) (c .row) (done p table was (c .speed) (c .row) clear) (h .long)
 
     -- A job that is not in its window gets nothing, nor does a LO job under the slow mark.
     not-in-window : (i : ℕ) → i < counted p → inItsWindow p (was .clock .0) i ≡ false → grant i ≡ 0
-    not-in-window i k e = nothing (rw e at (slot .within i k))
+    not-in-window i k e = nothing (rw e at (served .within i k))
       where
         nothing : grant i ≤ 0 → grant i ≡ 0
         nothing m = omega arith
 
     not-hi : (i : ℕ) → i < counted p → isHi p i ≡ false → next .slow ≡ true → grant i ≡ 0
-    not-hi i k l s = nothing (rw (l, s, and-false (inItsWindow p (was .clock .0) i)) at (slot .within i k))
+    not-hi i k l s = nothing (rw (l, s, and-false (inItsWindow p (was .clock .0) i)) at (served .within i k))
       where
         nothing : grant i ≤ 0 → grant i ≡ 0
         nothing m = omega arith
 
     after-no-more : NoMore (factsOf p table) (stateOf next)
-    after-no-more = keeps-no-more (factsOf p table) (stateOf was) (stateOf next) here (c .speed) grant slot (h .no-more)
+    after-no-more = keeps-no-more (factsOf p table) (stateOf was) (stateOf next) here (c .speed) grant served (h .no-more)
 
     -- A job that had its size still has it.
     stays : (i : ℕ) → i < counted p → carriedOf was i ≡ size p i → carriedOf next i ≡ size p i
-    stays i k e = omega (arith, slot .adds i k, after-no-more i k)
+    stays i k e = omega (arith, served .adds i k, after-no-more i k)
 
     -- If no slot was slow, a job whose deadline the clock has reached has its size.
     clear-ended : was .slow ≡ false → (i : ℕ) → i < counted p → deadline p i ≤ was .clock .0 → carriedOf was i ≡ size p i
@@ -162,12 +168,12 @@ module _ (p : Plan) (table : List ℕ) (rules : Bounded p) (allotted : Allotted 
         (λ e. let slow-now : ltb (c .speed) (p .n .0) ≡ true = rw e at s in
         stays i k (clear-ended e i k (ltb-false (was .clock .0) (deadline p i) (rw slow-now at now))))
 
-    holds-done : Holds (c ∷ earlier)
+    holds-done : Holds (slot c ∷ earlier)
     unfolding runAfter advanced had hadInWindow slowed slowedBefore hadSinceSlow WithinSpeeds
     holds-done =
         record {
           long = rw run-is (added-length (counted p) (was .carried) (granted p table was (c .speed) (c .row)) ∙ h .long);
-          counts = λ i k. rw (run-is, given-is i) (omega (arith, slot .adds i k, h .counts i k));
+          counts = λ i k. rw (run-is, given-is i) (omega (arith, served .adds i k, h .counts i k));
           in-window = λ i k.
               if-true (inItsWindow p (was .clock .0) i)
               (λ e. rw e (omega (arith, h .in-window i k)))
@@ -179,50 +185,50 @@ module _ (p : Plan) (table : List ℕ) (rules : Bounded p) (allotted : Allotted 
               let e = neither (slowedBefore p (deadline p i) earlier) _ b in
               rw run-is (still-in-time i k (rw run-is at s) (e .0) (rw answer-is at (e .1)));
           discards = λ i k l. late-none i k l;
-          speeds = (h .speeds, rw (sum-ext _ _ (counted p) (λ i k. given-is i), slot .all) (omega arith));
+          speeds = (h .speeds, rw (sum-ext _ _ (counted p) (λ i k. given-is i), served .all) (omega arith));
         }
       where
         paced : next .slow ≡ false → (l : ℕ) × OnPace (factsOf p table) (stateOf next) l
         paced e =
             let w = h .pace (neither (was .slow) (ltb (c .speed) (p .n .0)) e .0) in (
               here,
-              keeps-pace (factsOf p table) good (stateOf was) (stateOf next) here (c .speed) grant slot
-                  (on-pace-here (factsOf p table) good (stateOf was) (w .0) here (w .1) (slot .inside .0) (slot .inside .1) (slot .inside .2)) e,
+              keeps-pace (factsOf p table) good (stateOf was) (stateOf next) here (c .speed) grant served
+                  (on-pace-here (factsOf p table) good (stateOf was) (w .0) here (w .1) (served .inside .0) (served .inside .1) (served .inside .2)) e,
             )
 
         late-none : (i : ℕ) → i < counted p → isHi p i ≡ false
-            → hadSinceSlow p earlier i + on (slowed p earlier || isSlow p c earlier) (given p c earlier i) ≡ 0
+            → hadSinceSlow p earlier i + on (slowed p earlier || isSlow p (slot c) was) (given (slot c) was i) ≡ 0
         late-none i k l =
             if-true (next .slow)
-            (λ s. rw (given-is i, not-hi i k l s, on-zero (slowed p earlier || isSlow p c earlier)) (omega (arith, h .discards i k l)))
+            (λ s. rw (given-is i, not-hi i k l s, on-zero (slowed p earlier || isSlow p (slot c) was)) (omega (arith, h .discards i k l)))
             (λ s. rw (answer-is, ← (h .mark), s) (omega (arith, h .discards i k l)))
 
-  -- A call is refused, or it is a slot of plan p at a speed of at least d.
-  by-call : {A : Type 0} (c : Call) (earlier : List Call) → Allowed p table (c ∷ earlier) → (isDone (latest p c earlier .answer) ≡ false → A)
-      → (p .d .0 ≤ c .speed → latest p c earlier ≡ stepped p table (runAfter p earlier) (c .speed) (c .row)
-      → slotFault p table (runAfter p earlier) (c .speed) (c .row) ≡ [] → A)
+  -- An allowed slot's call is refused, or it is a slot of plan p at a speed of at least d.
+  by-slot : {A : Type 0} (c : SlotCall) (run : Run) → AllowedCall p table (slot c) → (isDone (slotEffect c run .answer) ≡ false → A)
+      → (p .d .0 ≤ c .speed → slotEffect c run ≡ stepped p table run (c .speed) (c .row) → slotFault p table run (c .speed) (c .row) ≡ [] → A)
       → A
-  unfolding Allowed stepped
-  by-call {A} c earlier a left done-slot =
-      ⊎-elim left
-      (λ w. unchanged (sym (same-slot p table (c .plan) (c .table) (w .0) (runAfter p earlier) (c .speed) (c .row))) (w .1))
-      (a .1)
+  unfolding stepped
+  by-slot {A} c run w left done-slot = go (slotFault p table run (c .speed) (c .row)) refl
     where
-      unchanged : latest p c earlier ≡ stepped p table (runAfter p earlier) (c .speed) (c .row) → p .d .0 ≤ c .speed → A
-      unchanged is f = go (slotFault p table (runAfter p earlier) (c .speed) (c .row)) refl
-        where
-          go : (r : Report) → slotFault p table (runAfter p earlier) (c .speed) (c .row) ≡ r → A
-          go [] e = done-slot f is e
-          go (number ∷ rest) e = left (ap (λ s. isDone (s .answer)) (is ∙ ap (λ r. slotBy r p table (runAfter p earlier) (c .speed) (c .row)) e))
+      is : slotEffect c run ≡ stepped p table run (c .speed) (c .row)
+      is = sym (same-slot p table (c .plan) (c .table) (w .0) run (c .speed) (c .row))
+
+      go : (r : Report) → slotFault p table run (c .speed) (c .row) ≡ r → A
+      go [] e = done-slot (w .1) is e
+      go (number ∷ rest) e = left (ap (λ s. isDone (s .answer)) (is ∙ ap (λ r. slotBy r p table run (c .speed) (c .row)) e))
+
+  -- An allowed call preserves the invariant.
+  holds-allowed : (c : Call) (earlier : List Call) → AllowedCall p table c → Holds earlier → Holds (c ∷ earlier)
+  holds-allowed (slot c) earlier w h =
+      by-slot c (runAfter p earlier) w (λ e. holds-refused (slot c) earlier e h) (λ f is e. holds-done c earlier h is e)
 
   -- The invariant holds at every point of a night.
   holds : (night : List Call) → Allowed p table night → Holds night
   unfolding Allowed
   holds [] a = begins
   holds (c ∷ earlier) a =
-      by-call c earlier a
-      (λ e. holds-refused c earlier e (holds earlier (a .0)))
-      (λ f is e. holds-done c earlier (holds earlier (a .0)) is e)
+      let h = holds earlier (a .0) in
+      ⊎-elim (λ e. holds-refused c earlier e h) (λ w. holds-allowed c earlier w h) (a .1)
 
   -- What the run carries for a job is what the job has had: the sum of its grants.
   pub carried-is-had : (night : List Call) → Allowed p table night → (i : ℕ) → i < counted p → carriedOf (runAfter p night) i ≡ had p night i
@@ -241,20 +247,33 @@ module _ (p : Plan) (table : List ℕ) (rules : Bounded p) (allotted : Allotted 
       (λ s. let w = h .pace s in on-pace-ended (factsOf p table) good (stateOf (runAfter p night)) (w .0) (w .1) (h .no-more) i k o)
 
   module _ (floor-rule : FloorRule p table) where
+    -- The floor guarantee of a run.
+    abbrev FloorAt : Run → Type 0
+    FloorAt run = FloorHolds (factsOf p table) (stateOf run)
+
+    -- An allowed call preserves the floor guarantee.
+    floor-allowed : (c : Call) (earlier : List Call) → AllowedCall p table c → Holds earlier → FloorAt (runAfter p earlier)
+        → FloorAt (runLeft c (runAfter p earlier))
+    floor-allowed (slot c) earlier w h before =
+        by-slot c (runAfter p earlier) w
+        (λ e. rw (refused-keeps (slot c) (runAfter p earlier) e) before)
+        (λ f is e.
+        rw (run-is c earlier h is e)
+        (keeps-floor (factsOf p table) good (stateOf (runAfter p earlier)) (stateOf (next c earlier h is e)) (here c earlier h is e) (c .speed)
+        (grant c earlier h is e) (served c earlier h is e) floor-rule f (h .no-more) before))
+
     -- The floor guarantee holds at every point of a night.
-    floor-holds : (night : List Call) → Allowed p table night → FloorHolds (factsOf p table) (stateOf (runAfter p night))
+    floor-holds : (night : List Call) → Allowed p table night → FloorAt (runAfter p night)
     unfolding runAfter started Allowed
     floor-holds [] a =
         begins-with-floor (factsOf p table) good (stateOf (started p)) floor-rule (sym (first-boundary p (rules .some) (rules .windows)))
         (λ i h. getD-replicate mostJobs i 0 0 (omega (arith, rules .few)))
     floor-holds (c ∷ earlier) a =
-        by-call c earlier a
-        (λ e. rw (refused-keeps c earlier e) (floor-holds earlier (a .0)))
-        (λ f is e.
-        let h = holds earlier (a .0) in
-        rw (run-is c earlier h is e)
-        (keeps-floor (factsOf p table) good (stateOf (runAfter p earlier)) (stateOf (next c earlier h is e)) (here c earlier h is e) (c .speed)
-        (grant c earlier h is e) (slot c earlier h is e) floor-rule f (h .no-more) (floor-holds earlier (a .0))))
+        let before = floor-holds earlier (a .0) in
+        ⊎-elim
+        (λ e. rw (refused-keeps c (runAfter p earlier) e) before)
+        (λ w. floor-allowed c earlier w (holds earlier (a .0)) before)
+        (a .1)
 
     pub kept : (night : List Call) → Allowed p table night → Kept p night
     kept night a =

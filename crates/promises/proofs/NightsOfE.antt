@@ -14,7 +14,7 @@ use Rattle.plan.specs.declared.kinds.Plan.{Plan}
 use Rattle.plan.specs.Report.{Report}
 use Rattle.dispatch.specs.Order
 use Rattle.dispatch.specs.Step.{met, discarded, started, slotSound, slotFault, granted, added, advanced, stepped, outcome}
-use Rattle.promises.specs.Night.{Call, runAfter, latest, clockAt, had, hadInWindow, Allowed, Regular, HasRegular, none-yet, then-refused, then-regular, Kept, OutcomesKept, nightAt}
+use Rattle.promises.specs.Night.{SlotCall, Call, slot, answerOf, runAfter, clockAt, had, hadInWindow, Allowed, Regular, HasRegular, none-yet, then-refused, then-regular, Kept, OutcomesKept, nightAt}
 use Rattle.promises.proofs.Cases.{tableOf, planE, tableE}
 use Rattle.promises.proofs.Demand2.{accepted-E}
 use Rattle.promises.proofs.Demand3.{promise-kept, enough-calls-meet}
@@ -26,26 +26,32 @@ use Rattle.promises.proofs.Strategy.{same-self, night-allowed}
 -- The answers of a night's calls, the latest first.
 abbrev answers : Plan → List Call → List Report
 answers p [] = []
-answers p (c ∷ earlier) = latest p c earlier .answer ∷ answers p earlier
+answers p (c ∷ earlier) = answerOf c (runAfter p earlier) ∷ answers p earlier
 
--- A call with plan E at a speed.
+-- A slot's call with plan E at a speed.
+abbrev slotE : ℕ → SlotCall
+slotE v = record { plan = planE; table = tableE; speed = v; row = 0 ∷ 0 ∷ [] }
+
 abbrev callE : ℕ → Call
-callE v = record { plan = planE; table = tableE; speed = v; row = 0 ∷ 0 ∷ [] }
+callE v = slot (slotE v)
 
 -- Calls that are refused: an unsound plan, no room for grants, a table that is too short, a speed
 -- above the normal rate.
 abbrev unsoundCall : Call
-unsoundCall = record { plan = noPlan; table = tableE; speed = 1; row = 0 ∷ 0 ∷ [] }
+unsoundCall = slot (record { plan = noPlan; table = tableE; speed = 1; row = 0 ∷ 0 ∷ [] })
 
 abbrev withoutRoom : Call
-withoutRoom = record { plan = planE; table = tableE; speed = 1; row = 0 ∷ [] }
+withoutRoom = slot (record { plan = planE; table = tableE; speed = 1; row = 0 ∷ [] })
 
 abbrev withoutTable : Call
-withoutTable = record { plan = planE; table = []; speed = 1; row = 0 ∷ 0 ∷ [] }
+withoutTable = slot (record { plan = planE; table = []; speed = 1; row = 0 ∷ 0 ∷ [] })
 
 -- Plan E as another host holds it, at a speed.
+abbrev elseSlot : ℕ → SlotCall
+elseSlot v = record { plan = elseE; table = elseTable; speed = v; row = 7 ∷ 7 ∷ 7 ∷ [] }
+
 abbrev elseCall : ℕ → Call
-elseCall v = record { plan = elseE; table = elseTable; speed = v; row = 7 ∷ 7 ∷ 7 ∷ [] }
+elseCall v = slot (elseSlot v)
 
 -- Ten slots of plan E, at speeds 2 2 2 and then 1, with six refused calls before and between them;
 -- two of the slots come from another host. The latest is first.
@@ -62,10 +68,10 @@ unfolding tableOf sum Below.every Below.least Below.greatest gradesHold boundsHo
 interrupted-answers = refl
 
 -- A call with plan E, or with that of the other host, is regular at speeds from floor to normal.
-mine : (v : ℕ) → 1 ≤ v → v ≤ 2 → Regular planE tableE (callE v)
+mine : (v : ℕ) → 1 ≤ v → v ≤ 2 → Regular planE tableE (slotE v)
 mine v floor normal = record { same = same-self planE tableE; floor = floor; normal = normal; room = lit≤ tt }
 
-theirs : (v : ℕ) → 1 ≤ v → v ≤ 2 → Regular planE tableE (elseCall v)
+theirs : (v : ℕ) → 1 ≤ v → v ≤ 2 → Regular planE tableE (elseSlot v)
 theirs v floor normal = record { same = same-E; floor = floor; normal = normal; room = lit≤ tt }
 
 -- Ten of its calls are regular.
@@ -73,12 +79,12 @@ pub interrupted-regular : HasRegular planE tableE 10 interrupted
 unfolding tableOf sum Below.every Below.least Below.greatest gradesHold boundsHold insert boundariesTo come runAfter started slotSound slotFault granted Order.order Order.queue Order.enqueue Order.serve added advanced stepped
 interrupted-regular =
     then-regular (mine 1 (lit≤ tt) (lit≤ tt)) (then-regular (mine 1 (lit≤ tt) (lit≤ tt)) (
-    then-regular (mine 1 (lit≤ tt) (lit≤ tt)) (then-refused refl (
+    then-regular (mine 1 (lit≤ tt) (lit≤ tt)) (then-refused {c = withoutTable} refl (
     then-regular (theirs 1 (lit≤ tt) (lit≤ tt)) (then-regular (mine 1 (lit≤ tt) (lit≤ tt)) (
-    then-regular (mine 1 (lit≤ tt) (lit≤ tt)) (then-refused refl (then-refused refl (
+    then-regular (mine 1 (lit≤ tt) (lit≤ tt)) (then-refused {c = withoutRoom} refl (then-refused {c = unsoundCall} refl (
     then-regular (mine 1 (lit≤ tt) (lit≤ tt)) (then-regular (mine 2 (lit≤ tt) (lit≤ tt)) (
-    then-refused refl (then-regular (theirs 2 (lit≤ tt) (lit≤ tt)) (then-refused refl (
-    then-regular (mine 2 (lit≤ tt) (lit≤ tt)) (then-refused refl (none-yet))))))))))))))))
+    then-refused {c = callE 3} refl (then-regular (theirs 2 (lit≤ tt) (lit≤ tt)) (then-refused {c = unsoundCall} refl (
+    then-regular (mine 2 (lit≤ tt) (lit≤ tt)) (then-refused {c = callE 3} refl (none-yet))))))))))))))))
 
 -- So the night is allowed, and `mirror-A` has had its eight units inside its window.
 pub interrupted-allowed : Allowed planE tableE interrupted

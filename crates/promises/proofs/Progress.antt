@@ -22,10 +22,10 @@ use Rattle.plan.specs.Report.{Report}
 use Rattle.dispatch.specs.declared.Run.{Run}
 use Rattle.dispatch.specs.Dues.{carriedOf}
 use Rattle.dispatch.specs.Step.{started, slotSound, slotFault, advanced, slotBy, stepped}
-use Rattle.promises.specs.Night.{Call, runAfter, latest, isDone, clockAt, Allowed, Regular, HasRegular, none-yet, then-refused, then-regular, slots, nightAt, Between}
+use Rattle.promises.specs.Night.{SlotCall, Call, slot, isDone, slotEffect, answerOf, runLeft, isSlot, AllowedCall, runAfter, clockAt, Allowed, Regular, HasRegular, none-yet, then-refused, then-regular, slots, nightAt, Between}
 use Rattle.plan.proofs.Soundness.{Bounded, sound-bounded}
 use Rattle.promises.proofs.SameSlot.{done, same-slot, last-same}
-use Rattle.promises.proofs.NightInvariant.{carried-is-had, kept}
+use Rattle.promises.proofs.NightInvariant.{refused-keeps, carried-is-had, kept}
 use Rattle.promises.proofs.Demand2.{judge-is-exact}
 use Rattle.promises.proofs.Strategy.{same-self}
 
@@ -38,13 +38,14 @@ answer-is-fault p table run v row = go (slotFault p table run v row)
     go [] = refl
     go (number ∷ rest) = refl
 
--- A done call moves the clock by one slot, and a refused one leaves it.
-pub clock-moves : (p : Plan) (table : List ℕ) (run : Run) (v : ℕ) (row : List ℕ)
-    → stepped p table run v row .run .clock .0 ≡ run .clock .0 + on (isDone (stepped p table run v row .answer)) 1
+-- A slot moves the clock by one, and every other call leaves it.
+pub clock-moves : (c : Call) (run : Run) → runLeft c run .clock .0 ≡ run .clock .0 + on (isSlot c run) 1
 unfolding stepped advanced
-clock-moves p table run v row = go (slotFault p table run v row)
+clock-moves (slot c) run = go (slotFault (c .plan) (c .table) run (c .speed) (c .row))
   where
-    go : (r : Report) → slotBy r p table run v row .run .clock .0 ≡ run .clock .0 + on (isDone (slotBy r p table run v row .answer)) 1
+    go : (r : Report)
+        → slotBy r (c .plan) (c .table) run (c .speed) (c .row) .run .clock .0
+        ≡ run .clock .0 + on (isDone (slotBy r (c .plan) (c .table) run (c .speed) (c .row) .answer)) 1
     go [] = refl
     go (number ∷ rest) = omega arith
 
@@ -56,8 +57,7 @@ done-empty (number ∷ rest) e = absurd (true≢false (sym e))
 pub clock-counts-slots : (p : Plan) (night : List Call) → clockAt p night ≡ firstRelease p + slots p night
 unfolding runAfter started slots
 clock-counts-slots p [] = omega arith
-clock-counts-slots p (c ∷ earlier) =
-    omega (arith, clock-counts-slots p earlier, clock-moves (c .plan) (c .table) (runAfter p earlier) (c .speed) (c .row))
+clock-counts-slots p (c ∷ earlier) = omega (arith, clock-counts-slots p earlier, clock-moves c (runAfter p earlier))
 
 module _ (p : Plan) (table : List ℕ) (accepted : judged p table ≡ []) where
   rules : Bounded p
@@ -85,23 +85,26 @@ module _ (p : Plan) (table : List ℕ) (accepted : judged p table ≡ []) where
         greatest-upper (deadline p) (counted p) 0 (rules .some),
       )
 
+  -- An allowed call does not move the clock past the last deadline.
+  call-not-past : (c : Call) (run : Run) → AllowedCall p table c → run .clock .0 ≤ lastDeadline p → runLeft c run .clock .0 ≤ lastDeadline p
+  call-not-past (slot c) run w before =
+      let moves = clock-moves (slot c) run in
+      if-true (isDone (slotEffect c run .answer))
+      (λ e.
+      let fault-free = sym (answer-is-fault (c .plan) (c .table) run (c .speed) (c .row)) ∙ done-empty _ e in
+      omega (arith, done (c .plan) (c .table) run (c .speed) (c .row) fault-free .before-end, rw e at moves, last-same p table (c .plan) (c .table) (w .0)))
+      (λ e. omega (arith, rw e at moves, before))
+
   -- The clock of an allowed night is never past the last deadline.
   pub clock-not-past : (night : List Call) → Allowed p table night → clockAt p night ≤ lastDeadline p
   unfolding runAfter started Allowed
   clock-not-past [] a = first-to-last
   clock-not-past (c ∷ earlier) a =
-      if-true (isDone (latest p c earlier .answer))
-      (λ e. ⊎-elim
-      (λ refused. absurd (true≢false (sym e ∙ refused)))
-      (λ w.
-      let before = done (c .plan) (c .table) (runAfter p earlier) (c .speed) (c .row)
-      (sym (answer-is-fault (c .plan) (c .table) (runAfter p earlier) (c .speed) (c .row)) ∙ done-empty _ e) .before-end in
-      let moves = clock-moves (c .plan) (c .table) (runAfter p earlier) (c .speed) (c .row) in
-      omega (arith, before, rw e at moves, last-same p table (c .plan) (c .table) (w .0)))
-      (a .1))
-      (λ e.
-      let moves = clock-moves (c .plan) (c .table) (runAfter p earlier) (c .speed) (c .row) in
-      omega (arith, rw e at moves, clock-not-past earlier (a .0)))
+      let before = clock-not-past earlier (a .0) in
+      ⊎-elim
+      (λ e. rw (refused-keeps c (runAfter p earlier) e, clockAt) before)
+      (λ w. call-not-past c (runAfter p earlier) w before)
+      (a .1)
 
   -- The run of an allowed night is sound for a slot.
   pub sound-after : (night : List Call) → Allowed p table night → slotSound p (runAfter p night) ≡ true
@@ -133,8 +136,8 @@ module _ (p : Plan) (table : List ℕ) (accepted : judged p table ≡ []) where
 
   -- In an allowed night a call with the accepted plan and table, or the same ones, a speed of at
   -- most n and a place for each job's grant is not refused before the last deadline.
-  pub never-refused : (night : List Call) → Allowed p table night → (c : Call) → Same p table (c .plan) (c .table)
-      → c .speed ≤ p .n .0 → counted p ≤ length (c .row) → clockAt p night < lastDeadline p → latest p c night .answer ≡ []
+  pub never-refused : (night : List Call) → Allowed p table night → (c : SlotCall) → Same p table (c .plan) (c .table)
+      → c .speed ≤ p .n .0 → counted p ≤ length (c .row) → clockAt p night < lastDeadline p → answerOf (slot c) (runAfter p night) ≡ []
   never-refused night a c same normal room early =
       ap (λ s. s .answer) (sym (same-slot p table (c .plan) (c .table) same (runAfter p night) (c .speed) (c .row)))
       ∙ answer-is-fault p table (runAfter p night) (c .speed) (c .row)
@@ -154,17 +157,16 @@ module _ (p : Plan) (table : List ℕ) (accepted : judged p table ≡ []) where
   unfolding runAfter started Allowed
   clock-after-regular k night none-yet = omega (arith, first-to-last)
   clock-after-regular k night (then-refused {k = m} {c = c} {earlier = earlier} e h) =
-      let moves = clock-moves (c .plan) (c .table) (runAfter p earlier) (c .speed) (c .row) in
-      omega (arith, rw e at moves, clock-after-regular m earlier h)
+      rw (refused-keeps c (runAfter p earlier) e, clockAt) (clock-after-regular m earlier h)
   clock-after-regular k night (then-regular {k = m} {c = c} {earlier = earlier} r h) =
       let allowed = regular-allowed m earlier h in
       let so-far = clock-after-regular m earlier h in
-      let moves = clock-moves (c .plan) (c .table) (runAfter p earlier) (c .speed) (c .row) in
+      let moves = clock-moves (slot c) (runAfter p earlier) in
       if-less (clockAt p earlier) (lastDeadline p)
       (λ early.
       let answer = never-refused earlier allowed c (r .same) (r .normal) (r .room) early in
       omega (arith, so-far, rw answer at moves))
-      (λ late. omega (arith, so-far, moves, late, clock-not-past (c ∷ earlier) (allowed, inr (r .same, r .floor, r .normal))))
+      (λ late. omega (arith, so-far, moves, late, clock-not-past (slot c ∷ earlier) (allowed, inr (r .same, r .floor, r .normal))))
 
   -- Hence such a night has reached a job's deadline once k slots reach from the first release to it.
   pub deadline-reached : (k : ℕ) (night : List Call) → HasRegular p table k night → (i : ℕ) → i < counted p

@@ -16,19 +16,22 @@ use Rattle.plan.specs.declared.kinds.Plan.{Plan}
 use Rattle.judge.specs.Verdict.{judged}
 use Rattle.dispatch.specs.Order
 use Rattle.dispatch.specs.Step.{started, slotSound, slotFault, granted, added, advanced, stepped}
-use Rattle.promises.specs.Night.{Call, runAfter, latest, isDone, clockAt, had, isSlow, Allowed, Kept, nightAt}
+use Rattle.promises.specs.Night.{Call, slot, isDone, answerOf, isSlow, runAfter, clockAt, had, Allowed, Kept, nightAt}
 use Rattle.promises.proofs.Cases.{planWith, tableOf, planE, tableE, P9}
 use Rattle.promises.proofs.Demand2.{accepted-E}
 use Rattle.promises.proofs.Demand3.{accepted-P9}
 use Rattle.promises.proofs.Strategy.{same-self, night-allowed}
 
--- `Allowed` with any speed up to the normal rate in the place of one from the floor on.
+-- `AllowedCall` and `Allowed` with any speed up to the normal rate in the place of one from the
+-- floor on.
+abbrev pub CallFromZero : Plan → List ℕ → Call → Type 0
+CallFromZero p table (slot c) = Same p table (c .plan) (c .table) × (0 ≤ c .speed) × (c .speed ≤ p .n .0)
+
 unfoldable pub AllowedFromZero : Plan → List ℕ → List Call → Type 0
 AllowedFromZero p table [] = Unit {0}
 AllowedFromZero p table (c ∷ earlier) =
     AllowedFromZero p table earlier
-    × ((isDone (latest p c earlier .answer) ≡ false)
-    ⊎ (Same p table (c .plan) (c .table) × (0 ≤ c .speed) × (c .speed ≤ p .n .0)))
+    × ((isDone (answerOf c (runAfter p earlier)) ≡ false) ⊎ CallFromZero p table c)
 
 -- P9 with one slot at speed 0, below the floor, and one at the floor.
 abbrev pub belowFloor : List Call
@@ -57,7 +60,7 @@ no-promise-below-the-floor promised =
 -- `slowedBefore` without the last slot before time D.
 unfoldable pub slowedEarlier : Plan → ℕ → List Call → Bool
 slowedEarlier p D [] = false
-slowedEarlier p D (c ∷ earlier) = slowedEarlier p D earlier || isSlow p c earlier && ltb (clockAt p earlier + 1) D
+slowedEarlier p D (c ∷ earlier) = slowedEarlier p D earlier || isSlow p c (runAfter p earlier) && ltb (clockAt p earlier + 1) D
 
 -- Plan E with four slots at the normal rate, and the last one before `Mirror-A`'s deadline at the
 -- floor.

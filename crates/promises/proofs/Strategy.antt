@@ -6,9 +6,10 @@ use mathlib.Core.List.{List, [], _∷_}
 use Prim.Native.Nat.{ℕ, _≤_}
 use native.Mathlib.Omega.{arith}
 use borrow.Author.Tests.{le-ltb}
+use lib.ListN.{replicate}
 use Rattle.plan.specs.Same.{Same}
 use Rattle.plan.specs.declared.kinds.Plan.{Plan}
-use Rattle.promises.specs.Night.{latest, isDone, slowedBefore, Allowed, nightAt, Between}
+use Rattle.promises.specs.Night.{slot, isSlot, runAfter, slowedBefore, Allowed, nightAt, Between}
 
 -- `Same` is reflexive.
 pub same-self : (p : Plan) (table : List ℕ) → Same p table p table
@@ -28,7 +29,7 @@ never-slow p table D (v ∷ speeds) b =
     rw (
       never-slow p table D speeds (b .2),
       le-ltb v (p .n .0) (b .0),
-      and-false (isDone (latest p (record { plan = p; table = table; speed = v; row = _ }) (nightAt p table speeds) .answer)),
+      and-false (isSlot (slot (record { plan = p; table = table; speed = v; row = replicate (p .count) 0 })) (runAfter p (nightAt p table speeds))),
     )
     refl
 

@@ -1,6 +1,6 @@
 -- Wrong variants: each shortcut as a definition, and what it loses
 -- or lets pass on one of the cases' plans.
-use mathlib.Core.Path.{_≡_, refl, ap, ap₂}
+use mathlib.Core.Path.{_≡_, refl, _∙_, ap, ap₂}
 use mathlib.Core.Logic.{_⊎_, inl, inr}
 use mathlib.Core.Bool.{Bool, true, not, cond, _&&_}
 use mathlib.Core.List.{List, [], _∷_, _++_}
@@ -27,7 +27,7 @@ use Rattle.dispatch.specs.Order.{enqueue, order, serve}
 use Rattle.dispatch.specs.Order
 use Rattle.dispatch.specs.Step.{SlotEffect, started, slotSound, slotFault, granted, added, advanced, slotBy, stepped}
 use Rattle.planfile.specs.Reader.{position}
-use Rattle.promises.specs.Night.{Call, runAfter, isDone, had, nightAt, Between}
+use Rattle.promises.specs.Night.{Call, slot, isDone, runLeft, given, runAfter, had, nightAt, Between}
 use Rattle.promises.proofs.Cases.{Case, planWith, tableOf, P1, P3, P8, P9, capitalMirror, smallMirror}
 
 -- An order of service: the positions served at a time, by the slow mark. The wrong dispatchers
@@ -74,30 +74,41 @@ right-parts-are-the-step p table run v row = go (slotFault p table run v row)
     go [] = refl
     go (number ∷ rest) = refl
 
+-- The run that a call leaves, and what it gives to job i, by a step.
+abbrev runLeftBy : Stepping → Call → Run → Run
+runLeftBy step (slot c) run = step (c .plan) (c .table) run (c .speed) (c .row) .run
+
+abbrev givenBy : Stepping → Call → Run → ℕ → ℕ
+givenBy step (slot c) run i =
+    let effect = step (c .plan) (c .table) run (c .speed) (c .row) in
+    on (isDone (effect .answer)) (getD (effect .grants) i 0)
+
 -- The run after a night, and what job i has had in it, by a step.
 unfoldable pub runBy : Stepping → Plan → List Call → Run
 runBy step p [] = started p
-runBy step p (c ∷ earlier) = step (c .plan) (c .table) (runBy step p earlier) (c .speed) (c .row) .run
+runBy step p (c ∷ earlier) = runLeftBy step c (runBy step p earlier)
 
 unfoldable pub hadBy : Stepping → Plan → List Call → ℕ → ℕ
 hadBy step p [] i = 0
-hadBy step p (c ∷ earlier) i =
-    let effect = step (c .plan) (c .table) (runBy step p earlier) (c .speed) (c .row) in
-    hadBy step p earlier i + on (isDone (effect .answer)) (getD (effect .grants) i 0)
+hadBy step p (c ∷ earlier) i = hadBy step p earlier i + givenBy step c (runBy step p earlier) i
 
 -- By the step itself they are those of demand 3.
+left-by-step : (c : Call) (run : Run) → runLeftBy stepped c run ≡ runLeft c run
+left-by-step (slot c) run = refl
+
+given-by-step : (c : Call) (run : Run) (i : ℕ) → givenBy stepped c run i ≡ given c run i
+given-by-step (slot c) run i = refl
+
 pub run-by-step : (p : Plan) (night : List Call) → runBy stepped p night ≡ runAfter p night
 unfolding runBy runAfter
 run-by-step p [] = refl
-run-by-step p (c ∷ earlier) = ap (λ run. stepped (c .plan) (c .table) run (c .speed) (c .row) .run) (run-by-step p earlier)
+run-by-step p (c ∷ earlier) = left-by-step c (runBy stepped p earlier) ∙ ap (λ run. runLeft c run) (run-by-step p earlier)
 
 pub had-by-step : (p : Plan) (night : List Call) (i : ℕ) → hadBy stepped p night i ≡ had p night i
 unfolding hadBy had
 had-by-step p [] i = refl
 had-by-step p (c ∷ earlier) i =
-    ap₂ (λ before run.
-    before + on (isDone (stepped (c .plan) (c .table) run (c .speed) (c .row) .answer)) (getD (stepped (c .plan) (c .table) run (c .speed) (c .row) .grants) i 0))
-    (had-by-step p earlier i) (run-by-step p earlier)
+    ap₂ _+_ (had-by-step p earlier i) (given-by-step c (runBy stepped p earlier) i ∙ ap (λ run. given c run i) (run-by-step p earlier))
 
 -- Job i is lost, by a step, at the given speeds, the latest first: its size is promised, since it is
 -- HI and the speeds lie from floor to normal, or since all of them are normal; its deadline has

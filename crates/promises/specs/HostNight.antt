@@ -1,5 +1,5 @@
--- A host's night: a start and then steps through the calls for hosts, with whatever words the host
--- lends, and what is promised of it.
+-- A host's night: a start and then further calls for hosts, with whatever words the host lends, and
+-- what is promised of it.
 use mathlib.Core.Path.{_≡_}
 use mathlib.Core.Logic.{_≢_, _⊎_}
 use mathlib.Core.Bool.{true}
@@ -13,11 +13,12 @@ use Rattle.plan.specs.Report.{doneNumber}
 use Rattle.plan.specs.Rules.{counted, size, deadline, isHi}
 use Rattle.plan.specs.Same.{Same}
 use Rattle.plan.specs.declared.kinds.Plan.{Plan}
+use Rattle.dispatch.specs.declared.Run.{Run}
 use Rattle.dispatch.specs.Step.{outcome}
 use Rattle.hostmemory.specs.Memory.{planOf, runOf, marksHold}
 use Rattle.gateway.specs.Calls.{metNumber, endingNumber, outcomeCall}
 use Rattle.gateway.specs.Answers.{HostStarts, HostSteps}
-use Rattle.promises.specs.Night.{Call, runAfter, latest, isDone, given, Kept, OutcomesKept}
+use Rattle.promises.specs.Night.{Call, slot, isDone, answerOf, runLeft, given, runAfter, Kept, OutcomesKept}
 
 -- A call of `gateway_start` that returns 0: what the host lends, and what the call leaves.
 pub record HostStart : Type 0 where
@@ -39,70 +40,92 @@ pub record HostStep : Type 0 where
   pub run-left : List ℕ
   pub row-left : List ℕ
 
--- The run's words after a start and steps: those that the latest call left. The steps are
--- a list, the latest first.
-abbrev pub runWordsLeft : HostStart → List HostStep → Words
+-- A call of a host's night after its start, by its kind.
+pub data HostCall : Type 0 where
+  step : HostStep → HostCall
+
+-- The number that a call returns.
+abbrev pub returned : HostCall → ℕ
+returned (step c) = c .number
+
+-- The run's words that a call leaves.
+abbrev pub wordsLeft : HostCall → Words
+wordsLeft (step c) = c .run-left
+
+-- What a call gave to job i: its entry of the row that a step left if it returned 0, otherwise 0.
+abbrev pub hostGiven : HostCall → Position → Amount
+hostGiven (step c) i = on (eqb (c .number) doneNumber) (getD (c .row-left) i 0)
+
+-- A call meets its contract on the run's words.
+abbrev pub MeetsContract : HostCall → Words → Type 0
+MeetsContract (step c) run = HostSteps (c .plan) (c .table) run (c .speed) (c .row) (c .number) (c .run-left) (c .row-left)
+
+-- The call of a night that a host's call is, with the plan that its words encode.
+abbrev pub callOf : HostCall → Call
+callOf (step c) = slot (record { plan = planOf (c .plan); table = c .table; speed = c .speed; row = c .row })
+
+-- The run's words after a start and calls: those that the latest call left. The calls are a list,
+-- the latest first.
+abbrev pub runWordsLeft : HostStart → List HostCall → Words
 runWordsLeft s [] = s .run-left
-runWordsLeft s (c ∷ earlier) = c .run-left
+runWordsLeft s (c ∷ earlier) = wordsLeft c
 
 -- The plan that the start's words encode.
 abbrev pub planStarted : HostStart → Plan
 planStarted s = planOf (s .plan)
 
--- A host's night: the start and each step meet their contracts, each step on the run's words that
--- the call before it left; and each step is refused, or has words that encode the plan of the start
--- or the same one, and a speed v with d ≤ v ≤ n.
-unfoldable pub HostNight : HostStart → List HostStep → Type 0
+-- What is asked of a call that is not refused: words that encode the plan of the start or the same
+-- one, and a speed v with d ≤ v ≤ n.
+abbrev pub HostAllowed : HostStart → HostCall → Type 0
+HostAllowed s (step c) =
+    Same (planStarted s) (s .table) (planOf (c .plan)) (c .table) × (planStarted s .d .0 ≤ c .speed) × (c .speed ≤ planStarted s .n .0)
+
+-- A host's night: the start and each call meet their contracts, each call on the run's words that
+-- the call before it left; and each call is refused, or what is asked of it holds.
+unfoldable pub HostNight : HostStart → List HostCall → Type 0
 HostNight s [] = HostStarts (s .plan) (s .table) (s .run) (s .location) doneNumber (s .run-left) (s .location-left)
 HostNight s (c ∷ earlier) =
     HostNight s earlier
-    × HostSteps (c .plan) (c .table) (runWordsLeft s earlier) (c .speed) (c .row) (c .number) (c .run-left) (c .row-left)
-    × ((c .number ≢ doneNumber)
-    ⊎ (Same (planStarted s) (s .table) (planOf (c .plan)) (c .table) × (planStarted s .d .0 ≤ c .speed) × (c .speed ≤ planStarted s .n .0)))
+    × MeetsContract c (runWordsLeft s earlier)
+    × ((returned c ≢ doneNumber) ⊎ HostAllowed s c)
 
--- The slot's call that a step is, with the plan that its words encode.
-abbrev pub slotCall : HostStep → Call
-slotCall c = record { plan = planOf (c .plan); table = c .table; speed = c .speed; row = c .row }
-
--- The night that a list of steps is.
-abbrev pub nightOf : List HostStep → List Call
+-- The night that a list of calls is.
+abbrev pub nightOf : List HostCall → List Call
 nightOf [] = []
-nightOf (c ∷ earlier) = slotCall c ∷ nightOf earlier
+nightOf (c ∷ earlier) = callOf c ∷ nightOf earlier
 
--- What a step gave to job i: its entry of the row that the step left if it returned 0, otherwise 0.
-abbrev pub hostGiven : (c : HostStep) (i : Position) → Amount
-hostGiven c i = on (eqb (c .number) doneNumber) (getD (c .row-left) i 0)
-
--- What job i has had from a host's steps.
-unfoldable pub hostHad : List HostStep → Position → Amount
+-- What job i has had from a host's calls.
+unfoldable pub hostHad : List HostCall → Position → Amount
 hostHad [] i = 0
 hostHad (c ∷ earlier) i = hostHad earlier i + hostGiven c i
 
--- What the host sees after each call is what the night says: the run's words encode its run, with
--- marks that are 0 or 1; a step returns 0 exactly if its slot's call is done, and gives what that
--- call gives.
-unfoldable pub Shown : HostStart → List HostStep → Type 0
+-- What the host sees of a call is what the night's call on the run before it does: the words left
+-- encode the run that it leaves, with marks that are 0 or 1; 0 is returned exactly if it is done; and
+-- what it gives is given.
+pub record CallShown (c : HostCall) (run : Run) : Type 0 where
+  pub run-left : runOf (wordsLeft c) ≡ runLeft (callOf c) run
+  pub marks : marksHold (wordsLeft c) ≡ true
+  pub done : eqb (returned c) doneNumber ≡ isDone (answerOf (callOf c) run)
+  pub gives : (i : ℕ) → hostGiven c i ≡ given (callOf c) run i
+
+-- What the host sees after the start and after each call is what the night says.
+unfoldable pub Shown : HostStart → List HostCall → Type 0
 Shown s [] = (runOf (s .run-left) ≡ runAfter (planStarted s) []) × (marksHold (s .run-left) ≡ true)
-Shown s (c ∷ earlier) =
-    Shown s earlier
-    × (runOf (c .run-left) ≡ runAfter (planStarted s) (nightOf (c ∷ earlier)))
-    × (marksHold (c .run-left) ≡ true)
-    × (eqb (c .number) doneNumber ≡ isDone (latest (planStarted s) (slotCall c) (nightOf earlier) .answer))
-    × ((i : ℕ) → hostGiven c i ≡ given (planStarted s) (slotCall c) (nightOf earlier) i)
+Shown s (c ∷ earlier) = Shown s earlier × CallShown c (runAfter (planStarted s) (nightOf earlier))
 
 -- What is promised of a host's night.
-pub record HostKept (s : HostStart) (steps : List HostStep) : Type 0 where
+pub record HostKept (s : HostStart) (calls : List HostCall) : Type 0 where
   -- What the host sees is the night that its words encode.
-  pub shown : Shown s steps
+  pub shown : Shown s calls
   -- What is promised of that night holds, and of its outcomes.
-  pub kept : Kept (planStarted s) (nightOf steps)
-  pub outcomes-kept : OutcomesKept (planStarted s) (nightOf steps)
+  pub kept : Kept (planStarted s) (nightOf calls)
+  pub outcomes-kept : OutcomesKept (planStarted s) (nightOf calls)
   -- `gateway_outcome` returns the number of the job's outcome in that night.
-  pub endings : (i : ℕ) → outcomeCall (s .plan) (runWordsLeft s steps) i ≡ endingNumber (outcome (planStarted s) (runAfter (planStarted s) (nightOf steps)) i)
+  pub endings : (i : ℕ) → outcomeCall (s .plan) (runWordsLeft s calls) i ≡ endingNumber (outcome (planStarted s) (runAfter (planStarted s) (nightOf calls)) i)
   -- Hence a HI job whose deadline the clock in the run's words has reached has had exactly its size
-  -- by the rows that the steps left, and `gateway_outcome` returns that it is met.
+  -- by the rows that the calls left, and `gateway_outcome` returns that it is met.
   pub essential : (i : ℕ) → i < counted (planStarted s) → isHi (planStarted s) i ≡ true
-      → deadline (planStarted s) i ≤ runOf (runWordsLeft s steps) .clock .0
-      → (hostHad steps i ≡ size (planStarted s) i) × (outcomeCall (s .plan) (runWordsLeft s steps) i ≡ metNumber)
+      → deadline (planStarted s) i ≤ runOf (runWordsLeft s calls) .clock .0
+      → (hostHad calls i ≡ size (planStarted s) i) × (outcomeCall (s .plan) (runWordsLeft s calls) i ≡ metNumber)
   -- No job has had more than its size by those rows.
-  pub no-more : (i : ℕ) → i < counted (planStarted s) → hostHad steps i ≤ size (planStarted s) i
+  pub no-more : (i : ℕ) → i < counted (planStarted s) → hostHad calls i ≤ size (planStarted s) i

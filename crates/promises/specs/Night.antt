@@ -1,4 +1,5 @@
--- A night: successive calls of the step, what each job has had from them, and what is promised.
+-- A night: successive calls, what each job has had from them, and what is promised. What one call
+-- does is told by its kind, and everything else in terms of that.
 use mathlib.Core.Path.{_≡_}
 use mathlib.Core.Logic.{_≢_, _⊎_}
 use mathlib.Core.Bool.{Bool, true, false, _&&_, _||_}
@@ -18,76 +19,99 @@ use Rattle.dispatch.specs.Dues.{inItsWindow}
 use Rattle.dispatch.specs.Step.{SlotEffect, started, stepped, met, missed, refused, outcome}
 
 -- One slot's call, with any plan, table, speed and grant row.
-pub record Call : Type 0 where
+pub record SlotCall : Type 0 where
   pub plan : Plan
   pub table : List ℕ
   pub speed : ℕ
   pub row : List ℕ
 
--- The run after plan p's start and a night's calls, each on the run that the call before it left. A
--- night is a list of calls, the latest first.
-unfoldable pub runAfter : Plan → List Call → Run
-runAfter p [] = started p
-runAfter p (c ∷ earlier) = stepped (c .plan) (c .table) (runAfter p earlier) (c .speed) (c .row) .run
-
--- The effect of the latest call: its answer, the run and the grant row.
-abbrev pub latest : Plan → Call → List Call → SlotEffect
-latest p c earlier = stepped (c .plan) (c .table) (runAfter p earlier) (c .speed) (c .row)
+-- A call of a night, by its kind.
+pub data Call : Type 0 where
+  slot : SlotCall → Call
 
 -- A call is done if it is not refused.
 abbrev pub isDone : Report → Bool
 isDone [] = true
 isDone (number ∷ places) = false
 
+-- The effect of a slot's call on a run: its answer, the run and the grant row.
+abbrev pub slotEffect : SlotCall → Run → SlotEffect
+slotEffect c run = stepped (c .plan) (c .table) run (c .speed) (c .row)
+
+-- The answer of a call on a run.
+abbrev pub answerOf : Call → Run → Report
+answerOf (slot c) run = slotEffect c run .answer
+
+-- The run that a call on a run leaves.
+abbrev pub runLeft : Call → Run → Run
+runLeft (slot c) run = slotEffect c run .run
+
+-- What a call on a run gives to job i: its entry of the grant row if the call is done, otherwise 0.
+abbrev pub given : Call → Run → Position → Amount
+given (slot c) run i = on (isDone (slotEffect c run .answer)) (getD (slotEffect c run .grants) i 0)
+
+-- A call is a slot if it is a slot's call that is done.
+abbrev pub isSlot : Call → Run → Bool
+isSlot (slot c) run = isDone (slotEffect c run .answer)
+
+-- A slow slot is one with a speed below n.
+abbrev pub isSlow : Plan → Call → Run → Bool
+isSlow p (slot c) run = isSlot (slot c) run && ltb (c .speed) (p .n .0)
+
+-- The most that a call may give to all jobs together: a slot's speed.
+abbrev pub mostGiven : Call → Amount
+mostGiven (slot c) = c .speed
+
+-- What is asked of a call that is not refused: the accepted plan and table, or the same ones, and a
+-- speed v with d ≤ v ≤ n.
+abbrev pub AllowedCall : Plan → Table → Call → Type 0
+AllowedCall p table (slot c) = Same p table (c .plan) (c .table) × (p .d .0 ≤ c .speed) × (c .speed ≤ p .n .0)
+
+-- The run after plan p's start and a night's calls, each on the run that the call before it left. A
+-- night is a list of calls, the latest first.
+unfoldable pub runAfter : Plan → List Call → Run
+runAfter p [] = started p
+runAfter p (c ∷ earlier) = runLeft c (runAfter p earlier)
+
 -- The clock before the latest call.
 abbrev pub clockAt : (p : Plan) (earlier : List Call) → Time
 clockAt p earlier = runAfter p earlier .clock .0
 
--- What the latest call gave to job i: its entry of the grant row if the call is done, otherwise 0.
-abbrev pub given : (p : Plan) (c : Call) (earlier : List Call) (i : Position) → Amount
-given p c earlier i = on (isDone (latest p c earlier .answer)) (getD (latest p c earlier .grants) i 0)
-
 -- What job i has had: the sum of what the calls gave it.
 unfoldable pub had : Plan → List Call → Position → Amount
 had p [] i = 0
-had p (c ∷ earlier) i = had p earlier i + given p c earlier i
+had p (c ∷ earlier) i = had p earlier i + given c (runAfter p earlier) i
 
 -- What job i has had in slots inside its window.
 unfoldable pub hadInWindow : Plan → List Call → Position → Amount
 hadInWindow p [] i = 0
-hadInWindow p (c ∷ earlier) i = hadInWindow p earlier i + on (inItsWindow p (clockAt p earlier) i) (given p c earlier i)
-
--- A slow slot is a done call with a speed below n.
-abbrev pub isSlow : Plan → Call → List Call → Bool
-isSlow p c earlier = isDone (latest p c earlier .answer) && ltb (c .speed) (p .n .0)
+hadInWindow p (c ∷ earlier) i = hadInWindow p earlier i + on (inItsWindow p (clockAt p earlier) i) (given c (runAfter p earlier) i)
 
 -- Whether some slot was slow.
 unfoldable pub slowed : Plan → List Call → Bool
 slowed p [] = false
-slowed p (c ∷ earlier) = slowed p earlier || isSlow p c earlier
+slowed p (c ∷ earlier) = slowed p earlier || isSlow p c (runAfter p earlier)
 
 -- Whether a slow slot began before time D.
 unfoldable pub slowedBefore : Plan → Time → List Call → Bool
 slowedBefore p D [] = false
-slowedBefore p D (c ∷ earlier) = slowedBefore p D earlier || isSlow p c earlier && ltb (clockAt p earlier) D
+slowedBefore p D (c ∷ earlier) = slowedBefore p D earlier || isSlow p c (runAfter p earlier) && ltb (clockAt p earlier) D
 
 -- What job i has had from the first slow slot on.
 unfoldable pub hadSinceSlow : Plan → List Call → Position → Amount
 hadSinceSlow p [] i = 0
-hadSinceSlow p (c ∷ earlier) i = hadSinceSlow p earlier i + on (slowed p (c ∷ earlier)) (given p c earlier i)
+hadSinceSlow p (c ∷ earlier) i = hadSinceSlow p earlier i + on (slowed p (c ∷ earlier)) (given c (runAfter p earlier) i)
 
--- The condition on a night: each call is refused, or has the accepted plan and table, or the
--- same ones, and a speed v with d ≤ v ≤ n.
+-- The condition on a night: each call is refused, or what is asked of it holds.
 unfoldable pub Allowed : Plan → Table → List Call → Type 0
 Allowed p table [] = Unit {0}
 Allowed p table (c ∷ earlier) =
     Allowed p table earlier
-    × ((isDone (latest p c earlier .answer) ≡ false)
-    ⊎ (Same p table (c .plan) (c .table) × (p .d .0 ≤ c .speed) × (c .speed ≤ p .n .0)))
+    × ((isDone (answerOf c (runAfter p earlier)) ≡ false) ⊎ AllowedCall p table c)
 
--- A regular call: the accepted plan and table, or the same ones, a speed from floor to normal, and
--- a grant row with a place for each job.
-pub record Regular (p : Plan) (table : Table) (c : Call) : Type 0 where
+-- A regular call is a slot's: the accepted plan and table, or the same ones, a speed from floor to
+-- normal, and a grant row with a place for each job.
+pub record Regular (p : Plan) (table : Table) (c : SlotCall) : Type 0 where
   pub same : Same p table (c .plan) (c .table)
   pub floor : p .d .0 ≤ c .speed
   pub normal : c .speed ≤ p .n .0
@@ -96,20 +120,21 @@ pub record Regular (p : Plan) (table : Table) (c : Call) : Type 0 where
 -- A night of refused calls and k regular ones.
 pub data HasRegular (p : Plan) (table : Table) : ℕ → List Call → Type 0 where
   none-yet : HasRegular p table 0 []
-  then-refused : {k : ℕ} {c : Call} {earlier : List Call} → isDone (latest p c earlier .answer) ≡ false → HasRegular p table k earlier
+  then-refused : {k : ℕ} {c : Call} {earlier : List Call} → isDone (answerOf c (runAfter p earlier)) ≡ false → HasRegular p table k earlier
       → HasRegular p table k (c ∷ earlier)
-  then-regular : {k : ℕ} {c : Call} {earlier : List Call} → Regular p table c → HasRegular p table k earlier
-      → HasRegular p table (suc k) (c ∷ earlier)
+  then-regular : {k : ℕ} {c : SlotCall} {earlier : List Call} → Regular p table c → HasRegular p table k earlier
+      → HasRegular p table (suc k) (slot c ∷ earlier)
 
--- The number of slots of a night: its done calls.
+-- The number of slots of a night.
 unfoldable pub slots : Plan → List Call → ℕ
 slots p [] = 0
-slots p (c ∷ earlier) = slots p earlier + on (isDone (latest p c earlier .answer)) 1
+slots p (c ∷ earlier) = slots p earlier + on (isSlot c (runAfter p earlier)) 1
 
--- In every call of a night, what the jobs were given sums to at most its speed.
+-- In every call of a night, what the jobs were given sums to at most what it may give: a slot's
+-- speed.
 unfoldable pub WithinSpeeds : Plan → List Call → Type 0
 WithinSpeeds p [] = Unit {0}
-WithinSpeeds p (c ∷ earlier) = WithinSpeeds p earlier × (sum (given p c earlier) (counted p) ≤ c .speed)
+WithinSpeeds p (c ∷ earlier) = WithinSpeeds p earlier × (sum (given c (runAfter p earlier)) (counted p) ≤ mostGiven c)
 
 -- What is promised, at every point of a night.
 pub record Kept (p : Plan) (night : List Call) : Type 0 where
@@ -144,7 +169,7 @@ pub record OutcomesKept (p : Plan) (night : List Call) : Type 0 where
 -- with a grant row of zeros for each call.
 abbrev pub nightAt : Plan → Table → List ℕ → List Call
 nightAt p table [] = []
-nightAt p table (v ∷ speeds) = record { plan = p; table = table; speed = v; row = replicate (p .count) 0 } ∷ nightAt p table speeds
+nightAt p table (v ∷ speeds) = slot (record { plan = p; table = table; speed = v; row = replicate (p .count) 0 }) ∷ nightAt p table speeds
 
 -- All speeds lie from `low` to `high`.
 abbrev pub Between : ℕ → ℕ → List ℕ → Type 0
