@@ -5,9 +5,10 @@ use mathlib.Core.Bool.{Bool, true, false, not, _&&_, _||_}
 use mathlib.Core.List.{List}
 use Prim.Native.Nat.{ℕ, _+_, _-_, _≤_}
 use native.Mathlib.Omega.{arith}
-use borrow.Author.Tests.{eqb-true, eqb-false, eq-eqb, ne-eqb, not-true, not-false}
-use lib.Dec.{eqb}
+use borrow.Author.Tests.{leb-true, eqb-true, eqb-false, eq-eqb, ne-eqb, not-true, not-false}
+use lib.Dec.{leb, eqb}
 use lib.ListN.{length}
+use Rattle.base.proofs.Logic.{both}
 use Rattle.plan.specs.Refusal.{Refusal, refusalOf, wrongVersion, wrongExtent, wrongRecordLength}
 use Rattle.fields.specs.Parsers.{Parsed, got, no, field, checked, recordLength, refusedAs, isVersion, version, extent, opening, ended}
 use Rattle.fields.proofs.ParserLaws.{through, test-is, checked-is, same-value, same-next, field-extent}
@@ -89,6 +90,15 @@ module _ (newest : ℕ) (compared : Bool) (file : List ℕ) where
         → _≡_ {A = Parsed ℕ} (got v next) (opening newest compared file 0)
     unfolding opening
     opening-right f = rw (e, f)
+
+-- A version that is read is not newer than the newest one.
+pub opening-version : (newest : ℕ) (compared : Bool) (file : List ℕ) {v next : ℕ} → opening newest compared file 0 ≡ got v next → v ≤ newest
+unfolding opening
+opening-version newest compared file e =
+    let t = through (version newest file 0) e in
+    let u = through (extent compared file (t .next)) (t .on) in
+    let known = version-is newest file 0 (t .is) .1 in
+    omega (arith, same-value (u .on), leb-true (t .value) newest (both (leb 1 (t .value)) (leb (t .value) newest) known .1))
 
 -- What is known where an opening with a compared length field is read.
 pub record OpeningRead (newest : ℕ) (file : List ℕ) (v next : ℕ) : Type 0 where

@@ -1,5 +1,6 @@
 -- How far a plan file reaches in an input.
 use mathlib.Core.Path.{_≡_, refl, sym, _∙_, ap}
+use mathlib.Core.Bool.{true}
 use mathlib.Core.List.{[], _∷_, _++_}
 use Prim.Native.Nat.{ℕ, _+_, _≤_}
 use native.Mathlib.Omega.{arith}
@@ -7,15 +8,17 @@ use borrow.Author.Tests.{le-ltb}
 use lib.ListN.{length, take, drop, replicate, length-replicate}
 use lib.Seq.{take-append-le}
 use Rattle.plan.specs.Kinds.{Bytes}
-use Rattle.plan.specs.Edition.{mostJobs, places}
+use Rattle.plan.specs.Edition.{places}
+use Rattle.plan.specs.Versions.{newestVersion}
 use Rattle.fields.specs.Bytes.{value}
 use Rattle.fields.specs.Parsers.{Parsed, got, no}
 use Rattle.planfields.specs.Records.{head}
 use Rattle.planfields.specs.Layout.{openingBytes, lengthSaid, fileBytes}
-use Rattle.fields.proofs.ParserLaws.{through}
+use Rattle.fields.proofs.ParserLaws.{through, field-extent}
+use Rattle.fields.proofs.OpeningLaws.{opening-read}
 use Rattle.planfile.specs.Reader.{Contents, preamble, planFile, readFile, leaves}
 use Rattle.program.specs.Turns.{readIn}
-use Rattle.planfile.proofs.Offsets.{field-extent, opening-extent, head-read}
+use Rattle.planfile.proofs.Offsets.{head-read}
 use Rattle.planfile.proofs.WholeFile.{reader-long}
 
 -- The length of a plan file is known from the opening of the input.
@@ -49,11 +52,11 @@ read-is-whole : (file : Bytes) {held : Contents} {end : ℕ} → readFile file �
 unfolding planFile preamble
 read-is-whole file e =
     let t = through (preamble file 0) e in
-    let h = head-read mostJobs file (through (head mostJobs file 0) (t .is) .is) in
-    let o = opening-extent file (h .opened) in
-    let f = field-extent 4 file 1 (o .2) in
+    let h = head-read file (through (head true file 0) (t .is) .is) in
+    let o = opening-read newestVersion file (h .opened) in
+    let f = field-extent 4 file 1 (o .length-field) in
     let some : openingBytes ≤ length file = omega (arith, f .1) in
-    (some, omega (arith, o .4, f .2, said-is-value file some))
+    (some, omega (arith, o .counts, f .2, said-is-value file some))
 
 -- The same by what the reader answers.
 pub accepted-is-whole : (file : Bytes) → readIn file .answer ≡ []

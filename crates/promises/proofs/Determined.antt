@@ -5,10 +5,12 @@ use mathlib.Core.Bool.{Bool, true, false, not, cond, _||_}
 use mathlib.Core.List.{List, [], _∷_, _++_}
 use Prim.Native.Nat.{ℕ, _<_, _^_}
 use native.Mathlib.Nat.{one-le-pow}
-use lib.Dec.{leb, ltb, eqb, lit<}
+use native.Mathlib.Omega.{arith}
+use lib.Dec.{ltb, eqb, lit<}
 use lib.IntN.{ℤ}
 use lib.ListN.{length, drop, replicate}
-use Rattle.plan.specs.Edition.{mostJobs, mostRows, places}
+use Rattle.plan.specs.Edition.{mostJobs, places}
+use Rattle.plan.specs.Versions.{rowsAllowedIn}
 use Rattle.plan.specs.Refusal.{tooManyRows, rowWithoutInterval, rowWithoutUnits, clockAtEnd, speedAboveNormal, unsound, bufferTooShort}
 use Rattle.plan.specs.Rules.{counted}
 use Rattle.plan.specs.Boundaries.{lastDeadline}
@@ -17,20 +19,23 @@ use Rattle.plan.specs.declared.kinds.Name.{Name}
 use Rattle.plan.specs.declared.kinds.Plan.{Plan}
 use Rattle.plan.specs.declared.kinds.Slots.{Slots}
 use Rattle.fields.specs.Parsers as rule
-use Rattle.fields.specs.Parsers.{Parsed, got, no, checked, ended}
+use Rattle.fields.specs.Parsers.{Parsed, got, no, checked, recordLength, opening, ended}
+use Rattle.planfields.specs.Records as records
 use Rattle.planfields.specs.Records.{Head, named, oneJob}
-use Rattle.fields.specs.Answers.{fieldView, fieldValue, passedView, ReadsEnd}
+use Rattle.fields.specs.Answers.{fieldView, fieldValue, passedView, isCompared, ReadsField, ReadsLength, ReadsOpening, ReadsEnd}
 use Rattle.planfields.specs.Answers.{headView, jobView, ReadsNamed, ReadsHead, ReadsJob, ReadsRowCount, ReadsInterval, ReadsUnits}
 use Rattle.fields.specs.declared.field.Field.{Field}
 use Rattle.fields.specs.declared.field.Field.the-variants as field
 use Rattle.fields.specs.declared.field.Passed.{Passed}
 use Rattle.fields.specs.declared.field.Passed.the-variants as passed
+use Rattle.fields.specs.declared.opening.LengthRule.{LengthRule}
 use Rattle.planfields.specs.declared.head.HeadRead.{HeadRead}
 use Rattle.planfields.specs.declared.head.HeadRead.the-variants as head
 use Rattle.planfields.specs.declared.job.JobRead.{JobRead}
 use Rattle.planfields.specs.declared.job.JobRead.the-variants as job
 use Rattle.fields.proofs.ByteLaws.{Octets}
 use Rattle.fields.proofs.ParserLaws.{checked-is}
+use Rattle.fields.proofs.OpeningLaws.{opening-version}
 use Rattle.plan.specs.Rules.{noPlan}
 use Rattle.planfile.specs.Reader.{Contents, leaves, readFile, reader, nameShown}
 use Rattle.planfile.specs.Answers.{readView, Reads, Shows}
@@ -300,8 +305,8 @@ some-opening file table out =
     let t = some-turn (opened (reader file table)) out in
     (t .0, reader file table .table, t .1, (t .2 .0, refl, t .2 .1))
 
--- The field readers of `planfields`, which reader and lookup share. Their view is injective, and
--- every parser's result is the view of some answer.
+-- The field readers of `fields` and `planfields`, which reader and lookup share. Their view is injective,
+-- and every parser's result is the view of some answer.
 fields-one : (r s : Field) → fieldView r ≡ fieldView s → r ≡ s
 fields-one r s e = sym (back r) ∙ ap of e ∙ back s
   where
@@ -317,16 +322,8 @@ field-some : (s : Parsed ℕ) → (r : Field) × (fieldView r ≡ s)
 field-some (got v next) = (field.Value v next, refl)
 field-some (no refusal) = (field.Refused refusal, refl)
 
--- `planfields::field::read_named`.
-pub one-named : (file : List ℕ) (at length : ℕ) (r s : Field) → ReadsNamed file at length r → ReadsNamed file at length s → r ≡ s
-one-named file at length r s d e = fields-one r s (d ∙ sym e)
-
-pub some-named : (file : List ℕ) (at length : ℕ) → (r : Field) × ReadsNamed file at length r
-some-named file at length = field-some (named length file at)
-
--- `planfields::field::read_end`.
-pub one-end : (file : List ℕ) (at : ℕ) (r s : Passed) → ReadsEnd file at r → ReadsEnd file at s → r ≡ s
-one-end file at r s d e = sym (back r) ∙ ap of (d ∙ sym e) ∙ back s
+passed-one : (r s : Passed) → passedView r ≡ passedView s → r ≡ s
+passed-one r s e = sym (back r) ∙ ap of e ∙ back s
   where
     of : Parsed (Unit {0}) → Passed
     of (got u next) = passed.Next next
@@ -336,30 +333,70 @@ one-end file at r s d e = sym (back r) ∙ ap of (d ∙ sym e) ∙ back s
     back (passed.Next next) = refl
     back (passed.Refused refusal) = refl
 
-pub some-end : (file : List ℕ) (at : ℕ) → (r : Passed) × ReadsEnd file at r
-some-end file at = by (ended file at)
+passed-some : (s : Parsed (Unit {0})) → (r : Passed) × (passedView r ≡ s)
+passed-some (got u next) = (passed.Next next, refl)
+passed-some (no refusal) = (passed.Refused refusal, refl)
+
+-- `fields::field::read_byte`, `read_two`, `read_four` and `read_eight`, by their width.
+pub one-field : (w : ℕ) (file : List ℕ) (at : ℕ) (r s : Field) → ReadsField w file at r → ReadsField w file at s → r ≡ s
+one-field w file at r s d e = fields-one r s (d .0 ∙ sym (e .0))
+
+pub some-field : (w : ℕ) (file : List ℕ) → Octets file → (at : ℕ) → (r : Field) × ReadsField w file at r
+some-field w file octets at = by (rule.field w file at) refl
   where
-    by : (s : Parsed (Unit {0})) → (r : Passed) × (passedView r ≡ s)
-    by (got u next) = (passed.Next next, refl)
-    by (no refusal) = (passed.Refused refusal, refl)
+    by : (s : Parsed ℕ) → rule.field w file at ≡ s → (r : Field) × ((fieldView r ≡ s) × (fieldValue r < 256 ^ w))
+    by (got v next) e = (field.Value v next, (refl, field-again w file at octets e .1))
+    by (no refusal) e = (field.Refused refusal, (refl, one-le-pow w 256 (lit< tt)))
+
+-- `fields::record::read_length`.
+pub one-length : (file : List ℕ) (at long : ℕ) (r s : Passed) → ReadsLength file at long r → ReadsLength file at long s → r ≡ s
+one-length file at long r s d e = passed-one r s (d ∙ sym e)
+
+pub some-length : (file : List ℕ) (at long : ℕ) → (r : Passed) × ReadsLength file at long r
+some-length file at long = passed-some (recordLength long file at)
+
+-- `fields::opening::read_opening`. (The code's types give that the newest version is a byte.)
+pub one-file-opening : (file : List ℕ) (newest : ℕ) (lengths : LengthRule) (r s : Field) → ReadsOpening file newest lengths r → ReadsOpening file newest lengths s → r ≡ s
+one-file-opening file newest lengths r s d e = fields-one r s (d .0 ∙ sym (e .0))
+
+pub some-file-opening : (file : List ℕ) (newest : ℕ) → newest < 256 ^ 1 → (lengths : LengthRule) → (r : Field) × ReadsOpening file newest lengths r
+some-file-opening file newest small lengths = by (opening newest (isCompared lengths) file 0) refl
+  where
+    by : (s : Parsed ℕ) → opening newest (isCompared lengths) file 0 ≡ s → (r : Field) × ((fieldView r ≡ s) × (fieldValue r < 256 ^ 1))
+    by (got v next) e = (field.Value v next, (refl, omega (arith, small, opening-version newest (isCompared lengths) file e)))
+    by (no refusal) e = (field.Refused refusal, (refl, lit< tt))
+
+-- `fields::end::read_end`.
+pub one-end : (file : List ℕ) (at : ℕ) (r s : Passed) → ReadsEnd file at r → ReadsEnd file at s → r ≡ s
+one-end file at r s d e = passed-one r s (d ∙ sym e)
+
+pub some-end : (file : List ℕ) (at : ℕ) → (r : Passed) × ReadsEnd file at r
+some-end file at = passed-some (ended file at)
+
+-- `planfields::named::read_named`.
+pub one-named : (file : List ℕ) (at length : ℕ) (r s : Field) → ReadsNamed file at length r → ReadsNamed file at length s → r ≡ s
+one-named file at length r s d e = fields-one r s (d ∙ sym e)
+
+pub some-named : (file : List ℕ) (at length : ℕ) → (r : Field) × ReadsNamed file at length r
+some-named file at length = field-some (named length file at)
 
 -- `planfields::head::read_head`.
-pub one-head : (file : List ℕ) (r s : HeadRead) → ReadsHead file r → ReadsHead file s → r ≡ s
-one-head file r s d e = sym (back r) ∙ ap of (d ∙ sym e) ∙ back s
+pub one-head : (file : List ℕ) (lengths : LengthRule) (r s : HeadRead) → ReadsHead file lengths r → ReadsHead file lengths s → r ≡ s
+one-head file lengths r s d e = sym (back r) ∙ ap of (d ∙ sym e) ∙ back s
   where
     of : Parsed Head → HeadRead
-    of (got h next) = head.Head (record { n = record { 0 = h .n }; d = record { 0 = h .d }; count = h .count }) next
+    of (got h next) = head.Head (record { version = h .version; n = record { 0 = h .n }; d = record { 0 = h .d }; count = h .count }) next
     of (no refusal) = head.Refused refusal
 
     back : (r : HeadRead) → of (headView r) ≡ r
     back (head.Head h next) = refl
     back (head.Refused refusal) = refl
 
-pub some-head : (file : List ℕ) → (r : HeadRead) × ReadsHead file r
-some-head file = by (rule.head mostJobs file 0)
+pub some-head : (file : List ℕ) (lengths : LengthRule) → (r : HeadRead) × ReadsHead file lengths r
+some-head file lengths = by (records.head (isCompared lengths) file 0)
   where
     by : (s : Parsed Head) → (r : HeadRead) × (headView r ≡ s)
-    by (got h next) = (head.Head (record { n = record { 0 = h .n }; d = record { 0 = h .d }; count = h .count }) next, refl)
+    by (got h next) = (head.Head (record { version = h .version; n = record { 0 = h .n }; d = record { 0 = h .d }; count = h .count }) next, refl)
     by (no refusal) = (head.Refused refusal, refl)
 
 -- `planfields::job::read_job`.
@@ -382,11 +419,11 @@ some-job file at earlier = by (oneJob earlier file at)
     by (no refusal) = (job.Refused refusal, refl)
 
 -- `planfields::numbers::read_row_count`.
-pub one-row-count : (file : List ℕ) (at : ℕ) (r s : Field) → ReadsRowCount file at r → ReadsRowCount file at s → r ≡ s
-one-row-count file at r s d e = fields-one r s (d ∙ sym e)
+pub one-row-count : (file : List ℕ) (at version : ℕ) (r s : Field) → ReadsRowCount file at version r → ReadsRowCount file at version s → r ≡ s
+one-row-count file at version r s d e = fields-one r s (d ∙ sym e)
 
-pub some-row-count : (file : List ℕ) (at : ℕ) → (r : Field) × ReadsRowCount file at r
-some-row-count file at = field-some (checked 2 (λ n. leb n mostRows) tooManyRows file at)
+pub some-row-count : (file : List ℕ) (at version : ℕ) → (r : Field) × ReadsRowCount file at version r
+some-row-count file at version = field-some (checked 2 (rowsAllowedIn version) tooManyRows file at)
 
 -- A checked field as an answer whose value has the field's width. (The
 -- code's types give that a byte is below 256.)

@@ -15,7 +15,7 @@ use Rattle.base.specs.Below
 use Rattle.plan.specs.Rules.{gradesHold, boundsHold}
 use Rattle.plan.specs.Refusal.{wrongVersion, wrongExtent, wrongRecordLength, wrongRates, wrongJobCount, wrongNameByte, nameTaken, wrongGrade, wrongJobBounds, tooManyRows, rowWithoutJob, rowWithoutInterval, rowWithoutUnits, rowOutOfOrder, outsideWindow, wrongTotal, overCapacity, belowFloorRule, clockAtEnd, speedAboveNormal, unsound, bufferTooShort}
 use Rattle.plan.specs.Same.{Same}
-use Rattle.fields.specs.Parsers.{version, opening}
+use Rattle.fields.specs.Parsers.{version, opening, field}
 use Rattle.planfields.specs.Records.{head}
 use Rattle.plan.specs.Rules.{noPlan}
 use Rattle.planfile.specs.Reader.{preamble, planFile, reader}
@@ -317,7 +317,7 @@ same-host-step-E run = same-host-step wordsE tableE elseWords elseTable words-sa
 -- Instances that meet the premises of what refusals leave: an empty file, a table of one place, no
 -- words for a plan, no words for a location, and plan E at speed 3.
 empty-file-host-leaves : (readCall [] wordsE (replicate places 7) .table ≡ replicate places 0) × (readCall [] wordsE (replicate places 7) .plan ≡ planPut wordsE noPlan)
-unfolding version opening head preamble planFile reader readCall jobsOut planOut
+unfolding field version opening head preamble planFile reader readCall jobsOut planOut
 empty-file-host-leaves = host-read-other-leaves [] wordsE (replicate places 7) (λ e. absurd (omega (arith, e))) (λ e. absurd (omega (arith, e)))
 
 short-table-host-stays : readCall [] wordsE (7 ∷ []) .table ≡ 7 ∷ []

@@ -16,7 +16,7 @@ use Rattle.plan.specs.Boundaries.{insert, boundariesTo}
 use Rattle.plan.specs.Table.{noStray, sound}
 use Rattle.plan.specs.declared.kinds.Plan.{Plan}
 use Rattle.fields.specs.Bytes.{bytes}
-use Rattle.fields.specs.Parsers.{Parsed, got, no, version, opening}
+use Rattle.fields.specs.Parsers.{Parsed, got, no, version, opening, field}
 use Rattle.planfields.specs.Records.{head}
 use Rattle.plan.specs.Rules.{noPlan}
 use Rattle.planfile.specs.Reader.{Contents, preamble, planFile, readFile, leaves, reader, nameShown}
@@ -142,12 +142,12 @@ short-table-stays = reader-22-leaves fileE (7 ∷ []) [] refl
 -- An empty file leaves zeros in the table's own places, and the place past them unchanged.
 empty-file-leaves : (reader [] (replicate places 7 ++ (9 ∷ [])) .table ≡ replicate places 0 ++ (9 ∷ []))
     × (reader [] (replicate places 7 ++ (9 ∷ [])) .plan ≡ noPlan)
-unfolding version opening head preamble planFile reader
+unfolding field version opening head preamble planFile reader
 empty-file-leaves = reader-other-leaves [] (replicate places 7 ++ (9 ∷ [])) wrongVersion [] refl (λ e. absurd (let z : wrongVersion ≡ bufferTooShort = e in omega arith))
 
 -- An empty file shows no name, and plan E's file shows no third one.
 empty-file-shows-nothing : nameShown [] 0 ≡ []
-unfolding version opening head preamble planFile
+unfolding field version opening head preamble planFile
 empty-file-shows-nothing = refused-file-shows-nothing [] (refusalOf wrongVersion) 0 refl
 
 E-shows-no-third : nameShown fileE 2 ≡ []

@@ -5,9 +5,10 @@ use mathlib.Core.List.{List, [], _∷_, _++_}
 use Prim.Native.Nat.{ℕ, zero, suc, _+_, _*_}
 use native.Mathlib.Omega.{arith}
 use lib.Dec.{leb, ltb, eqb}
-use lib.ListN.{length, getD, take, drop, set, replicate}
+use lib.ListN.{length, take, drop, set, replicate}
 use Rattle.base.specs.Sum.{sum}
-use Rattle.plan.specs.Edition.{mostJobs, mostRows, mostIntervals, places}
+use Rattle.plan.specs.Edition.{mostIntervals, places}
+use Rattle.plan.specs.Versions.{newestVersion, countAllowedIn, rowsAllowedIn}
 use Rattle.planfields.specs.Layout.{jobLength, rowLength}
 use Rattle.plan.specs.Refusal.{refusalOf, wrongVersion, wrongExtent, wrongRecordLength, wrongRates, wrongJobCount, wrongNameByte, nameTaken, wrongGrade, wrongJobBounds, tooManyRows, rowWithoutJob, rowWithoutInterval, rowWithoutUnits, rowOutOfOrder, outsideWindow, wrongTotal, overCapacity, belowFloorRule, clockAtEnd, speedAboveNormal, unsound, bufferTooShort}
 use Rattle.base.specs.Below
@@ -17,7 +18,7 @@ use Rattle.plan.specs.Table.{place, noStray, sound}
 use Rattle.plan.specs.declared.kinds.Job.{Job}
 use Rattle.plan.specs.declared.kinds.Plan.{Plan}
 use Rattle.fields.specs.Bytes.{bytes, value}
-use Rattle.fields.specs.Parsers.{Parsed, got, no, Parser, onward, test, field, checked, version, extent, opening, ended}
+use Rattle.fields.specs.Parsers.{Parsed, got, no, Parser, onward, test, field, checked, recordLength, refusedAs, isVersion, version, extent, opening, ended}
 use Rattle.planfields.specs.Records.{head, named, jobName, oneJob}
 use Rattle.plan.specs.Rules.{noPlan}
 use Rattle.planfile.specs.Reader.{namesOf, allJobs, position, oneRow, allRows, Contents, preamble, planFile, readFile, leaves, reader}
@@ -77,29 +78,45 @@ module _ (file : List ℕ) where
       only-onward fileNumbers (field w file at) _ file (field-only w at)
       (λ x next. only-onward fileNumbers (test (ok x) number file next) _ file (only-test fileNumbers (ok x) number file next h) (λ _ _. tt))
 
-  opening-only : (at : ℕ) → Only fileNumbers (opening file at)
-  unfolding opening version extent
-  opening-only at =
-      only-onward fileNumbers (version file at) _ file (only-cond fileNumbers (ltb at (length file) && eqb (getD file at 0) 1) wrongVersion 1 (at + 1) refl)
-      (λ _ next.
-      only-onward fileNumbers (field 4 file next) _ file (field-only 4 next)
-      (λ n from. only-cond fileNumbers (eqb (from + n) (length file)) wrongExtent n from refl))
+  version-only : (newest at : ℕ) → Only fileNumbers (version newest file at)
+  unfolding field version
+  version-only newest at = by (checked 1 (isVersion newest) wrongVersion file at)
+    where
+      by : (s : Parsed ℕ) → Only fileNumbers (refusedAs wrongVersion s)
+      by (got v next) = tt
+      by (no k) = refl
 
-  pub head-only : (most at : ℕ) → Only fileNumbers (head most file at)
+  extent-only : (compared : Bool) (at : ℕ) → Only fileNumbers (extent compared file at)
+  unfolding extent
+  extent-only compared at =
+      only-onward fileNumbers (field 4 file at) _ file (field-only 4 at)
+      (λ says next. only-test fileNumbers (not compared || eqb (next + says) (length file)) wrongExtent file next refl)
+
+  pub opening-only : (newest : ℕ) (compared : Bool) (at : ℕ) → Only fileNumbers (opening newest compared file at)
+  unfolding opening
+  opening-only newest compared at =
+      only-onward fileNumbers (version newest file at) _ file (version-only newest at)
+      (λ _ next. only-onward fileNumbers (extent compared file next) _ file (extent-only compared next) (λ _ _. tt))
+
+  pub head-only : (compared : Bool) (at : ℕ) → Only fileNumbers (head compared file at)
   unfolding head
-  head-only most at =
-      only-onward fileNumbers (opening file at) _ file (opening-only at)
-      (λ _ a₁. only-onward fileNumbers (field 2 file a₁) _ file (field-only 2 a₁)
+  head-only compared at =
+      only-onward fileNumbers (opening newestVersion compared file at) _ file (opening-only newestVersion compared at)
+      (λ v a₁. only-onward fileNumbers (field 2 file a₁) _ file (field-only 2 a₁)
       (λ n a₂. only-onward fileNumbers (field 2 file a₂) _ file (field-only 2 a₂)
       (λ d a₃. only-onward fileNumbers (test (ratesAllowed n d) wrongRates file a₃) _ file (only-test fileNumbers (ratesAllowed n d) wrongRates file a₃ refl)
-      (λ _ a₄. only-onward fileNumbers (checked 1 (λ c. leb 1 c && leb c most) wrongJobCount file a₄) _ file (checked-only 1 (λ c. leb 1 c && leb c most) wrongJobCount a₄ refl)
+      (λ _ a₄. only-onward fileNumbers (checked 1 (countAllowedIn v) wrongJobCount file a₄) _ file (checked-only 1 (countAllowedIn v) wrongJobCount a₄ refl)
       (λ _ _. tt)))))
 
+  pub length-only : (long at : ℕ) → Only fileNumbers (recordLength long file at)
+  unfolding recordLength
+  length-only long at =
+      only-onward fileNumbers (field 1 file at) _ file (field-only 1 at)
+      (λ x next. only-test fileNumbers (eqb x long) wrongRecordLength file next refl)
+
   pub named-only : (long at : ℕ) → Only fileNumbers (named long file at)
-  unfolding named
-  named-only long at =
-      only-onward fileNumbers (checked 1 (λ x. eqb x long) wrongRecordLength file at) _ file (checked-only 1 (λ x. eqb x long) wrongRecordLength at refl)
-      (λ _ next. field-only 8 next)
+  unfolding recordLength named
+  named-only long at = only-onward fileNumbers (recordLength long file at) _ file (length-only long at) (λ _ next. field-only 8 next)
 
   name-only : (earlier : List ℕ) (at : ℕ) → Only fileNumbers (jobName earlier file at)
   unfolding jobName
@@ -149,15 +166,15 @@ module _ (file : List ℕ) where
 
   pub end-only : (at : ℕ) → Only fileNumbers (ended file at)
   unfolding ended
-  end-only at = only-cond fileNumbers (eqb at (length file)) wrongExtent tt at refl
+  end-only at = only-test fileNumbers (eqb at (length file)) wrongExtent file at refl
 
   pub file-only : Only fileNumbers (readFile file)
   unfolding planFile preamble
   file-only =
       only-onward fileNumbers (preamble file 0) _ file
-      (only-onward fileNumbers (head mostJobs file 0) _ file (head-only mostJobs 0)
+      (only-onward fileNumbers (head true file 0) _ file (head-only true 0)
       (λ h a₁. only-onward fileNumbers (allJobs (h .count) [] file a₁) _ file (jobs-only (h .count) [] a₁)
-      (λ _ a₂. only-onward fileNumbers (checked 2 (λ r. leb r mostRows) tooManyRows file a₂) _ file (checked-only 2 (λ r. leb r mostRows) tooManyRows a₂ refl)
+      (λ _ a₂. only-onward fileNumbers (checked 2 (rowsAllowedIn (h .version)) tooManyRows file a₂) _ file (checked-only 2 (rowsAllowedIn (h .version)) tooManyRows a₂ refl)
       (λ _ _. tt))))
       (λ f b₁. only-onward fileNumbers (allRows (f .rows) mostIntervals (f .names) (intervals (f .plan)) 0 (replicate places 0) file b₁) _ file
       (rows-only (f .rows) mostIntervals (f .names) (intervals (f .plan)) 0 (replicate places 0) b₁)
@@ -355,7 +372,7 @@ line-numbers text out number e = by (ltb (length out) (length text)) e
 
 -- For each theorem above, an instance that meets its premise. An empty file is refused by 1.
 pub empty-file : reader [] (replicate places 7) .answer ≡ wrongVersion ∷ []
-unfolding version opening head preamble planFile reader
+unfolding field version opening head preamble planFile reader
 empty-file = refl
 
 -- Writing plan E is refused by 22 if the output has no room.

@@ -10,15 +10,16 @@ use lib.ListN.{length, replicate}
 use Rattle.base.specs.Sum.{sum}
 use Rattle.base.specs.Below
 use Rattle.plan.specs.Edition.{mostJobs, mostRows, mostRate, places}
+use Rattle.plan.specs.Versions.{newestVersion}
 use Rattle.plan.specs.Refusal.{wrongVersion, wrongExtent, wrongRecordLength, wrongRates, wrongJobCount, wrongNameByte, nameTaken, wrongGrade, wrongJobBounds, tooManyRows, rowWithoutJob, rowWithoutInterval, rowWithoutUnits, rowOutOfOrder, outsideWindow, wrongTotal, overCapacity, belowFloorRule, clockAtEnd, speedAboveNormal, unsound, bufferTooShort}
 use Rattle.plan.specs.Report.{Report, first}
 use Rattle.plan.specs.Rules.{lo, hi, noPlan, nameAllowed, isAbsent, namesHold, namesDiffer, gradesHold, boundsHold, rulesHold}
 use Rattle.plan.specs.Boundaries.{insert, boundariesTo}
 use Rattle.plan.specs.Table.{noStray, sound}
 use Rattle.plan.specs.declared.kinds.Plan.{Plan}
-use Rattle.planfields.specs.Layout.{versionByte, jobLength, rowLength}
+use Rattle.planfields.specs.Layout.{jobLength, rowLength}
 use Rattle.fields.specs.Bytes.{bytes, value}
-use Rattle.fields.specs.Parsers.{field, version, extent, opening, ended}
+use Rattle.fields.specs.Parsers.{field, version, extent, opening, ended, recordLength}
 use Rattle.planfields.specs.Records.{head, named, jobName, oneJob}
 use Rattle.planfile.specs.Reader.{allJobs, position, oneRow, allRows, preamble, planFile, readFile, leaves, reader, ReadEffect}
 use Rattle.planfile.proofs.WholeFile.{reader-long}
@@ -35,7 +36,7 @@ use Rattle.promises.proofs.Cases.{job, padded, planWith, tableOf, capit
 
 -- A file with the version and the right length before its body.
 abbrev whole : List ℕ → List ℕ
-whole body = bytes 1 versionByte ++ bytes 4 (length body) ++ body
+whole body = bytes 1 newestVersion ++ bytes 4 (length body) ++ body
 
 -- Both rates and the job count.
 abbrev headBytes : ℕ → ℕ → ℕ → List ℕ
@@ -86,7 +87,7 @@ headCases =
     gives [] wrongVersion
     ∷ gives (2 ∷ []) wrongVersion
     -- A wrong length field is 2 although the rates are wrong.
-    ∷ gives (bytes 1 versionByte ++ bytes 4 9 ++ bytes 2 2 ++ bytes 2 2) wrongExtent
+    ∷ gives (bytes 1 newestVersion ++ bytes 4 9 ++ bytes 2 2 ++ bytes 2 2) wrongExtent
     -- n is out of bounds, but d is cut.
     ∷ gives (whole (bytes 2 (mostRate + 1) ++ bytes 1 0)) wrongExtent
     -- Wrong rates are 4 although the count is missing, or is wrong too.
@@ -151,7 +152,7 @@ abbrev pub fileCases : List FileCase
 fileCases = headCases ++ jobCases ++ rowCases
 
 file-cases : (table : List ℕ) → map (λ (c : FileCase). leaves (readFile (c .file)) table .answer) fileCases ≡ map (λ (c : FileCase). c .must ∷ []) fileCases
-unfolding Below.every nameAllowed isAbsent insert boundariesTo bytes value field version extent opening head named jobName oneJob allJobs position oneRow allRows preamble planFile ended
+unfolding Below.every nameAllowed isAbsent insert boundariesTo bytes value field version extent opening head recordLength named jobName oneJob allJobs position oneRow allRows preamble planFile ended
 file-cases table = refl
 
 -- The reader gives each file its number, if the table is long enough.
@@ -311,7 +312,7 @@ pub host-file-order : (readCall [] [] (replicate places 7) .number ≡ bufferToo
     × (readCall [] (replicate planWords 7) (replicate places 7) .number ≡ wrongVersion)
     × (writeCall [] tableE [] 0 .number ≡ bufferTooShort)
     × (writeCall (replicate planWords 0) tableE [] 0 .number ≡ unsound)
-unfolding tableOf rulesHold sound version opening head preamble planFile reader writer jobsTo planIn planOf readCall writeCall
+unfolding tableOf rulesHold sound field version opening head preamble planFile reader writer jobsTo planIn planOf readCall writeCall
 host-file-order = (refl, refl, refl, refl)
 
 -- `slack_of` with a time before the interval's start is 0: neither capacity nor demand. Boundary 3 is
