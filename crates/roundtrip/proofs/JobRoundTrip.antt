@@ -84,9 +84,13 @@ job-law file earlier =
     let w = both (ltb (j .release .0) (j .deadline .0)) (leb (j .deadline .0) mostDeadline) (t .0) in
     let from = ltb-true (j .release .0) (j .deadline .0) (w .0) in
     let to = leb-true (j .deadline .0) mostDeadline (w .1) in
-    let size = leb-true (j .size .0) mostSize (both (leb 1 (j .size .0)) (leb (j .size .0) mostSize) (t .1) .1) in
-    ((ok .fits, (ok .allowed, (ok .absent, refl))), ((grade-small (j .grade) (ok .graded), ok .graded),
-    (omega (arith, from, to), (omega (arith, size), (omega (arith, to), (ok .bounds, refl)))))))
+    let size = leb-true (j .size .0) mostSize (both (leb 1 (j .size .0)) (leb (j .size .0) mostSize) (t .1) .1) in (
+      (ok .fits, (ok .allowed, (ok .absent, refl))),
+      (
+        (grade-small (j .grade) (ok .graded), ok .graded),
+        (omega (arith, from, to), (omega (arith, size), (omega (arith, to), (ok .bounds, refl)))),
+      ),
+    ))
     (λ j good. record {
       fits = good .0 .0;
       allowed = good .0 .1 .0;

@@ -119,9 +119,19 @@ module _ (names : List ℕ) (spans : ℕ) (differ : Distinct names) (narrow : sp
       (λ a b first good.
       ap (λ (r : Row). getD names (r .at / mostIntervals) 0) (good .1 .1 .1 .1) ∙ name-of-place a (b .at % mostIntervals) (good .0) (ltb-true _ spans (good .1 .0 .1))))
       (λ r ok.
-      let p = place-of-name (r .at) (ok .job) in
-      (ok .fits, (p .0, ((omega (arith, ok .interval, narrow), lt-ltb (r .at % mostIntervals) spans (ok .interval)), ((ok .small, unit-test (ok .some)),
-      (rw (p .1) (le-leb low (r .at) (ok .after)), ap (λ k. record { at = k; units = r .units }) (sym (p .1))))))))
+      let p = place-of-name (r .at) (ok .job) in (
+        ok .fits,
+        (
+          p .0,
+          (
+            (omega (arith, ok .interval, narrow), lt-ltb (r .at % mostIntervals) spans (ok .interval)),
+            (
+              (ok .small, unit-test (ok .some)),
+              (rw (p .1) (le-leb low (r .at) (ok .after)), ap (λ k. record { at = k; units = r .units }) (sym (p .1))),
+            ),
+          ),
+        ),
+      ))
       (λ r good.
       let i = position names (getD names (r .at / mostIntervals) 0) in
       let j = r .at % mostIntervals in

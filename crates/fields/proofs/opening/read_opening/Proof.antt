@@ -40,9 +40,11 @@ returns-2 c =
     let at-read-extent = c .before .before .before in
     let at-byte = at-read-extent .before .before in
     let at-read-version = at-byte .before .before in
-    let a = at-read-version .before .before .args in
-    (opening-unmeasured (a .newest) (isCompared (a .lengths)) (a .file .now) (so fieldView (at-read-version .read-version .ensures .0) (at-byte .byte .given .1))
-    (refused passedView passedRefusal (at-read-extent .read-extent .ensures) (c .before .enum-told2 .given .1) refl refl (c .passed-refusal .ensures)), lit< tt)
+    let a = at-read-version .before .before .args in (
+      opening-unmeasured (a .newest) (isCompared (a .lengths)) (a .file .now) (so fieldView (at-read-version .read-version .ensures .0) (at-byte .byte .given .1))
+          (refused passedView passedRefusal (at-read-extent .read-extent .ensures) (c .before .enum-told2 .given .1) refl refl (c .passed-refusal .ensures)),
+      lit< tt,
+    )
 
 returns-3 : tie.Need-returns-3
 returns-3 c =
@@ -50,9 +52,11 @@ returns-3 c =
     let at-read-extent = at-extent .before .before in
     let at-byte = at-read-extent .before .before in
     let at-read-version = at-byte .before .before in
-    let a = at-read-version .before .before .args in
-    (opening-right (a .newest) (isCompared (a .lengths)) (a .file .now) (so fieldView (at-read-version .read-version .ensures .0) (at-byte .byte .given .1))
-    (so passedView (at-read-extent .read-extent .ensures) (at-extent .extent .given .1)), small (at-read-version .read-version .ensures .1) (at-byte .byte .given .1))
+    let a = at-read-version .before .before .args in (
+      opening-right (a .newest) (isCompared (a .lengths)) (a .file .now) (so fieldView (at-read-version .read-version .ensures .0) (at-byte .byte .given .1))
+          (so passedView (at-read-extent .read-extent .ensures) (at-extent .extent .given .1)),
+      small (at-read-version .read-version .ensures .1) (at-byte .byte .given .1),
+    )
 
 pub read-opening-spec : {M : Type 1} → statement M
 read-opening-spec =

@@ -30,18 +30,22 @@ returns-2 c =
     let at-is-version = c .before in
     let at-byte = at-is-version .before .before in
     let at-read-byte = at-byte .before .before in
-    let a = at-read-byte .before .before .args in
-    (version-other (a .newest) (a .file .now) 0 (so fieldView (at-read-byte .read-byte .ensures .0) (at-byte .byte .given .1))
-    (failed (at-is-version .is-version .ensures) (c .if1 .taken)), lit< tt)
+    let a = at-read-byte .before .before .args in (
+      version-other (a .newest) (a .file .now) 0 (so fieldView (at-read-byte .read-byte .ensures .0) (at-byte .byte .given .1))
+          (failed (at-is-version .is-version .ensures) (c .if1 .taken)),
+      lit< tt,
+    )
 
 returns-3 : tie.Need-returns-3
 returns-3 c =
     let at-is-version = c .before in
     let at-byte = at-is-version .before .before in
     let at-read-byte = at-byte .before .before in
-    let a = at-read-byte .before .before .args in
-    (version-right (a .newest) (a .file .now) 0 (so fieldView (at-read-byte .read-byte .ensures .0) (at-byte .byte .given .1))
-    (held (at-is-version .is-version .ensures) (c .if1 .left)), small (at-read-byte .read-byte .ensures .1) (at-byte .byte .given .1))
+    let a = at-read-byte .before .before .args in (
+      version-right (a .newest) (a .file .now) 0 (so fieldView (at-read-byte .read-byte .ensures .0) (at-byte .byte .given .1))
+          (held (at-is-version .is-version .ensures) (c .if1 .left)),
+      small (at-read-byte .read-byte .ensures .1) (at-byte .byte .given .1),
+    )
 
 pub read-version-spec : {M : Type 1} → statement M
 read-version-spec =
