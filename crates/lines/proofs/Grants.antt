@@ -7,7 +7,7 @@ use native.Mathlib.Omega.{arith}
 use lib.ListN.{getD}
 use Rattle.plan.specs.Rules.{name}
 use Rattle.plan.specs.declared.kinds.Plan.{Plan}
-use Rattle.lines.specs.Text.{text}
+use Rattle.text.specs.Text.{text}
 use Rattle.lines.specs.inner.Growth.{Grown}
 use Rattle.lines.specs.Lines.{grantText, grantsText, orDash}
 use Rattle.lines.proofs.Growth.{grown-twice}

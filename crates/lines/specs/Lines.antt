@@ -9,7 +9,7 @@ use Rattle.plan.specs.Edition.{nameBytes, mostJobs}
 use Rattle.plan.specs.Rules.{name, counted}
 use Rattle.plan.specs.declared.kinds.Plan.{Plan}
 use Rattle.dispatch.specs.Step.{Ending, met, discarded, missed, stillOpen, refused}
-use Rattle.lines.specs.Text.{text, decimal, mostDigits, nameText}
+use Rattle.text.specs.Text.{text, decimal, mostDigits, nameText}
 
 -- The header of the slots.
 abbrev pub slotHeader : List ℕ

@@ -3,7 +3,6 @@
 // line is longer than LONGEST_LINE, whatever its numbers are.
 mod pieces;
 
-use crate::pieces::MOST_DIGITS;
 use crate::pieces::add;
 use crate::pieces::add_grants;
 use crate::pieces::add_name;
@@ -17,10 +16,11 @@ use plan::kinds::Name;
 use plan::kinds::Plan;
 use plan::kinds::Slots;
 use plan::refusal::BUFFER_TOO_SHORT;
+use text::MOST_DIGITS;
 ghost use Prim.Native.Nat.{_≤_};
 ghost use lib.ListN.{length};
 ghost use Rattle.dispatch.specs.Answers.{outcomeView};
-ghost use Rattle.lines.specs.Text.{mostDigits};
+ghost use Rattle.text.specs.Text.{mostDigits};
 ghost use Rattle.lines.specs.Answers.{Prints, PrintsOutcome};
 ghost use Rattle.lines.specs.Lines.{slotHeader, outcomeHeader, strayLine, refusedLine, slotLine, refusedSlotLine, outcomeLine, endingWord, longestLine};
 

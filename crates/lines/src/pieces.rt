@@ -1,23 +1,21 @@
 // The pieces of a line: words, numbers in decimal, and names as their bytes. Each call appends one
 // to the line's first `at` bytes and returns the offset at which the line then ends.
-use plan::edition::Edition;
 use plan::kinds::Name;
 use plan::kinds::Plan;
 use plan::kinds::Slots;
 use plan::rules::counted_of;
+use text::digits_of;
+use text::name_text;
 ghost use mathlib.Core.Path.{_≡_};
 ghost use mathlib.Core.List.{_++_};
-ghost use Prim.Native.Nat.{_+_, _*_, _%_, _≤_};
-ghost use lib.ListN.{length, drop, getD};
+ghost use Prim.Native.Nat.{_+_, _*_, _≤_};
+ghost use lib.ListN.{length, getD};
 ghost use lib.Seq.{paste};
 ghost use Rattle.plan.specs.Edition.{nameBytes, mostJobs};
 ghost use Rattle.plan.specs.Rules.{counted};
-ghost use Rattle.lines.specs.Text.{text, decimal, mostDigits, nameText};
+ghost use Rattle.text.specs.Text.{text, decimal, mostDigits, nameText};
 ghost use Rattle.lines.specs.Lines.{modeText, grantText, grantsText, orDash, grantBytes};
 ghost use Rattle.lines.specs.inner.Growth.{Grown};
-
-// The greatest number of digits of a 32-bit number.
-pub(crate) const MOST_DIGITS: usize = 10;
 
 // Copies a text to offset `at` of a buffer.
 pub(crate) fn put(out: &mut [u8], at: usize, text: &[u8])
@@ -40,28 +38,6 @@ pub(crate) fn add(line: &mut [u8], at: usize, text: &[u8]) -> usize
     at + text.len()
 }
 
-// The digits of a number: the bytes from index `from` to the end.
-struct Digits {
-    bytes: [u8; MOST_DIGITS],
-    from: usize,
-}
-
-// The decimal digits of a number, computed from the last to the first.
-fn digits_of(number: u32) -> Digits
-    ensures { λ r. ⌜ (drop (r .from) (r .bytes) ≡ decimal number) × (r .from ≤ mostDigits) × (length (r .bytes) ≡ mostDigits) ⌝ }
-{
-    let mut bytes = [0u8; MOST_DIGITS];
-    let mut from = MOST_DIGITS - 1;
-    let mut rest = number;
-    while 10 <= rest {
-        bytes[from] = b'0' + (rest % 10) as u8;
-        from -= 1;
-        rest = rest / 10;
-    }
-    bytes[from] = b'0' + rest as u8;
-    Digits { bytes, from }
-}
-
 // Appends a number in decimal to a line.
 pub(crate) fn add_number(line: &mut [u8], at: usize, number: u32) -> usize
     requires { ⌜ at + mostDigits ≤ length (now line) ⌝ }
@@ -71,30 +47,6 @@ pub(crate) fn add_number(line: &mut [u8], at: usize, number: u32) -> usize
     let bytes = digits.bytes;
     let from = digits.from;
     add(line, at, &bytes[from..])
-}
-
-// The lowest byte of a number.
-fn low_byte(x: u64) -> u8
-    ensures { λ r. ⌜ r ≡ x % 256 ⌝ }
-{
-    (x % 256) as u8
-}
-
-// The eight bytes of a name.
-fn name_text(name: Name) -> [u8; Edition::NAME_BYTES]
-    ensures { λ r. ⌜ r ≡ nameText (name .0) ⌝ }
-{
-    let x = name.0;
-    [
-        low_byte(x / 0x0100_0000_0000_0000),
-        low_byte(x / 0x01_0000_0000_0000),
-        low_byte(x / 0x0100_0000_0000),
-        low_byte(x / 0x01_0000_0000),
-        low_byte(x / 0x0100_0000),
-        low_byte(x / 0x01_0000),
-        low_byte(x / 0x0100),
-        low_byte(x),
-    ]
 }
 
 // Appends a name to a line.

@@ -32,7 +32,7 @@ use Rattle.dispatch.proofs.SlotLimits as never
 use Rattle.lines.specs.Answers as line
 use Rattle.lines.specs.Answers.{refusal, printed, outcomePrinted}
 use Rattle.lines.specs.Lines.{strayLine, outcomeLine}
-use Rattle.lines.specs.Text.{text}
+use Rattle.text.specs.Text.{text}
 use Rattle.promises.proofs.Cases.{planWith, tableOf, planE, tableE, fileE, P3, capitalMirror}
 use Rattle.promises.proofs.RefusalNumbers.{Only, fileNumbers, file-only, P3-refused, E-too-fast, line-without-room}
 use Rattle.promises.specs.Numbers.{isOneOf}

@@ -17,7 +17,7 @@ use Rattle.dispatch.specs.Step.{SlotEffect, refused, started, slotSound, outcom
 use Rattle.dispatch.specs.declared.Run.{Run}
 use Rattle.base.proofs.Logic.{if-true}
 use Rattle.lines.specs.Lines.{grantText, grantsText, orDash, modeText, slotLine}
-use Rattle.lines.specs.Text.{text, decimal}
+use Rattle.text.specs.Text.{text, decimal}
 use Rattle.program.specs.Output.{speed, slotOf, slotText, endingText, jobText}
 use Rattle.program.specs.Turns.{Turned, progress, turn, slotTurn, jobTurn, turned}
 use Rattle.program.specs.declared.Phase.{Phase}

@@ -4,8 +4,8 @@ use native.Mathlib.Omega.{arith}
 use borrow.Author.Needs.{needs}
 use lib.ListN.{length-append}
 use Rattle.lines.specs.Lines.{outcomeLine}
-use Rattle.lines.specs.Text.{text, decimal}
-use Rattle.lines.proofs.Decimal.{decimal-length}
+use Rattle.text.specs.Text.{text, decimal}
+use Rattle.text.proofs.Decimal.{decimal-length}
 use Rattle.lines.proofs.outcome_line.Statement.{statement}
 use Rattle.lines.proofs.outcome_line.Tie as tie
 

@@ -2,35 +2,41 @@
 use mathlib.Core.Path.{_∙_}
 use native.Mathlib.Omega.{arith}
 use borrow.Author.Needs.{needs}
-use Rattle.lines.specs.Text.{mostDigits}
-use Rattle.lines.proofs.Decimal.{decimal-length}
+use Rattle.text.specs.Text.{mostDigits}
+use Rattle.text.proofs.Decimal.{decimal-length, Shown, shown}
 use Rattle.lines.proofs.Growth.{grown-same, part-to-end}
 use Rattle.lines.proofs.pieces.add_number.Statement.{statement}
 use Rattle.lines.proofs.pieces.add_number.Tie as tie
+
+-- What is known of the digits that are computed.
+computed : (c : tie.After-digits-of) → Shown (c .before .before .args .number) (c .digits-of .result)
+computed c = rw (c .digits-of .ensures) (shown (c .before .before .args .number) (omega arith))
 
 digits-of-requires : tie.Need-digits-of-requires
 digits-of-requires c κs = search needs
 
 sub-add : tie.Need-sub-add
-sub-add c = search needs
+sub-add c = let d = computed (c .before .before) in search needs
 
 part-add-start : tie.Need-part-add-start
-part-add-start c = search needs
+part-add-start c = let d = computed (c .before .before .before) in search needs
 
 part-add-end : tie.Need-part-add-end
-part-add-end c = search needs
+part-add-end c = let d = computed (c .before .before .before) in search needs
 
 add-requires : tie.Need-add-requires
-add-requires c κs = search needs
+add-requires c κs = let d = computed (c .before .before .before .before) in search needs
 
 same-length : tie.Need-same-length
 same-length c = search needs
 
 returns : tie.Need-returns
 returns c =
-    let d = c .before .before .before .before .before .before .before .digits-of in
-    let g = grown-same (part-to-end (d .result .bytes) (d .result .from) mostDigits (d .ensures .2) ∙ d .ensures .0) (c .before .before .add .ensures) in
-    (g, omega (arith, g .end, decimal-length (c .before .before .before .before .before .before .before .before .before .args .number) (omega arith)))
+    let at = c .before .before .before .before .before .before .before in
+    let d = computed at in
+    let r = at .digits-of .result in
+    let g = grown-same (part-to-end (r .bytes) (r .from) mostDigits (d .bytes) ∙ d .digits) (c .before .before .add .ensures) in
+    (g, omega (arith, g .end, decimal-length (at .before .before .args .number) (omega arith)))
 
 pub add-number-spec : {M : Type 1} → statement M
 add-number-spec =

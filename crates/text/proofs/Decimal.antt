@@ -1,17 +1,18 @@
 -- Laws of decimal numbers: how the digits are computed from the
--- last to the first, and how many there are.
-use mathlib.Core.Path.{_≡_, sym, _∙_, ap}
+-- last to the first, how many there are, and where they stand.
+use mathlib.Core.Path.{_≡_, refl, sym, _∙_, ap}
 use mathlib.Core.Bool.{Bool, true, false, cond}
-use mathlib.Core.List.{List, [], _∷_}
+use mathlib.Core.List.{List, [], _∷_, _++_}
 use Prim.Native.Nat.{ℕ, zero, suc, _+_, _-_, _/_, _%_, _^_, _≤_, _<_}
 use native.Mathlib.Nat.{div-lt-iff-lt-mul, pow-suc}
 use native.Mathlib.Decide.{decLt}
 use native.Mathlib.Omega.{arith}
 use borrow.Author.Tests.{lt-ltb, le-ltb}
 use lib.Dec.{ltb}
-use lib.ListN.{length, drop, set}
-use Rattle.base.proofs.Stores.{drop-set}
-use Rattle.lines.specs.Text.{digits, digit, decimal, mostDigits}
+use lib.ListN.{length, drop, set, replicate, length-append, length-replicate}
+use lib.Seq.{drop-at}
+use Rattle.text.specs.Text.{digits, digit, decimal, mostDigits, digitsOf}
+use Rattle.text.specs.declared.Digits.{Digits}
 
 -- The digits of a number with one digit, and of a number with more.
 pub digits-one : (most n : ℕ) (tail : List ℕ) → n < 10 → digits (suc most) n tail ≡ digit n ∷ tail
@@ -66,9 +67,30 @@ digits-length (suc most) n tail = go (ltb n 10) (digits-length most (n / 10) (di
 pub decimal-length : (n : ℕ) → n < 10 ^ mostDigits → length (decimal n) ≤ mostDigits
 decimal-length n h = omega (arith, digits-length mostDigits n [], ap length (digits-ten n h))
 
--- One iteration of the loop: the rest of the number followed by the digits found remains the same text.
-pub digits-turn : (from rest : ℕ) (l : List ℕ) → from < length l → 0 < from → 10 ≤ rest
-    → digits (suc (from - 1)) (rest / 10) (drop (suc (from - 1)) (set l from (digit (rest % 10)))) ≡ digits (suc from) rest (drop (suc from) l)
-digits-turn from rest l h o t =
-    let e : suc (from - 1) ≡ from = omega arith in
-    rw (e, drop-set l from (digit (rest % 10)) h) (sym (digits-more from rest (drop (suc from) l) t))
+-- A digit stored at the last of the zeros before some bytes stands before those bytes.
+pub digit-before : (from d : ℕ) (tail : List ℕ) → set (replicate (suc from) 0 ++ tail) from d ≡ replicate from 0 ++ (d ∷ tail)
+digit-before zero d tail = refl
+digit-before (suc from) d tail = ap (λ l. 0 ∷ l) (digit-before from d tail)
+
+-- Once the bytes are zeros and then all digits, they are those of `digitsOf`.
+pub digits-found : (n from : ℕ) (l : List ℕ) → l ≡ replicate from 0 ++ decimal n → length l ≡ mostDigits
+    → _≡_ {A = Digits} (record { bytes = l; from = from }) (digitsOf n)
+digits-found n from l e h =
+    let start : mostDigits - length (decimal n) ≡ from
+    = omega (arith, ap length e, length-append (replicate from 0) (decimal n), length-replicate {A = ℕ} from 0) in
+    rw (start, e) refl
+
+-- The bytes of `digitsOf` from its index on are the number in decimal, for every number below 10^10.
+pub record Shown (n : ℕ) (d : Digits) : Type 0 where
+  pub digits : drop (d .from) (d .bytes) ≡ decimal n
+  pub start : d .from ≤ mostDigits
+  pub bytes : length (d .bytes) ≡ mostDigits
+
+pub shown : (n : ℕ) → n < 10 ^ mostDigits → Shown n (digitsOf n)
+shown n h =
+    let from = mostDigits - length (decimal n) in
+    record {
+      digits = drop-at (replicate from 0) (decimal n) from (length-replicate from 0);
+      start = omega arith;
+      bytes = length-append (replicate from 0) (decimal n) ∙ omega (arith, length-replicate {A = ℕ} from 0, decimal-length n h);
+    }

@@ -1,11 +1,13 @@
--- The parts of lines: words, numbers in decimal, and names as their bytes.
+-- Texts as bytes: words, numbers in decimal, and names.
 use mathlib.Core.Bool.{cond}
-use mathlib.Core.List.{List, [], _∷_}
-use Prim.Native.Nat.{ℕ, zero, suc, _+_, _/_, _%_}
+use mathlib.Core.List.{List, [], _∷_, _++_}
+use Prim.Native.Nat.{ℕ, zero, suc, _+_, _-_, _/_, _%_}
 use Prim.Native.Char.{code}
 use Prim.Native.String.{String, [] as none, _∷_ as _then_}
 use lib.Dec.{ltb}
+use lib.ListN.{length, replicate}
 use Rattle.plan.specs.Rules.{byteOf}
+use Rattle.text.specs.declared.Digits.{Digits}
 
 -- The codes of a text, which are its bytes if all of it is ASCII.
 abbrev pub text : String → List ℕ
@@ -28,6 +30,13 @@ decimal n = digits (suc n) n []
 -- The greatest number of digits of a 32-bit number.
 abbrev pub mostDigits : ℕ
 mostDigits = 10
+
+-- A number in decimal at the end of `mostDigits` bytes, with zeros before it, and the index of its
+-- first digit. More than `mostDigits` digits have index 0 and no zeros.
+abbrev pub digitsOf : ℕ → Digits
+digitsOf n =
+    let from = mostDigits - length (decimal n) in
+    record { bytes = replicate from 0 ++ decimal n; from = from }
 
 -- The lowest eight bytes of a number, highest first: all bytes of a name.
 abbrev pub nameText : ℕ → List ℕ

@@ -1,9 +1,9 @@
--- `lines::pieces::name_text` meets its contract: byte by byte.
+-- `text::name_text` meets its contract: byte by byte.
 use mathlib.Core.Path.{refl}
 use native.Mathlib.Nat.{div-one}
 use borrow.Author.Needs.{needs}
-use Rattle.lines.proofs.pieces.name_text.Statement.{statement}
-use Rattle.lines.proofs.pieces.name_text.Tie as tie
+use Rattle.text.proofs.name_text.Statement.{statement}
+use Rattle.text.proofs.name_text.Tie as tie
 
 low-byte-requires : tie.Need-low-byte-requires
 low-byte-requires c κs = search needs

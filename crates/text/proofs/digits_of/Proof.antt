@@ -1,26 +1,26 @@
--- `lines::pieces::digits_of` meets its contract. Loop invariant: the rest of the number
--- followed by the digits found is the same text.
-use mathlib.Core.Path.{_≡_, refl, sym, _∙_}
+-- `text::digits_of` meets its contract. Loop invariant: the bytes are zeros and then the digits
+-- found, and the rest of the number followed by them is the same text.
+use mathlib.Core.Path.{_≡_, refl, sym, _∙_, ap}
+use mathlib.Core.List.{List, [], _∷_, _++_}
 use Prim.Native.Nat.{ℕ, zero, suc, _-_, _%_, _^_, _<_}
 use native.Mathlib.Omega.{arith}
-use lib.ListN.{length, drop, length-set}
-use Rattle.lines.specs.Text.{digits, digit, decimal, mostDigits}
-use Rattle.lines.proofs.Decimal.{digits-one, digits-ten, digits-turn, shorter}
-use Rattle.base.proofs.Stores.{drop-set}
-use Rattle.lines.proofs.pieces.digits_of.Statement.{statement}
-use Rattle.lines.proofs.pieces.digits_of.Tie as tie
+use lib.ListN.{length, set, replicate, length-set}
+use Rattle.text.specs.Text.{digits, digit, decimal, mostDigits}
+use Rattle.text.proofs.Decimal.{digits-one, digits-more, digits-ten, digit-before, digits-found, shorter}
+use Rattle.text.proofs.digits_of.Statement.{statement}
+use Rattle.text.proofs.digits_of.Tie as tie
 
 abbrev Inv-loop : tie.InvT-loop
 Inv-loop number bytes₀ from₀ rest₀ bytes from rest =
-    (from < mostDigits) × (rest < 10 ^ suc from) × (length bytes ≡ mostDigits)
-    × (digits (suc from) rest (drop (suc from) bytes) ≡ decimal number)
+    ((tail : List ℕ) × (bytes ≡ replicate (suc from) 0 ++ tail) × (digits (suc from) rest tail ≡ decimal number))
+    × (from < mostDigits) × (rest < 10 ^ suc from) × (length bytes ≡ mostDigits)
 
 abbrev μ-loop : tie.MeasureT-loop
 μ-loop number bytes₀ from₀ rest₀ bytes from rest = from
 
 -- While the rest has more than one digit, `from` is above 0.
 more : (c : tie.In-loop Inv-loop μ-loop) → 0 < c .before .loop .from
-more c = go (c .before .loop .from) (c .before .loop .inv .1)
+more c = go (c .before .loop .from) (c .before .loop .inv .2)
   where
     go : (from : ℕ) → c .before .loop .rest < 10 ^ suc from → 0 < from
     go zero h = absurd (omega arith)
@@ -30,7 +30,7 @@ sub-from : tie.Need-sub-from Inv-loop μ-loop
 sub-from c = omega arith
 
 loop-holds : tie.Need-loop-holds Inv-loop μ-loop
-loop-holds c = (omega arith, omega arith, refl, digits-ten (c .args .number) (omega arith))
+loop-holds c = (([], refl, digits-ten (c .args .number) (omega arith)), omega arith, omega arith, refl)
 
 cast-bytes : tie.Need-cast-bytes Inv-loop μ-loop
 cast-bytes c = omega arith
@@ -50,11 +50,17 @@ loop-less c = omega (arith, more c)
 loop-again : tie.Need-loop-again Inv-loop μ-loop
 loop-again c =
     let w = c .before .loop in
+    let d = digit (w .rest % 10) in
     let e : suc (w .from - 1) ≡ w .from = omega (arith, more c) in (
+      (
+        d ∷ w .inv .0 .0,
+        ap (λ l. set l (w .from) d) (w .inv .0 .1) ∙ digit-before (w .from) d (w .inv .0 .0)
+            ∙ ap (λ k. replicate k 0 ++ (d ∷ w .inv .0 .0)) (sym e),
+        rw e (sym (digits-more (w .from) (w .rest) (w .inv .0 .0) (c .loop-test .taken)) ∙ w .inv .0 .2),
+      ),
       omega arith,
-      rw e (shorter (w .from) (w .rest) (w .inv .1)),
-      length-set (w .bytes) (w .from) (digit (w .rest % 10)) ∙ w .inv .2,
-      digits-turn (w .from) (w .rest) (w .bytes) (omega arith) (more c) (c .loop-test .taken) ∙ w .inv .3,
+      rw e (shorter (w .from) (w .rest) (w .inv .2)),
+      length-set (w .bytes) (w .from) d ∙ w .inv .3,
     )
 
 cast-bytes-2 : tie.Need-cast-bytes-2 Inv-loop μ-loop
@@ -68,12 +74,12 @@ array-write-bytes-2 c = omega arith
 
 returns : tie.Need-returns Inv-loop μ-loop
 returns c =
-    let w = c .before .loop in (
-      drop-set (w .bytes) (w .from) (digit (w .rest)) (omega arith) ∙ sym (digits-one (w .from) (w .rest) (drop (suc (w .from)) (w .bytes)) (c .loop-test .left))
-          ∙ w .inv .3,
-      omega arith,
-      length-set (w .bytes) (w .from) (digit (w .rest)) ∙ w .inv .2,
-    )
+    let w = c .before .loop in
+    let d = digit (w .rest) in
+    digits-found (c .before .before .args .number) (w .from) (set (w .bytes) (w .from) d)
+    (ap (λ l. set l (w .from) d) (w .inv .0 .1) ∙ digit-before (w .from) d (w .inv .0 .0)
+    ∙ ap (λ l. replicate (w .from) 0 ++ l) (sym (digits-one (w .from) (w .rest) (w .inv .0 .0) (c .loop-test .left)) ∙ w .inv .0 .2))
+    (length-set (w .bytes) (w .from) d ∙ w .inv .3)
 
 pub digits-of-spec : {M : Type 1} → statement M
 digits-of-spec =
