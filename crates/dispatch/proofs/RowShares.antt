@@ -3,7 +3,7 @@
 use mathlib.Core.Path.{_≡_, refl, sym, _∙_, ap, ap₂}
 use mathlib.Core.Bool.{Bool, true, false, not, cond, _&&_, _||_}
 use mathlib.Core.List.{List, [], _∷_, _++_}
-use Prim.Native.Nat.{ℕ, zero, suc, _+_, _*_, _-_, _≤_, _<_, min}
+use Prim.Native.Nat.{ℕ, zero, suc, _+_, _*_, _-_, _^_, _≤_, _<_, min}
 use native.Mathlib.Numerals.{add-one}
 use native.Mathlib.Omega.{arith}
 use borrow.Author.Tests.{lt-ltb, le-ltb, eq-eqb, ne-eqb}
@@ -12,13 +12,14 @@ use lib.ListN.{length, getD, set, drop, replicate, length-set, length-append, le
 use lib.Seq.{getD-set-same, getD-set-other, getD-append-add, getD-drop, ext-getD}
 use Rattle.base.specs.Sum.{sum, on}
 use Rattle.base.proofs.SumLaws.{sum-ext}
+use Rattle.base.proofs.Choice.{on-less}
 use Rattle.plan.specs.Edition.{mostJobs, mostDeadline}
 use Rattle.plan.specs.Rules.{counted, deadline, isHi}
 use Rattle.plan.specs.declared.kinds.Plan.{Plan}
 use Rattle.dispatch.specs.declared.Run.{Run}
 use Rattle.dispatch.specs.Dues.{carriedOf, slowAfter}
-use Rattle.dispatch.specs.Order.{queue}
-use Rattle.dispatch.specs.inner.Shares.{claim, before, share, capped, rankAt, rank, rowShare, filled}
+use Rattle.dispatch.specs.Order.{queue, before, rankAt, rank}
+use Rattle.dispatch.specs.inner.Shares.{claim, share, capped, rowShare, filled}
 use Rattle.dispatch.specs.Step.{granted, added}
 use Rattle.dispatch.proofs.Queues.{queued, queue-queued, serve-absent, serve-length}
 use Rattle.base.proofs.Logic.{if-less, by-order, below-or-last}
@@ -130,13 +131,22 @@ ahead-by-rank from a b k i hk hi =
     (λ l. rw (le-ltb a b (omega arith), ne-eqb a b (omega arith))
     (sym (le-ltb ((from + a) * mostJobs + k) ((from + b) * mostJobs + i) (omega arith))))
 
--- A job is served before another exactly if its rank is less.
-before-by-rank : (h g : Bool) (a b k i : ℕ) → a ≤ mostDeadline → b ≤ mostDeadline → k < mostJobs → i < mostJobs
+-- The same for any two jobs, from their grades, deadlines and positions.
+any-by-rank : (h g : Bool) (a b k i : ℕ) → a ≤ mostDeadline → b ≤ mostDeadline → k < mostJobs → i < mostJobs
     → cond h (not g || (ltb a b || eqb a b && ltb k i)) (not g && (ltb a b || eqb a b && ltb k i)) ≡ ltb (rankAt h a k) (rankAt g b i)
-before-by-rank true true a b k i ha hb hk hi = ahead-by-rank 0 a b k i hk hi
-before-by-rank true false a b k i ha hb hk hi = sym (lt-ltb (rankAt true a k) (rankAt false b i) (omega arith))
-before-by-rank false true a b k i ha hb hk hi = sym (le-ltb (rankAt false a k) (rankAt true b i) (omega arith))
-before-by-rank false false a b k i ha hb hk hi = ahead-by-rank (mostDeadline + 1) a b k i hk hi
+any-by-rank true true a b k i ha hb hk hi = ahead-by-rank 0 a b k i hk hi
+any-by-rank true false a b k i ha hb hk hi = sym (lt-ltb (rankAt true a k) (rankAt false b i) (omega arith))
+any-by-rank false true a b k i ha hb hk hi = sym (le-ltb (rankAt false a k) (rankAt true b i) (omega arith))
+any-by-rank false false a b k i ha hb hk hi = ahead-by-rank (mostDeadline + 1) a b k i hk hi
+
+-- A job is served before another exactly if its rank is less.
+pub before-by-rank : (p : Plan) (k i : ℕ) → deadline p k ≤ mostDeadline → deadline p i ≤ mostDeadline → k < mostJobs → i < mostJobs
+    → before p k i ≡ ltb (rank p k) (rank p i)
+before-by-rank p k i = any-by-rank (isHi p k) (isHi p i) (deadline p k) (deadline p i) k i
+
+-- The rank of a counted job of a plan within its bounds fits in 32 bits.
+pub rank-small : (p : Plan) → Bounded p → (i : ℕ) → i < counted p → rank p i < 2 ^ 32
+rank-small p bounds i h = omega (arith, bounds .deadlines i h, on-less (not (isHi p i)) (mostDeadline + 1))
 
 module _ (p : Plan) (table : List ℕ) (run : Run) (v : ℕ) where
   abbrev jobs : ℕ
@@ -164,7 +174,7 @@ module _ (p : Plan) (table : List ℕ) (run : Run) (v : ℕ) where
       jobs
       (λ k l. ap₂ on
       (ap₂ ltb (filled-at (rank p) jobs (replicate mostJobs 0) k (room k l) l) (filled-at (rank p) jobs (replicate mostJobs 0) i (room i counts) counts)
-      ∙ sym (before-by-rank (isHi p k) (isHi p i) (deadline p k) (deadline p i) k i (bounds .deadlines k l) (bounds .deadlines i counts) (omega arith) (omega arith)))
+      ∙ sym (before-by-rank p k i (bounds .deadlines k l) (bounds .deadlines i counts) (omega arith) (omega arith)))
       (filled-at (capped p table run (slowAfter p run v)) jobs (replicate mostJobs 0) k (room k l) l)) in
       ap₂ (λ x s. min x (v - s)) own others
       ∙ capped-share (claims i) v (p .n .0) _ normal

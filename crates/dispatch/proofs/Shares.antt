@@ -15,8 +15,8 @@ use Rattle.plan.specs.Rules.{counted, deadline, isHi}
 use Rattle.plan.specs.declared.kinds.Plan.{Plan}
 use Rattle.dispatch.specs.declared.Run.{Run}
 use Rattle.dispatch.specs.Dues.{live, slowAfter, due}
-use Rattle.dispatch.specs.Order.{queue, order, serve}
-use Rattle.dispatch.specs.inner.Shares.{served, claim, ahead, share}
+use Rattle.dispatch.specs.Order.{queue, order, ahead, serve}
+use Rattle.dispatch.specs.inner.Shares.{served, claim, share}
 use Rattle.dispatch.specs.Step.{granted}
 use Rattle.dispatch.proofs.Queues.{over, front, queued, gets, queue-in-order, queue-queued, queue-once, over-queue, front-queue, serve-absent, serve-gets, gets-share, serve-both, serve-length, first-get, all-get}
 use Rattle.base.proofs.Logic.{if-true}

@@ -3,7 +3,7 @@ pub mod answers;
 mod choice;
 mod claims;
 pub mod outcome;
-mod ranks;
+pub mod ranks;
 mod slot;
 pub mod soundness;
 pub mod start;

@@ -93,7 +93,7 @@ pub fn step(p: Plan, table: &[u32], run: Run, v: u16, grants: &mut [u32]) -> Ste
     let mut i = 0;
     while i < jobs {
         let job = p.jobs[i];
-        ranks[i] = rank_of(job.grade, job.deadline, i);
+        ranks[i] = rank_of(job.grade, job.deadline, i as u32) as u32;
         let allotted = Units(sum_of(table, Edition::MOST_INTERVALS * i, 1, begun));
         let claim = claim_of(job, clock, slow, allotted, as_units(carried[i]), p.n);
         claims[i] = claim.0 as u32;

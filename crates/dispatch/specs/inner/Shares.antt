@@ -1,17 +1,17 @@
 -- For the contracts of internal functions; no promise rests on this file. One slot in closed
 -- form: a job's share is what the claims served before it leave of the speed.
 -- (proofs/Shares: the shares are the grants.)
-use mathlib.Core.Bool.{Bool, not, cond, _&&_, _||_}
+use mathlib.Core.Bool.{Bool, not, _&&_, _||_}
 use mathlib.Core.List.{List}
-use Prim.Native.Nat.{ℕ, zero, suc, _+_, _*_, _-_, min}
-use lib.Dec.{ltb, eqb}
+use Prim.Native.Nat.{ℕ, zero, suc, _-_, min}
+use lib.Dec.{ltb}
 use lib.ListN.{getD, set}
 use Rattle.base.specs.Sum.{sum, on}
-use Rattle.plan.specs.Edition.{mostJobs, mostDeadline}
-use Rattle.plan.specs.Rules.{counted, deadline, isHi}
+use Rattle.plan.specs.Rules.{counted, isHi}
 use Rattle.plan.specs.declared.kinds.Plan.{Plan}
 use Rattle.dispatch.specs.declared.Run.{Run}
 use Rattle.dispatch.specs.Dues.{live, slowAfter, due}
+use Rattle.dispatch.specs.Order.{before}
 
 -- Job i is served in a slot: it is live, and HI if the slow mark is set.
 abbrev pub served : Plan → ℕ → Bool → ℕ → Bool
@@ -20,14 +20,6 @@ served p t slow i = live p t i && (isHi p i || not slow)
 -- The claim of job i on a slot: its due if it is served, otherwise 0.
 abbrev pub claim : Plan → List ℕ → Run → Bool → ℕ → ℕ
 claim p table run slow i = on (served p (run .clock .0) slow i) (due p table run slow i)
-
--- Job k precedes job i by key, or by position if the keys are equal.
-abbrev pub ahead : (ℕ → ℕ) → ℕ → ℕ → Bool
-ahead by k i = ltb (by k) (by i) || eqb (by k) (by i) && ltb k i
-
--- Job k is served before job i: HI before LO, and within a grade by deadline, then position.
-abbrev pub before : Plan → ℕ → ℕ → Bool
-before p k i = cond (isHi p k) (not (isHi p i) || ahead (deadline p) k i) (not (isHi p i) && ahead (deadline p) k i)
 
 -- The share of job i: the lesser of its claim and what the claims served before it leave of v.
 unfoldable pub share : Plan → List ℕ → Run → ℕ → ℕ → ℕ
@@ -39,15 +31,6 @@ share p table run v i =
 -- most that rate (`share-from-rows`).
 abbrev pub capped : Plan → List ℕ → Run → Bool → ℕ → ℕ
 capped p table run slow i = min (claim p table run slow i) (p .n .0)
-
--- The rank, which orders service: HI below every LO, then by deadline, then by position. The job of
--- lesser rank is served first (`before-by-rank`).
-abbrev pub rankAt : Bool → ℕ → ℕ → ℕ
-rankAt isHi deadline i = (on (not isHi) (mostDeadline + 1) + deadline) * mostJobs + i
-
--- The rank of job i.
-abbrev pub rank : Plan → ℕ → ℕ
-rank p i = rankAt (isHi p i) (deadline p i) i
 
 -- The share of job i as the code computes it, from a row of ranks and a row of capped claims.
 abbrev pub rowShare : List ℕ → List ℕ → ℕ → ℕ → ℕ → ℕ

@@ -23,14 +23,15 @@ use Rattle.plan.specs.Report.{isNone}
 use Rattle.plan.proofs.Reports.{none-empty}
 use Rattle.dispatch.specs.declared.Run.{Run}
 use Rattle.dispatch.specs.Dues.{carriedOf, slowAfter}
-use Rattle.dispatch.specs.inner.Shares.{served, rank, capped, filled}
+use Rattle.dispatch.specs.Order.{rank}
+use Rattle.dispatch.specs.inner.Shares.{served, capped, filled}
 use Rattle.dispatch.specs.Step.{soundAt, slotSound, slotFault, advanced, stepped}
 use Rattle.dispatch.specs.inner.Readiness.{readiness, begun, faultBy}
 use Rattle.dispatch.specs.Answers.{answerView}
 use Rattle.base.proofs.Logic.{neither}
 use Rattle.dispatch.proofs.SlotSoundness.{SlotSound, slot-sound}
 use Rattle.dispatch.proofs.Readiness.{readiness-fault, readiness-clear, left-by}
-use Rattle.dispatch.proofs.RowShares.{filled-start, filled-next, capped-small, stored-grants, stored-carried}
+use Rattle.dispatch.proofs.RowShares.{filled-start, filled-next, rank-small, capped-small, stored-grants, stored-carried}
 use Rattle.dispatch.proofs.step.step.Statement.{statement}
 use Rattle.dispatch.proofs.step.step.Tie as tie
 
@@ -172,10 +173,17 @@ mul-job c = search needs
 element-copy-out-job : tie.Need-element-copy-out-job Inv-loop μ-loop
 element-copy-out-job c = search needs
 
+cast-rank-of : tie.Need-cast-rank-of Inv-loop μ-loop
+cast-rank-of c = omega arith
+
 rank-of-requires : tie.Need-rank-of-requires Inv-loop μ-loop
-rank-of-requires c κs =
-    let was = c .before .before .before .before .before .before .before .before in
-    (parts was .rules .deadlines (c .before .before .loop .i) (omega arith), omega arith)
+rank-of-requires c κs = search needs
+
+cast-ranks : tie.Need-cast-ranks Inv-loop μ-loop
+cast-ranks c =
+    let loop = c .before .before .before .loop in
+    let was = c .before .before .before .before .before .before .before .before .before in
+    omega (arith, c .rank-of .ensures, rank-small (p (here was)) (parts was .rules) (loop .i) (omega arith))
 
 mul-ranks : tie.Need-mul-ranks Inv-loop μ-loop
 mul-ranks c = search needs
@@ -269,8 +277,8 @@ grant-all-requires c κs =
       λ k l. omega (arith, jobs, parts was .carried k (omega (arith, jobs)), parts was .rules .sizes k (omega (arith, jobs))),
     )
 
-add-t53 : tie.Need-add-t53 Inv-loop μ-loop
-add-t53 c =
+add-t54 : tie.Need-add-t54 Inv-loop μ-loop
+add-t54 c =
     let was = c .before .before .before .before .before .before .before .before .before .before .before .before .before .before .before in
     omega (arith, parts was .not-over, parts was .rules .last)
 
@@ -323,7 +331,9 @@ step-spec =
     loop-holds
     mul-job
     element-copy-out-job
+    cast-rank-of
     rank-of-requires
+    cast-ranks
     mul-ranks
     array-write-ranks
     mul-sum-of
@@ -339,6 +349,6 @@ step-spec =
     loop-less
     loop-again
     grant-all-requires
-    add-t53
+    add-t54
     same-length
     returns-2)
