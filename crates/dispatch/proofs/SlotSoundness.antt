@@ -7,7 +7,7 @@ use lib.Dec.{leb}
 use Rattle.base.specs.Below.{every}
 use Rattle.base.proofs.Logic.{both}
 use Rattle.base.proofs.Below.{every-at}
-use Rattle.plan.specs.Rules.{counted, size, gradesHold, ratesHold, countHolds, boundsHold}
+use Rattle.plan.specs.Rules.{jobsOf, counted, size, gradesHold, ratesHold, countHolds, boundsHold}
 use Rattle.plan.specs.Boundaries.{firstRelease, lastDeadline}
 use Rattle.plan.specs.declared.kinds.Plan.{Plan}
 use Rattle.plan.proofs.Soundness.{Bounded, bounded}
@@ -26,12 +26,13 @@ unfolding slotSound
 slot-sound p run e =
     let from = leb (firstRelease p) (run .clock .0) in
     let to = leb (run .clock .0) (lastDeadline p) in
-    let s₁ = both (ratesHold p && countHolds p && gradesHold p && boundsHold p && from && to) (every (λ i. leb (carriedOf run i) (size p i)) (counted p)) e in
-    let s₂ = both (ratesHold p && countHolds p && gradesHold p && boundsHold p && from) to (s₁ .0) in
-    let s₃ = both (ratesHold p && countHolds p && gradesHold p && boundsHold p) from (s₂ .0) in
-    let s₄ = both (ratesHold p && countHolds p && gradesHold p) (boundsHold p) (s₃ .0) in
-    let s₅ = both (ratesHold p && countHolds p) (gradesHold p) (s₄ .0) in
-    let s₆ = both (ratesHold p) (countHolds p) (s₅ .0) in
+    let l = jobsOf p in
+    let s₁ = both (ratesHold p && countHolds l && gradesHold l && boundsHold l && from && to) (every (λ i. leb (carriedOf run i) (size p i)) (counted p)) e in
+    let s₂ = both (ratesHold p && countHolds l && gradesHold l && boundsHold l && from) to (s₁ .0) in
+    let s₃ = both (ratesHold p && countHolds l && gradesHold l && boundsHold l) from (s₂ .0) in
+    let s₄ = both (ratesHold p && countHolds l && gradesHold l) (boundsHold l) (s₃ .0) in
+    let s₅ = both (ratesHold p && countHolds l) (gradesHold l) (s₄ .0) in
+    let s₆ = both (ratesHold p) (countHolds l) (s₅ .0) in
     record {
       rules = bounded p (s₆ .0) (s₆ .1) (s₄ .1);
       begun = leb-true (firstRelease p) (run .clock .0) (s₃ .1);

@@ -8,7 +8,7 @@ use Rattle.plan.specs.Kinds.{Position, Row, Speed, Table, Time}
 use Rattle.plan.specs.Edition.{mostJobs, places}
 use Rattle.plan.specs.Refusal.{clockAtEnd, speedAboveNormal, unsound, bufferTooShort}
 use Rattle.base.specs.Below.{every}
-use Rattle.plan.specs.Rules.{counted, size, deadline, isHi, ratesHold, countHolds, gradesHold, boundsHold}
+use Rattle.plan.specs.Rules.{jobsOf, counted, size, deadline, isHi, ratesHold, countHolds, gradesHold, boundsHold}
 use Rattle.plan.specs.Boundaries.{firstRelease, lastDeadline}
 use Rattle.plan.specs.declared.kinds.Plan.{Plan}
 use Rattle.judge.specs.Verdict.{judged}
@@ -40,7 +40,7 @@ startIn p table was = startFrom (judged p table) (started p) was
 -- size.
 abbrev pub soundAt : (p : Plan) (t : Time) (carried : Row) → Bool
 soundAt p t carried =
-    ratesHold p && countHolds p && gradesHold p && boundsHold p && leb (firstRelease p) t
+    ratesHold p && countHolds (jobsOf p) && gradesHold (jobsOf p) && boundsHold (jobsOf p) && leb (firstRelease p) t
     && leb t (lastDeadline p) && every (λ i. leb (getD carried i 0) (size p i)) (counted p)
 
 -- A plan and a run are sound for a slot: the plan is, at the run's clock with its carried units.

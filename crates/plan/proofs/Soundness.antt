@@ -11,7 +11,7 @@ use Rattle.base.specs.Below.{greatest}
 use Rattle.base.proofs.Logic.{both}
 use Rattle.base.proofs.Below.{every-at}
 use Rattle.plan.specs.Edition.{mostJobs, mostIntervals, mostRate, mostDeadline, mostSize, places}
-use Rattle.plan.specs.Rules.{counted, release, size, deadline, windowAllowed, sizeAllowed, ratesHold, countHolds, namesHold, namesDiffer, gradesHold, boundsHold, rulesHold}
+use Rattle.plan.specs.Rules.{jobsOf, counted, release, size, deadline, windowAllowed, sizeAllowed, ratesHold, countHolds, namesHold, namesDiffer, gradesHold, boundsHold, jobsHold, rulesHold}
 use Rattle.plan.specs.Boundaries.{intervals, lastDeadline}
 use Rattle.plan.specs.Table.{sound, noStray}
 use Rattle.plan.specs.declared.kinds.Plan.{Plan}
@@ -20,21 +20,22 @@ use Rattle.plan.proofs.BoundaryOrder.{boundaries-few}
 -- Rules 4 to 9, one by one.
 pub record Rules (p : Plan) : Type 0 where
   pub rates : ratesHold p ≡ true
-  pub count : countHolds p ≡ true
-  pub named : namesHold p ≡ true
-  pub differ : namesDiffer p ≡ true
-  pub grades : gradesHold p ≡ true
-  pub bounds : boundsHold p ≡ true
+  pub count : countHolds (jobsOf p) ≡ true
+  pub named : namesHold (jobsOf p) ≡ true
+  pub differ : namesDiffer (jobsOf p) ≡ true
+  pub grades : gradesHold (jobsOf p) ≡ true
+  pub bounds : boundsHold (jobsOf p) ≡ true
 
 pub rules-parts : (p : Plan) → rulesHold p ≡ true → Rules p
 unfolding rulesHold
 rules-parts p e =
-    let s₁ = both (ratesHold p && countHolds p && namesHold p && namesDiffer p && gradesHold p) (boundsHold p) e in
-    let s₂ = both (ratesHold p && countHolds p && namesHold p && namesDiffer p) (gradesHold p) (s₁ .0) in
-    let s₃ = both (ratesHold p && countHolds p && namesHold p) (namesDiffer p) (s₂ .0) in
-    let s₄ = both (ratesHold p && countHolds p) (namesHold p) (s₃ .0) in
-    let s₅ = both (ratesHold p) (countHolds p) (s₄ .0) in
-    record { rates = s₅ .0; count = s₅ .1; named = s₄ .1; differ = s₃ .1; grades = s₂ .1; bounds = s₁ .1 }
+    let l = jobsOf p in
+    let s₀ = both (ratesHold p) (jobsHold l) e in
+    let s₁ = both (countHolds l && namesHold l && namesDiffer l && gradesHold l) (boundsHold l) (s₀ .1) in
+    let s₂ = both (countHolds l && namesHold l && namesDiffer l) (gradesHold l) (s₁ .0) in
+    let s₃ = both (countHolds l && namesHold l) (namesDiffer l) (s₂ .0) in
+    let s₄ = both (countHolds l) (namesHold l) (s₃ .0) in
+    record { rates = s₀ .0; count = s₄ .0; named = s₄ .1; differ = s₃ .1; grades = s₂ .1; bounds = s₁ .1 }
 
 -- A sound plan meets the rules, and its table has no stray units.
 pub record Sound (p : Plan) (table : List ℕ) : Type 0 where
@@ -48,7 +49,7 @@ sound-parts p table e =
     record { rules = s .0; clear = s .1 }
 
 -- Rule 9 for one job.
-pub job-bounds : (p : Plan) → boundsHold p ≡ true → (i : ℕ) → i < counted p
+pub job-bounds : (p : Plan) → boundsHold (jobsOf p) ≡ true → (i : ℕ) → i < counted p
     → (windowAllowed (release p i) (deadline p i) && sizeAllowed (size p i)) ≡ true
 unfolding boundsHold
 job-bounds p e i h = every-at (λ k. windowAllowed (release p k) (deadline p k) && sizeAllowed (size p k)) (counted p) i e h
@@ -72,7 +73,7 @@ pub record Bounded (p : Plan) : Type 0 where
   pub spans : intervals p ≤ mostIntervals
   pub last : lastDeadline p ≤ mostDeadline
 
-pub bounded : (p : Plan) → ratesHold p ≡ true → countHolds p ≡ true → boundsHold p ≡ true → Bounded p
+pub bounded : (p : Plan) → ratesHold p ≡ true → countHolds (jobsOf p) ≡ true → boundsHold (jobsOf p) ≡ true → Bounded p
 bounded p r c b =
     let speeds = both (leb 1 (p .d .0) && ltb (p .d .0) (p .n .0)) (leb (p .n .0) mostRate) r in
     let number = both (leb 1 (p .count)) (leb (p .count) mostJobs) c in

@@ -1,5 +1,5 @@
 -- Rules 4 to 9: which rates, job counts, names, grades, windows and sizes are allowed,
--- by themselves and over a plan in hand.
+-- by themselves, over a list of jobs, and over a plan in hand.
 use mathlib.Core.Bool.{Bool, not, _&&_, _||_}
 use mathlib.Core.List.{List, map, _++_}
 use Prim.Native.Nat.{ℕ, _-_, _/_, _%_, _^_, min}
@@ -9,6 +9,7 @@ use Rattle.plan.specs.Kinds.{Amount, Position, Time}
 use Rattle.plan.specs.Edition.{nameBytes, mostJobs, mostRate, mostDeadline, mostSize}
 use Rattle.base.specs.Below.{every}
 use Rattle.plan.specs.declared.kinds.Job.{Job}
+use Rattle.plan.specs.declared.kinds.JobList.{JobList}
 use Rattle.plan.specs.declared.kinds.Plan.{Plan}
 
 -- The grade LO, of a transfer that is not essential.
@@ -56,7 +57,7 @@ windowAllowed from to = ltb from to && leb to mostDeadline
 abbrev pub sizeAllowed : ℕ → Bool
 sizeAllowed u = leb 1 u && leb u mostSize
 
--- The zero record, which `jobOf` gives for an index without a record.
+-- The zero record, which `jobIn` gives for an index without a record.
 abbrev pub noJob : Job
 noJob = record { name = record { 0 = 0 }; grade = 0; release = record { 0 = 0 }; size = record { 0 = 0 }; deadline = record { 0 = 0 } }
 
@@ -64,9 +65,21 @@ noJob = record { name = record { 0 = 0 }; grade = 0; release = record { 0 = 0 };
 abbrev pub noPlan : Plan
 noPlan = record { n = record { 0 = 0 }; d = record { 0 = 0 }; count = 0; jobs = replicate mostJobs noJob }
 
--- The record of job i, or `noJob` if there is none.
+-- The record of job i of a list, or `noJob` if there is none.
+abbrev pub jobIn : (l : JobList) (i : Position) → Job
+jobIn l i = getD (l .jobs) i noJob
+
+-- The number of counted jobs of a list: its count, but at most `mostJobs`.
+abbrev pub countedIn : JobList → ℕ
+countedIn l = min (l .count) mostJobs
+
+-- The jobs of a plan: all of it but its rates.
+abbrev pub jobsOf : Plan → JobList
+jobsOf p = record { count = p .count; jobs = p .jobs }
+
+-- The record of job i of a plan.
 abbrev pub jobOf : (p : Plan) (i : Position) → Job
-jobOf p i = getD (p .jobs) i noJob
+jobOf p i = jobIn (jobsOf p) i
 
 -- The name of job i.
 abbrev pub name : (p : Plan) (i : Position) → ℕ
@@ -88,9 +101,9 @@ deadline p i = jobOf p i .deadline .0
 abbrev pub isHi : (p : Plan) (i : Position) → Bool
 isHi p i = eqb (jobOf p i .grade) hi
 
--- The number of counted jobs: the plan's count, but at most `mostJobs`.
+-- The number of counted jobs of a plan.
 abbrev pub counted : Plan → ℕ
-counted p = min (p .count) mostJobs
+counted p = countedIn (jobsOf p)
 
 -- The names of the counted jobs, in order, then zeros to `mostJobs` entries.
 unfoldable pub names : Plan → List ℕ
@@ -100,26 +113,31 @@ names p = map (λ (j : Job). j .name .0) (take (counted p) (p .jobs)) ++ replica
 abbrev pub ratesHold : Plan → Bool
 ratesHold p = ratesAllowed (p .n .0) (p .d .0)
 
--- Rule 5 over a plan in hand.
-abbrev pub countHolds : Plan → Bool
-countHolds p = countAllowed (p .count)
+-- Rule 5 over a list of jobs.
+abbrev pub countHolds : JobList → Bool
+countHolds l = countAllowed (l .count)
 
--- Rule 6 over a plan in hand: every counted job's name is allowed.
-unfoldable pub namesHold : Plan → Bool
-namesHold p = every (λ i. nameAllowed (name p i)) (counted p)
+-- Rule 6 over a list of jobs: every counted job's name is allowed.
+unfoldable pub namesHold : JobList → Bool
+namesHold l = every (λ i. nameAllowed (jobIn l i .name .0)) (countedIn l)
 
--- Rule 7 over a plan in hand: no counted job has the name of an earlier one.
-unfoldable pub namesDiffer : Plan → Bool
-namesDiffer p = every (λ i. every (λ k. not (sameName (name p k) (name p i))) i) (counted p)
+-- Rule 7 over a list of jobs: no counted job has the name of an earlier one.
+unfoldable pub namesDiffer : JobList → Bool
+namesDiffer l = every (λ i. every (λ k. not (sameName (jobIn l k .name .0) (jobIn l i .name .0))) i) (countedIn l)
 
--- Rule 8 over a plan in hand: every counted job's grade is allowed.
-unfoldable pub gradesHold : Plan → Bool
-gradesHold p = every (λ i. gradeAllowed (jobOf p i .grade)) (counted p)
+-- Rule 8 over a list of jobs: every counted job's grade is allowed.
+unfoldable pub gradesHold : JobList → Bool
+gradesHold l = every (λ i. gradeAllowed (jobIn l i .grade)) (countedIn l)
 
--- Rule 9 over a plan in hand: every counted job's window and size are allowed.
-unfoldable pub boundsHold : Plan → Bool
-boundsHold p = every (λ i. windowAllowed (release p i) (deadline p i) && sizeAllowed (size p i)) (counted p)
+-- Rule 9 over a list of jobs: every counted job's window and size are allowed.
+unfoldable pub boundsHold : JobList → Bool
+boundsHold l =
+    every (λ i. windowAllowed (jobIn l i .release .0) (jobIn l i .deadline .0) && sizeAllowed (jobIn l i .size .0)) (countedIn l)
 
--- Rules 4 to 9 together, over a plan in hand.
+-- Rules 5 to 9 together, over a list of jobs.
+abbrev pub jobsHold : JobList → Bool
+jobsHold l = countHolds l && namesHold l && namesDiffer l && gradesHold l && boundsHold l
+
+-- Rules 4 to 9 together, over a plan in hand: its rates, and its jobs.
 unfoldable pub rulesHold : Plan → Bool
-rulesHold p = ratesHold p && countHolds p && namesHold p && namesDiffer p && gradesHold p && boundsHold p
+rulesHold p = ratesHold p && jobsHold (jobsOf p)

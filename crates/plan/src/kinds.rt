@@ -1,4 +1,4 @@
-// Slots, units, the rate that relates them, and the records of a plan in hand.
+// Slots, units, the rate that relates them, jobs, lists of jobs, and plans in hand.
 use crate::edition::Edition;
 ghost use mathlib.Core.Path.{_≡_};
 ghost use Prim.Native.Nat.{_*_};
@@ -27,6 +27,12 @@ pub struct Job {
     pub release: Slots,
     pub size: Units,
     pub deadline: Slots,
+}
+
+// Jobs alone, without rates. The count can be any number, as in a plan.
+pub struct JobList {
+    pub count: usize,
+    pub jobs: [Job; Edition::MOST_JOBS],
 }
 
 // A plan in hand, without the table that is lent with it. The count can be any number: a loop that

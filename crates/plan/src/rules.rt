@@ -1,6 +1,7 @@
-// Rules 4 to 9, each on single values and over a plan in hand.
+// Rules 4 to 9, each on single values and over a plan in hand, and rules 5 to 9 over a list of jobs.
 use crate::edition::Edition;
 use crate::kinds::HI;
+use crate::kinds::JobList;
 use crate::kinds::LO;
 use crate::kinds::Name;
 use crate::kinds::Plan;
@@ -9,7 +10,7 @@ use crate::kinds::Slots;
 use crate::kinds::Units;
 ghost use mathlib.Core.Path.{_≡_};
 ghost use Rattle.plan.specs.Rules.{ratesAllowed, countAllowed, nameAllowed, isAbsent, gradeAllowed, windowAllowed, sizeAllowed};
-ghost use Rattle.plan.specs.Rules.{counted, names, namesHold, namesDiffer, gradesHold, boundsHold, rulesHold};
+ghost use Rattle.plan.specs.Rules.{jobsOf, counted, names, namesHold, namesDiffer, gradesHold, boundsHold, jobsHold, rulesHold};
 
 // Rule 4.
 pub fn rates_allowed(n: Rate, d: Rate) -> bool
@@ -105,7 +106,7 @@ pub fn names_of(p: Plan) -> [u64; Edition::MOST_JOBS]
 
 // Rule 6 over a plan in hand.
 pub(crate) fn names_hold(p: Plan) -> bool
-    ensures { λ r. ⌜ r ≡ namesHold p ⌝ }
+    ensures { λ r. ⌜ r ≡ namesHold (jobsOf p) ⌝ }
 {
     let count = counted_of(p);
     let mut holds = true;
@@ -120,7 +121,7 @@ pub(crate) fn names_hold(p: Plan) -> bool
 
 // Rule 7 over a plan in hand.
 pub(crate) fn names_differ(p: Plan) -> bool
-    ensures { λ r. ⌜ r ≡ namesDiffer p ⌝ }
+    ensures { λ r. ⌜ r ≡ namesDiffer (jobsOf p) ⌝ }
 {
     let count = counted_of(p);
     let row = names_of(p);
@@ -136,7 +137,7 @@ pub(crate) fn names_differ(p: Plan) -> bool
 
 // Rule 8 over a plan in hand.
 pub fn grades_hold(p: Plan) -> bool
-    ensures { λ r. ⌜ r ≡ gradesHold p ⌝ }
+    ensures { λ r. ⌜ r ≡ gradesHold (jobsOf p) ⌝ }
 {
     let count = counted_of(p);
     let mut holds = true;
@@ -151,7 +152,7 @@ pub fn grades_hold(p: Plan) -> bool
 
 // Rule 9 over a plan in hand.
 pub fn bounds_hold(p: Plan) -> bool
-    ensures { λ r. ⌜ r ≡ boundsHold p ⌝ }
+    ensures { λ r. ⌜ r ≡ boundsHold (jobsOf p) ⌝ }
 {
     let count = counted_of(p);
     let mut holds = true;
@@ -165,14 +166,33 @@ pub fn bounds_hold(p: Plan) -> bool
     holds
 }
 
+// Rules 5 to 9 together over a plan in hand.
+fn plan_jobs_hold(p: Plan) -> bool
+    ensures { λ r. ⌜ r ≡ jobsHold (jobsOf p) ⌝ }
+{
+    count_allowed(p.count) & names_hold(p) & names_differ(p) & grades_hold(p) & bounds_hold(p)
+}
+
+// Rules 5 to 9 together over a list of jobs. The walks over jobs are those of plans, so that no call
+// with a plan copies its records into a list; here a list is copied into a plan, whose rates no
+// rule from 5 on looks at.
+pub fn jobs_hold(list: JobList) -> bool
+    ensures { λ r. ⌜ r ≡ jobsHold list ⌝ }
+{
+    let count = list.count;
+    let jobs = list.jobs;
+    let p = Plan {
+        n: Rate(0),
+        d: Rate(0),
+        count,
+        jobs,
+    };
+    plan_jobs_hold(p)
+}
+
 // Rules 4 to 9 together: what judge and writer require of a plan, apart from its table.
 pub(crate) fn rules_hold(p: Plan) -> bool
     ensures { λ r. ⌜ r ≡ rulesHold p ⌝ }
 {
-    rates_allowed(p.n, p.d)
-        & count_allowed(p.count)
-        & names_hold(p)
-        & names_differ(p)
-        & grades_hold(p)
-        & bounds_hold(p)
+    rates_allowed(p.n, p.d) & plan_jobs_hold(p)
 }

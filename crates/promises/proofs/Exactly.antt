@@ -14,7 +14,7 @@ use Rattle.base.specs.Below.{every}
 use Rattle.base.proofs.Below.{every-at, every-all}
 use Rattle.base.proofs.Logic.{both, and-left, and-right, if-true, if-less, if-same}
 use Rattle.plan.specs.Edition.{nameBytes, mostJobs, mostIntervals, mostRate, mostDeadline, mostSize, places}
-use Rattle.plan.specs.Rules.{lo, hi, byteOf, counted, jobOf, name, release, size, deadline, isHi, nameAllowed, gradeAllowed, windowAllowed, sizeAllowed, sameName, ratesHold, countHolds, namesHold, namesDiffer, gradesHold, boundsHold, rulesHold}
+use Rattle.plan.specs.Rules.{jobsOf, lo, hi, byteOf, counted, jobOf, name, release, size, deadline, isHi, nameAllowed, gradeAllowed, windowAllowed, sizeAllowed, sameName, ratesHold, countHolds, namesHold, namesDiffer, gradesHold, boundsHold, rulesHold}
 use Rattle.plan.specs.Boundaries.{intervals, firstRelease, lastDeadline}
 use Rattle.plan.specs.Table.{noStray, sound}
 use Rattle.plan.specs.Refusal.{clockAtEnd, speedAboveNormal, unsound, bufferTooShort}
@@ -77,29 +77,29 @@ module _ (p : Plan) where
       let all = and-exactly (leb 1 (p .d .0) && ltb (p .d .0) (p .n .0)) (leb (p .n .0) mostRate) one (leb-exactly (p .n .0) mostRate) in
       (λ e. let w = all .0 e in (w .0 .0, w .0 .1, w .1), λ w. all .1 ((w .0, w .1), w .2))
 
-  rule-5 : (countHolds p ≡ true) ↔ Rule5 p
+  rule-5 : (countHolds (jobsOf p) ≡ true) ↔ Rule5 p
   rule-5 = and-exactly (leb 1 (p .count)) (leb (p .count) mostJobs) (leb-exactly 1 (p .count)) (leb-exactly (p .count) mostJobs)
 
-  rule-6 : (namesHold p ≡ true) ↔ Rule6 p
+  rule-6 : (namesHold (jobsOf p) ≡ true) ↔ Rule6 p
   unfolding namesHold nameAllowed
   rule-6 =
       every-exactly (λ i. nameAllowed (name p i)) (counted p)
       (λ i. every-exactly (λ k. leb 0x21 (byteOf (name p i) k) && leb (byteOf (name p i) k) 0x7E) nameBytes
       (λ k. and-exactly (leb 0x21 (byteOf (name p i) k)) (leb (byteOf (name p i) k) 0x7E) (leb-exactly 0x21 (byteOf (name p i) k)) (leb-exactly (byteOf (name p i) k) 0x7E)))
 
-  rule-7 : (namesDiffer p ≡ true) ↔ Rule7 p
+  rule-7 : (namesDiffer (jobsOf p) ≡ true) ↔ Rule7 p
   unfolding namesDiffer
   rule-7 =
       every-exactly (λ i. every (λ k. not (sameName (name p k) (name p i))) i) (counted p)
       (λ i. every-exactly (λ k. not (sameName (name p k) (name p i))) i (λ k. differ-exactly (name p k) (name p i)))
 
-  rule-8 : (gradesHold p ≡ true) ↔ Rule8 p
+  rule-8 : (gradesHold (jobsOf p) ≡ true) ↔ Rule8 p
   unfolding gradesHold
   rule-8 =
       every-exactly (λ i. gradeAllowed (jobOf p i .grade)) (counted p)
       (λ i. or-exactly (eqb (jobOf p i .grade) lo) (eqb (jobOf p i .grade) hi) (eqb-exactly (jobOf p i .grade) lo) (eqb-exactly (jobOf p i .grade) hi))
 
-  rule-9 : (boundsHold p ≡ true) ↔ Rule9 p
+  rule-9 : (boundsHold (jobsOf p) ≡ true) ↔ Rule9 p
   unfolding boundsHold
   rule-9 =
       every-exactly (λ i. windowAllowed (release p i) (deadline p i) && sizeAllowed (size p i)) (counted p)
@@ -199,12 +199,13 @@ module _ (p : Plan) (run : Run) where
       let begun = leb (firstRelease p) (run .clock .0) in
       let not-over = leb (run .clock .0) (lastDeadline p) in (
         λ e.
-            let s₁ = both (ratesHold p && countHolds p && gradesHold p && boundsHold p && begun && not-over) carriedTest e in
-            let s₂ = both (ratesHold p && countHolds p && gradesHold p && boundsHold p && begun) not-over (s₁ .0) in
-            let s₃ = both (ratesHold p && countHolds p && gradesHold p && boundsHold p) begun (s₂ .0) in
-            let s₄ = both (ratesHold p && countHolds p && gradesHold p) (boundsHold p) (s₃ .0) in
-            let s₅ = both (ratesHold p && countHolds p) (gradesHold p) (s₄ .0) in
-            let s₆ = both (ratesHold p) (countHolds p) (s₅ .0) in
+            let l = jobsOf p in
+            let s₁ = both (ratesHold p && countHolds l && gradesHold l && boundsHold l && begun && not-over) carriedTest e in
+            let s₂ = both (ratesHold p && countHolds l && gradesHold l && boundsHold l && begun) not-over (s₁ .0) in
+            let s₃ = both (ratesHold p && countHolds l && gradesHold l && boundsHold l) begun (s₂ .0) in
+            let s₄ = both (ratesHold p && countHolds l && gradesHold l) (boundsHold l) (s₃ .0) in
+            let s₅ = both (ratesHold p && countHolds l) (gradesHold l) (s₄ .0) in
+            let s₆ = both (ratesHold p) (countHolds l) (s₅ .0) in
             record {
               rates = rule-4 p .0 (s₆ .0);
               count = rule-5 p .0 (s₆ .1);

@@ -2,7 +2,7 @@
 -- stands at the last deadline, so that enough of them bring every deadline.
 use mathlib.Core.Path.{_≡_, refl, sym, _∙_, ap, ap₂}
 use mathlib.Core.Logic.{inl, inr, ⊎-elim}
-use mathlib.Core.Bool.{Bool, true, false, _&&_, true≢false}
+use mathlib.Core.Bool.{true, false, _&&_, true≢false}
 use mathlib.Core.List.{List, [], _∷_}
 use Prim.Native.Nat.{ℕ, _+_, _≤_, _<_, min}
 use native.Mathlib.Omega.{arith}
@@ -10,20 +10,19 @@ use borrow.Author.Tests.{le-leb, le-ltb, ne-eqb}
 use lib.ListN.{length, replicate, length-replicate}
 use Rattle.base.specs.Sum.{on}
 use Rattle.plan.specs.Edition.{places}
-use Rattle.plan.specs.Rules.{counted, size, deadline, release, ratesHold, countHolds, namesHold, namesDiffer, gradesHold, boundsHold, rulesHold}
+use Rattle.plan.specs.Rules.{jobsOf, counted, size, deadline, release, ratesHold, countHolds, gradesHold, boundsHold}
 use Rattle.plan.specs.Boundaries.{firstRelease, lastDeadline}
-use Rattle.plan.specs.Table.{sound}
 use Rattle.plan.specs.Same.{Same}
 use Rattle.plan.specs.declared.kinds.Plan.{Plan}
 use Rattle.base.proofs.Below.{every-all, least-lower, greatest-upper}
-use Rattle.base.proofs.Logic.{and-left, and-right, if-true, if-less}
+use Rattle.base.proofs.Logic.{if-true, if-less}
 use Rattle.judge.specs.Verdict.{judged}
 use Rattle.plan.specs.Report.{Report}
 use Rattle.dispatch.specs.declared.Run.{Run}
 use Rattle.dispatch.specs.Dues.{carriedOf}
 use Rattle.dispatch.specs.Step.{started, slotSound, slotFault, advanced, slotBy, stepped}
 use Rattle.promises.specs.Night.{SlotCall, Call, slot, isDone, slotEffect, answerOf, runLeft, isSlot, AllowedCall, runAfter, clockAt, Allowed, Regular, HasRegular, none-yet, then-refused, then-regular, slots, nightAt, Between}
-use Rattle.plan.proofs.Soundness.{Bounded, sound-bounded}
+use Rattle.plan.proofs.Soundness.{Bounded, rules-parts, sound-parts, sound-bounded}
 use Rattle.promises.proofs.SameSlot.{done, same-slot, last-same}
 use Rattle.promises.proofs.NightInvariant.{refused-keeps, carried-is-had, kept}
 use Rattle.promises.proofs.Demand2.{judge-is-exact}
@@ -64,17 +63,10 @@ module _ (p : Plan) (table : List ℕ) (accepted : judged p table ≡ []) where
   rules = sound-bounded p table (judge-is-exact p table .0 accepted .1)
 
   -- Rules 4, 5, 8 and 9, which a slot's call asks for.
-  slot-rules : (ratesHold p && countHolds p && gradesHold p && boundsHold p) ≡ true
-  unfolding sound rulesHold
+  slot-rules : (ratesHold p && countHolds (jobsOf p) && gradesHold (jobsOf p) && boundsHold (jobsOf p)) ≡ true
   slot-rules =
-      let r2 : Bool = ratesHold p && countHolds p in
-      let r3 : Bool = r2 && namesHold p in
-      let r4 : Bool = r3 && namesDiffer p in
-      let r5 : Bool = r4 && gradesHold p in
-      let all : (r5 && boundsHold p) ≡ true = and-left (r5 && boundsHold p) _ (judge-is-exact p table .0 accepted .1) in
-      let five : r5 ≡ true = and-left r5 (boundsHold p) all in
-      let two : r2 ≡ true = and-left r2 (namesHold p) (and-left r3 (namesDiffer p) (and-left r4 (gradesHold p) five)) in
-      ap₂ _&&_ (ap₂ _&&_ two (and-right r4 (gradesHold p) five)) (and-right r5 (boundsHold p) all)
+      let r = rules-parts p (sound-parts p table (judge-is-exact p table .0 accepted .1) .rules) in
+      ap₂ _&&_ (ap₂ _&&_ (ap₂ _&&_ (r .rates) (r .count)) (r .grades)) (r .bounds)
 
   first-to-last : firstRelease p ≤ lastDeadline p
   first-to-last =

@@ -13,7 +13,7 @@ use Rattle.base.specs.Sum.{sum}
 use Rattle.base.proofs.SumLaws.{sum-ext}
 use Rattle.plan.specs.Edition.{mostJobs, mostIntervals, places}
 use Rattle.base.specs.Below.{every, least, greatest}
-use Rattle.plan.specs.Rules.{counted, jobOf, release, deadline, size, hi, isHi, gradeAllowed, windowAllowed, sizeAllowed, gradesHold, boundsHold}
+use Rattle.plan.specs.Rules.{jobsOf, counted, jobOf, release, deadline, size, hi, isHi, gradeAllowed, windowAllowed, sizeAllowed, gradesHold, boundsHold}
 use Rattle.plan.specs.Boundaries.{boundariesTo, boundaries, intervals, come, present, firstRelease, lastDeadline}
 use Rattle.plan.specs.Table.{allotment}
 use Rattle.plan.specs.Same.{Same}
@@ -101,11 +101,11 @@ module _ (p : Plan) (table : List ℕ) (q : Plan) (other : List ℕ) (same : Sam
       every-ext (λ i. test (jobOf p i)) (λ i. test (jobOf q i)) (counted p) (λ i h. ap test (same .jobs i h))
       ∙ ap (every (λ i. test (jobOf q i))) counted-same
 
-  pub grades-same : gradesHold p ≡ gradesHold q
+  pub grades-same : gradesHold (jobsOf p) ≡ gradesHold (jobsOf q)
   unfolding gradesHold
   grades-same = every-same (λ j. gradeAllowed (j .grade))
 
-  pub bounds-same : boundsHold p ≡ boundsHold q
+  pub bounds-same : boundsHold (jobsOf p) ≡ boundsHold (jobsOf q)
   unfolding boundsHold
   bounds-same = every-same (λ j. windowAllowed (j .release .0) (j .deadline .0) && sizeAllowed (j .size .0))
 

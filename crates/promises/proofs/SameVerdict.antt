@@ -12,7 +12,7 @@ use Rattle.base.proofs.SumLaws.{sum-ext}
 use Rattle.plan.specs.Edition.{mostJobs, mostIntervals}
 use Rattle.plan.specs.Refusal.{outsideWindow, wrongTotal, overCapacity, belowFloorRule}
 use Rattle.base.specs.Below.{every}
-use Rattle.plan.specs.Rules.{counted, name, nameAllowed, sameName, namesHold, namesDiffer, rulesHold}
+use Rattle.plan.specs.Rules.{jobsOf, counted, name, nameAllowed, sameName, namesHold, namesDiffer, rulesHold}
 use Rattle.plan.specs.Boundaries.{boundary, intervals}
 use Rattle.plan.specs.Table.{soundWithin, sound}
 use Rattle.plan.specs.Same.{Same}
@@ -49,14 +49,14 @@ module _ (p : Plan) (table : List ℕ) (q : Plan) (other : List ℕ) (same : Sam
   pub name-same : (i : ℕ) → i < counted p → name p i ≡ name q i
   name-same i h = ap (λ j. j .name .0) (same .jobs i h)
 
-  pub names-differ-same : namesDiffer p ≡ namesDiffer q
+  pub names-differ-same : namesDiffer (jobsOf p) ≡ namesDiffer (jobsOf q)
   unfolding namesDiffer
   names-differ-same =
       every-ext _ _ (counted p)
       (λ i h. every-ext _ _ i (λ k l. ap₂ (λ a b. not (sameName a b)) (name-same k (omega arith)) (name-same i h)))
       ∙ ap (every _) jobs-same
 
-  pub names-hold-same : namesHold p ≡ namesHold q
+  pub names-hold-same : namesHold (jobsOf p) ≡ namesHold (jobsOf q)
   unfolding namesHold
   names-hold-same = every-same p table q other same (λ j. nameAllowed (j .name .0))
 

@@ -1,4 +1,4 @@
--- `plan::rules::rules_hold` meets its contract: each conjunct is the rule over the plan.
+-- `plan::rules::rules_hold` meets its contract: rule 4, and the rules over the plan's jobs.
 use borrow.Author.Needs.{needs}
 use Rattle.plan.specs.Rules.{rulesHold}
 use Rattle.plan.proofs.rules.rules_hold.Statement.{statement}
@@ -7,41 +7,12 @@ use Rattle.plan.proofs.rules.rules_hold.Tie as tie
 rates-allowed-requires : tie.Need-rates-allowed-requires
 rates-allowed-requires c κs = search needs
 
-count-allowed-requires : tie.Need-count-allowed-requires
-count-allowed-requires c κs = search needs
-
-names-hold-requires : tie.Need-names-hold-requires
-names-hold-requires c κs = search needs
-
-names-differ-requires : tie.Need-names-differ-requires
-names-differ-requires c κs = search needs
-
-grades-hold-requires : tie.Need-grades-hold-requires
-grades-hold-requires c κs = search needs
-
-bounds-hold-requires : tie.Need-bounds-hold-requires
-bounds-hold-requires c κs = search needs
+plan-jobs-hold-requires : tie.Need-plan-jobs-hold-requires
+plan-jobs-hold-requires c κs = search needs
 
 returns : tie.Need-returns
 unfolding rulesHold
-returns c =
-    rw (
-      c .bounds-hold .ensures,
-      c .before .grades-hold .ensures,
-      c .before .before .names-differ .ensures,
-      c .before .before .before .names-hold .ensures,
-      c .before .before .before .before .count-allowed .ensures,
-      c .before .before .before .before .before .rates-allowed .ensures,
-    )
+returns c = rw (c .plan-jobs-hold .ensures, c .before .rates-allowed .ensures)
 
 pub rules-hold-spec : {M : Type 1} → statement M
-rules-hold-spec =
-    tie.close
-    (tie.spec
-    rates-allowed-requires
-    count-allowed-requires
-    names-hold-requires
-    names-differ-requires
-    grades-hold-requires
-    bounds-hold-requires
-    returns)
+rules-hold-spec = tie.close (tie.spec rates-allowed-requires plan-jobs-hold-requires returns)
