@@ -9,18 +9,18 @@ use borrow.Author.Tests.{leb-true, eqb-true, eqb-false, eq-eqb, ne-eqb, not-true
 use lib.Dec.{leb, eqb}
 use lib.ListN.{length}
 use Rattle.base.proofs.Logic.{both}
-use Rattle.plan.specs.Refusal.{Refusal, refusalOf, wrongVersion, wrongExtent, wrongRecordLength}
+use Rattle.plan.specs.Refusal.{Refusal, refusalAt, wrongVersion, wrongExtent, wrongRecordLength}
 use Rattle.fields.specs.Parsers.{Parsed, got, no, field, checked, recordLength, refusedAs, isVersion, version, extent, opening, ended}
-use Rattle.fields.proofs.ParserLaws.{through, test-is, checked-is, same-value, same-next, field-extent}
+use Rattle.fields.proofs.ParserLaws.{through, test-is, checked-is, same-value, same-next, field-extent, field-refused-at}
 
 -- The version byte: no byte, a byte that is no version, a version.
 module _ (newest : ℕ) (file : List ℕ) (at : ℕ) where
-  pub version-none : {k : Refusal} → field 1 file at ≡ no k → _≡_ {A = Parsed ℕ} (no (refusalOf wrongVersion)) (version newest file at)
+  pub version-none : {k : Refusal} → field 1 file at ≡ no k → _≡_ {A = Parsed ℕ} (no (refusalAt wrongVersion at)) (version newest file at)
   unfolding version
-  version-none e = rw e
+  version-none e = rw (e, field-refused-at 1 file at e .0)
 
   module _ {v next : ℕ} (e : field 1 file at ≡ got v next) where
-    pub version-other : isVersion newest v ≡ false → _≡_ {A = Parsed ℕ} (no (refusalOf wrongVersion)) (version newest file at)
+    pub version-other : isVersion newest v ≡ false → _≡_ {A = Parsed ℕ} (no (refusalAt wrongVersion at)) (version newest file at)
     unfolding version
     version-other t = rw (e, t)
 
@@ -45,7 +45,7 @@ module _ (compared : Bool) (file : List ℕ) (at : ℕ) where
 
   module _ {says next : ℕ} (e : field 4 file at ≡ got says next) where
     pub extent-wrong : (not compared || eqb (next + says) (length file)) ≡ false
-        → _≡_ {A = Parsed (Unit {0})} (no (refusalOf wrongExtent)) (extent compared file at)
+        → _≡_ {A = Parsed (Unit {0})} (no (refusalAt wrongExtent at)) (extent compared file at)
     unfolding extent
     extent-wrong t = rw (e, t)
 
@@ -72,7 +72,7 @@ pub extent-is : (file : List ℕ) (at : ℕ) {u : Unit {0}} {next : ℕ} → ext
 unfolding extent
 extent-is file at e =
     let t = through (field 4 file at) e in
-    let p = test-is (eqb (t .next + t .value) (length file)) wrongExtent file (t .next) (t .on) in
+    let p = test-is (eqb (t .next + t .value) (length file)) wrongExtent at file (t .next) (t .on) in
     (t .value, rw (p .1) at (t .is), rw (p .1) at (eqb-true (t .next + t .value) (length file) (p .0)))
 
 -- The opening: refused by its version, refused by its length field, read.
@@ -135,7 +135,7 @@ module _ (long : ℕ) (file : List ℕ) (at : ℕ) where
   length-cut e = rw e
 
   module _ {says next : ℕ} (e : field 1 file at ≡ got says next) where
-    pub length-other : eqb says long ≡ false → _≡_ {A = Parsed (Unit {0})} (no (refusalOf wrongRecordLength)) (recordLength long file at)
+    pub length-other : eqb says long ≡ false → _≡_ {A = Parsed (Unit {0})} (no (refusalAt wrongRecordLength at)) (recordLength long file at)
     unfolding recordLength
     length-other t = rw (e, t)
 
@@ -148,7 +148,7 @@ module _ (long : ℕ) (file : List ℕ) (at : ℕ) where
   unfolding recordLength
   length-is e =
       let t = through (field 1 file at) e in
-      let p = test-is (eqb (t .value) long) wrongRecordLength file (t .next) (t .on) in
+      let p = test-is (eqb (t .value) long) wrongRecordLength at file (t .next) (t .on) in
       rw (eqb-true (t .value) long (p .0), p .1) at (t .is)
 
 -- At the end of the file `ended` succeeds, and nowhere else.
@@ -159,4 +159,4 @@ module _ (file : List ℕ) (at : ℕ) where
 
   pub ended-at : {u : Unit {0}} {end : ℕ} → ended file at ≡ got u end → at ≡ length file
   unfolding ended
-  ended-at e = eqb-true at (length file) (test-is (eqb at (length file)) wrongExtent file at e .0)
+  ended-at e = eqb-true at (length file) (test-is (eqb at (length file)) wrongExtent at file at e .0)

@@ -4,10 +4,10 @@ use mathlib.Core.Bool.{Bool, true, false, not, cond}
 use mathlib.Core.List.{List}
 use Prim.Native.Nat.{ℕ, _+_, _≤_, _<_}
 use native.Mathlib.Omega.{arith}
-use borrow.Author.Tests.{le-leb, lt-leb, leb-true, not-true, not-false}
+use borrow.Author.Tests.{le-leb, lt-leb, leb-true, leb-false, not-true, not-false}
 use lib.Dec.{leb}
 use lib.ListN.{length, take, drop}
-use Rattle.plan.specs.Refusal.{Refusal, refusalOf, wrongExtent}
+use Rattle.plan.specs.Refusal.{Refusal, refusalAt, wrongExtent}
 use Rattle.fields.specs.Bytes.{value}
 use Rattle.fields.specs.Parsers.{Parsed, got, no, Parser, onward, test, field, checked}
 use Rattle.fields.specs.Answers.{fieldValue, fieldRefusal, passedRefusal}
@@ -22,7 +22,7 @@ pub field-whole : (w : ℕ) (file : List ℕ) (at : ℕ) {v : ℕ} → at + w �
 unfolding field
 field-whole w file at h e = rw (le-leb (at + w) (length file) h, e)
 
-pub field-cut : (w : ℕ) (file : List ℕ) (at : ℕ) → length file < at + w → _≡_ {A = Parsed ℕ} (no (refusalOf wrongExtent)) (field w file at)
+pub field-cut : (w : ℕ) (file : List ℕ) (at : ℕ) → length file < at + w → _≡_ {A = Parsed ℕ} (no (refusalAt wrongExtent at)) (field w file at)
 unfolding field
 field-cut w file at h = rw (lt-leb (at + w) (length file) h)
 
@@ -64,15 +64,15 @@ pub record Past {B : Type 0} (b : Bool) (rest : Unit {0} → Parser B) (file : L
   pub is : b ≡ true
   pub on : rest tt file at ≡ got x end
 
-pub past : {B : Type 0} (b : Bool) (number : ℕ) (file : List ℕ) (at : ℕ) {rest : Unit {0} → Parser B} {x : B} {end : ℕ}
-    → onward (test b number file at) rest file ≡ got x end → Past b rest file at x end
-past true number file at e = record { is = refl; on = e }
-past false number file at e = absurd (let z : _≡_ {A = ℕ} 0 1 = cc in omega arith)
+pub past : {B : Type 0} (b : Bool) (number from : ℕ) (file : List ℕ) (at : ℕ) {rest : Unit {0} → Parser B} {x : B} {end : ℕ}
+    → onward (test b number from file at) rest file ≡ got x end → Past b rest file at x end
+past true number from file at e = record { is = refl; on = e }
+past false number from file at e = absurd (let z : _≡_ {A = ℕ} 0 1 = cc in omega arith)
 
 -- If a test succeeds, it is true and has consumed no bytes.
-pub test-is : (b : Bool) (number : ℕ) (file : List ℕ) (at : ℕ) {u : Unit {0}} {next : ℕ} → test b number file at ≡ got u next → (b ≡ true) × (at ≡ next)
-test-is true number file at e = (refl, cc)
-test-is false number file at e = absurd (let z : _≡_ {A = ℕ} 0 1 = cc in omega arith)
+pub test-is : (b : Bool) (number from : ℕ) (file : List ℕ) (at : ℕ) {u : Unit {0}} {next : ℕ} → test b number from file at ≡ got u next → (b ≡ true) × (at ≡ next)
+test-is true number from file at e = (refl, cc)
+test-is false number from file at e = absurd (let z : _≡_ {A = ℕ} 0 1 = cc in omega arith)
 
 -- `got` is injective in its value and in its next offset.
 pub same-value : {A : Type 0} {a b : A} {m n : ℕ} → _≡_ {A = Parsed A} (got a m) (got b n) → a ≡ b
@@ -81,12 +81,16 @@ same-value e = cc
 pub same-next : {A : Type 0} {a b : A} {m n : ℕ} → _≡_ {A = Parsed A} (got a m) (got b n) → m ≡ n
 same-next e = cc
 
+-- `no` is injective.
+pub same-refusal : {A : Type 0} {j k : Refusal} → _≡_ {A = Parsed A} (no j) (no k) → j ≡ k
+same-refusal e = cc
+
 -- If a `checked` field is read, the field is read and its value passes the test.
 pub checked-is : (w : ℕ) (ok : ℕ → Bool) (number : ℕ) (file : List ℕ) (at : ℕ) {x end : ℕ} → checked w ok number file at ≡ got x end
     → (field w file at ≡ got x end) × (ok x ≡ true)
 checked-is w ok number file at e =
     let t = through (field w file at) e in
-    let u = past (ok (t .value)) number file (t .next) (t .on) in
+    let u = past (ok (t .value)) number at file (t .next) (t .on) in
     let v = same-value (u .on) in
     (t .is ∙ u .on, rw v at (u .is))
 
@@ -105,7 +109,18 @@ unfolding field
 field-extent w file at e = by (leb (at + w) (length file)) refl e
   where
     by : (t : Bool) → leb (at + w) (length file) ≡ t → {v next : ℕ}
-        → cond t (got (value 0 (take w (drop at file))) (at + w)) (no (refusalOf wrongExtent)) ≡ got v next
+        → cond t (got (value 0 (take w (drop at file))) (at + w)) (no (refusalAt wrongExtent at)) ≡ got v next
         → (next ≡ at + w) × (at + w ≤ length file) × (v ≡ value 0 (take w (drop at file)))
     by true h e = (sym (same-next e), leb-true (at + w) (length file) h, sym (same-value e))
     by false h e = absurd (let z : _≡_ {A = ℕ} 0 1 = cc in omega arith)
+
+-- A field that is refused is refused by 2, at its first byte, and the file ends inside it.
+pub field-refused-at : (w : ℕ) (file : List ℕ) (at : ℕ) {k : Refusal} → field w file at ≡ no k → (k ≡ refusalAt wrongExtent at) × (length file < at + w)
+unfolding field
+field-refused-at w file at e = by (leb (at + w) (length file)) refl e
+  where
+    by : (t : Bool) → leb (at + w) (length file) ≡ t → {k : Refusal}
+        → cond t (got (value 0 (take w (drop at file))) (at + w)) (no (refusalAt wrongExtent at)) ≡ no k
+        → (k ≡ refusalAt wrongExtent at) × (length file < at + w)
+    by true h e = absurd (let z : _≡_ {A = ℕ} 0 1 = cc in omega arith)
+    by false h e = (sym (same-refusal e), leb-false (at + w) (length file) h)

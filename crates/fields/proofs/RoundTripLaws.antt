@@ -44,13 +44,18 @@ done-law file a =
 
 module _ {file : List ℕ} {B : Type 0} {rest : Parser B} {write : B → List ℕ} {Good : B → Type 0} where
   -- A test before a parser.
-  pub test-law : (ok : Bool) (number : ℕ) → Law file rest write Good
-      → Law file (λ file at. onward (test ok number file at) (λ _. rest) file) write (λ b. (ok ≡ true) × Good b)
-  test-law ok number law =
+  pub test-law : (ok : Bool) (number from : ℕ) → Law file rest write Good
+      → Law file (λ file at. onward (test ok number from file at) (λ _. rest) file) write (λ b. (ok ≡ true) × Good b)
+  test-law ok number from law =
       record {
         back = λ b at good s. rw (good .0) (law .back b at (good .1) s);
-        again = λ octets at e. let p = past ok number file at e in let l = law .again octets at (p .on) in (l .0, (p .is, l .1));
+        again = λ octets at e. let p = past ok number from file at e in let l = law .again octets at (p .on) in (l .0, (p .is, l .1));
       }
+
+-- A parser that is told where it begins.
+pub here-law : {file : List ℕ} {B : Type 0} {rest : ℕ → Parser B} {write : B → List ℕ} {Good : B → Type 0} → ((from : ℕ) → Law file (rest from) write Good)
+    → Law file (λ file at. rest at file at) write Good
+here-law law = record { back = λ b at good s. law at .back b at good s; again = λ octets at e. law at .again octets at e }
 
 -- A parser, then the one that its value gives. The first value is a part of the second.
 module _ {file : List ℕ} {A B : Type 0} {read : Parser A} {write : A → List ℕ} {Good : A → Type 0} {rest : A → Parser B}
@@ -85,7 +90,7 @@ pub checked-law : (file : List ℕ) (w : ℕ) → 1 ≤ w → (ok : ℕ → Bool
     → Law file (checked w ok number) (bytes w) (λ x. (x < 256 ^ w) × (ok x ≡ true))
 checked-law file w some ok number =
     law-as
-    (then-law (λ x. x) (field-law file w some) (λ x. test-law (ok x) number (done-law file x)) (λ a b first good. good .1))
+    (here-law (λ from. then-law (λ x. x) (field-law file w some) (λ x. test-law (ok x) number from (done-law file x)) (λ a b first good. good .1)))
     (λ x good. (good .0, (good .1, refl))) (λ x good. (good .0, good .1 .0)) (λ x. append-nil (bytes w x))
 
 -- A known version, then a length field that counts the bytes after it, are read where the file has

@@ -1,12 +1,12 @@
 -- Parsers for the parts of every file format: fields, a record's length byte, the opening, the end.
--- The first refusal ends the reading.
+-- The first refusal ends the reading, and says at which field.
 use mathlib.Core.Bool.{Bool, true, false, not, cond, _&&_, _||_}
 use mathlib.Core.List.{List}
 use Prim.Native.Nat.{ℕ, _+_}
 use lib.Dec.{leb, eqb}
 use lib.ListN.{length, take, drop}
-use Rattle.plan.specs.Kinds.{Number}
-use Rattle.plan.specs.Refusal.{Refusal, refusalOf, wrongVersion, wrongExtent, wrongRecordLength}
+use Rattle.plan.specs.Kinds.{Number, Offset}
+use Rattle.plan.specs.Refusal.{Refusal, refusalAt, wrongVersion, wrongExtent, wrongRecordLength}
 use Rattle.fields.specs.Bytes.{value}
 
 -- The result of a parser: a value and the offset of the next field, or a refusal.
@@ -44,33 +44,37 @@ here file at = got at at
 abbrev pub fileLength : Parser ℕ
 fileLength file at = got (length file) at
 
--- Consumes no bytes, and refuses with the number if the test is false.
-abbrev pub test : (ok : Bool) (number : Number) → Parser (Unit {0})
-test true number file at = got tt at
-test false number file at = no (refusalOf number)
+-- Consumes no bytes, and refuses with the number, at the field that begins at `from`, if the test is
+-- false.
+abbrev pub test : (ok : Bool) (number : Number) (from : Offset) → Parser (Unit {0})
+test true number from file at = got tt at
+test false number from file at = no (refusalAt number from)
 
--- A field of w bytes, highest first; if the file is shorter than `at` + w, it is refused, whatever
--- its bytes are.
+-- A field of w bytes, highest first; if the file is shorter than `at` + w, it is refused at its first
+-- byte, whatever its bytes are.
 unfoldable pub field : ℕ → Parser ℕ
-field w file at = cond (leb (at + w) (length file)) (got (value 0 (take w (drop at file))) (at + w)) (no (refusalOf wrongExtent))
+field w file at = cond (leb (at + w) (length file)) (got (value 0 (take w (drop at file))) (at + w)) (no (refusalAt wrongExtent at))
 
--- A field of w bytes whose value must pass a test; otherwise it is refused with the number.
+-- A field of w bytes whose value must pass a test; otherwise it is refused with the number, at its first
+-- byte.
 abbrev pub checked : (w : ℕ) (ok : ℕ → Bool) (number : Number) → Parser ℕ
 checked w ok number = do
+  from ← here
   x ← field w
-  test (ok x) number
+  test (ok x) number from
   done x
 
 -- The length byte of a record, which must be `long`.
 unfoldable pub recordLength : (long : ℕ) → Parser (Unit {0})
 recordLength long = do
+  from ← here
   x ← field 1
-  test (eqb x long) wrongRecordLength
+  test (eqb x long) wrongRecordLength from
 
--- The same result, but a refusal has this number.
+-- The same result, but a refusal has this number, at the same offset.
 abbrev pub refusedAs : {A : Type 0} → Number → Parsed A → Parsed A
 refusedAs number (got a next) = got a next
-refusedAs number (no refusal) = no (refusalOf number)
+refusedAs number (no refusal) = no (refusalAt number (refusal .offset))
 
 -- A version from 1 to the newest one.
 abbrev pub isVersion : (newest v : ℕ) → Bool
@@ -84,10 +88,11 @@ version newest file at = refusedAs wrongVersion (checked 1 (isVersion newest) wr
 -- The length field, four bytes; if it is compared, its value must be the number of bytes after it.
 unfoldable pub extent : (compared : Bool) → Parser (Unit {0})
 extent compared = do
+  from ← here
   says ← field 4
-  start ← here
+  next ← here
   end ← fileLength
-  test (not compared || eqb (start + says) end) wrongExtent
+  test (not compared || eqb (next + says) end) wrongExtent from
 
 -- The opening of a file: its version, which it gives, and the length field.
 unfoldable pub opening : (newest : ℕ) (compared : Bool) → Parser ℕ
@@ -96,9 +101,9 @@ opening newest compared = do
   extent compared
   done v
 
--- The end of the file: the offset must be the file's length.
+-- The end of the file: the offset must be the file's length; otherwise it is the first byte that is left.
 unfoldable pub ended : Parser (Unit {0})
 ended = do
-  start ← here
+  from ← here
   end ← fileLength
-  test (eqb start end) wrongExtent
+  test (eqb from end) wrongExtent from

@@ -11,6 +11,7 @@ pub fn read_end(file: &[u8], at: usize) -> Passed
     if at != file.len() {
         return Passed::Refused(Refusal {
             number: WRONG_EXTENT,
+            offset: at,
         });
     }
     Passed::Next(at)

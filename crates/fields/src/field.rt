@@ -23,7 +23,10 @@ pub fn field_refusal(f: Field) -> Refusal
     ensures { λ r. ⌜ r ≡ fieldRefusal f ⌝ }
 {
     match f {
-        Field::Value(_, _) => Refusal { number: DONE },
+        Field::Value(_, _) => Refusal {
+            number: DONE,
+            offset: 0,
+        },
         Field::Refused(refusal) => refusal,
     }
 }
@@ -32,7 +35,10 @@ pub fn passed_refusal(p: Passed) -> Refusal
     ensures { λ r. ⌜ r ≡ passedRefusal p ⌝ }
 {
     match p {
-        Passed::Next(_) => Refusal { number: DONE },
+        Passed::Next(_) => Refusal {
+            number: DONE,
+            offset: 0,
+        },
         Passed::Refused(refusal) => refusal,
     }
 }
@@ -45,11 +51,13 @@ fn read_field(file: &[u8], at: usize, w: usize) -> Field
     if file.len() < at {
         return Field::Refused(Refusal {
             number: WRONG_EXTENT,
+            offset: at,
         });
     }
     if file.len() - at < w {
         return Field::Refused(Refusal {
             number: WRONG_EXTENT,
+            offset: at,
         });
     }
     // Lowest byte first, which compiles to a single load even for eight bytes.

@@ -42,11 +42,13 @@ fn read_version(file: &[u8], newest: u8) -> Field
     let Field::Value(version, next) = byte else {
         return Field::Refused(Refusal {
             number: WRONG_VERSION,
+            offset: 0,
         });
     };
     if !is_version(newest, version) {
         return Field::Refused(Refusal {
             number: WRONG_VERSION,
+            offset: 0,
         });
     }
     byte
@@ -64,6 +66,7 @@ fn read_extent(file: &[u8], at: usize, lengths: LengthRule) -> Passed
     if is_compared(lengths) & (says != follows) {
         return Passed::Refused(Refusal {
             number: WRONG_EXTENT,
+            offset: at,
         });
     }
     Passed::Next(next)

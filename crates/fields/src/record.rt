@@ -18,6 +18,7 @@ pub fn read_length(file: &[u8], at: usize, length: u64) -> Passed
     if says != length {
         return Passed::Refused(Refusal {
             number: WRONG_RECORD_LENGTH,
+            offset: at,
         });
     }
     Passed::Next(next)

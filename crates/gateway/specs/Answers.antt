@@ -3,14 +3,14 @@
 use mathlib.Core.Path.{_≡_}
 use Prim.Native.Nat.{ℕ}
 use lib.IntN.{ℤ}
-use Rattle.plan.specs.Kinds.{Bytes, Position, Row, Speed, Table, Words}
+use Rattle.plan.specs.Kinds.{Bytes, Offset, Position, Row, Speed, Table, Words}
 use Rattle.planfile.specs.Reader.{nameFound}
 use Rattle.gateway.specs.Calls.{judgeCall, startCall, stepCall, outcomeCall, slackCall, readCall, writeCall}
 
--- The contract of `gateway_read`: the number, the lent plan and the table.
-abbrev pub HostReads : (file : Bytes) (plan : Words) (table : Table) (r : ℕ) (plan-left : Words) (table-left : Table) → Type 0
-HostReads file plan table r plan-left table-left =
-    record { number = r; plan = plan-left; table = table-left } ≡ readCall file plan table
+-- The contract of `gateway_read`: the number, the lent plan, the table and the offset.
+abbrev pub HostReads : (file : Bytes) (plan : Words) (table : Table) (offset : Offset) (r : ℕ) (plan-left : Words) (table-left : Table) (offset-left : Offset) → Type 0
+HostReads file plan table offset r plan-left table-left offset-left =
+    record { number = r; plan = plan-left; table = table-left; offset = offset-left } ≡ readCall file plan table offset
 
 -- The contract of `gateway_write`: the number, the length and
 -- the output, whatever the length was before.

@@ -5,7 +5,7 @@ use Prim.Native.Nat.{ℕ}
 use lib.Dec.{ltb}
 use lib.IntN.{ℤ, pos}
 use lib.ListN.{length, set}
-use Rattle.plan.specs.Kinds.{Bytes, Position, Row, Speed, Table, Words}
+use Rattle.plan.specs.Kinds.{Bytes, Offset, Position, Row, Speed, Table, Words}
 use Rattle.plan.specs.Refusal.{unsound, bufferTooShort}
 use Rattle.plan.specs.declared.kinds.Plan.{Plan}
 use Rattle.judge.specs.Verdict.{judged}
@@ -37,7 +37,8 @@ missedNumber = 259
 abbrev pub openNumber : ℕ
 openNumber = 260
 
--- The first part of a report's location: of a judge's report a job or an interval; 0 if it has none.
+-- The first part of a report's location: of a judge's report a job or an interval, of the reader's the
+-- offset; 0 if it has none.
 abbrev pub firstOf : Report → ℕ
 firstOf [] = 0
 firstOf (number ∷ []) = 0
@@ -180,16 +181,19 @@ pub record HostReadEffect : Type 0 where
   pub number : ℕ
   pub plan : List ℕ
   pub table : List ℕ
+  pub offset : ℕ
 
--- The effect of the reader on a lent plan and a table.
+-- The effect of the reader on a lent plan and a table, and where a refused file is wrong: 0 if it was read
+-- or the table is too short.
 abbrev pub readWords : (left : ReadEffect) (plan : Words) → HostReadEffect
-readWords left plan = record { number = numberOf (left .answer); plan = planPut plan (left .plan); table = left .table }
+readWords left plan =
+    record { number = numberOf (left .answer); plan = planPut plan (left .plan); table = left .table; offset = firstOf (left .answer) }
 
 -- The read's call: 22 if the plan is too short, with nothing changed; otherwise the effect of the
 -- reader, whose plan is all zeros with every refusal.
-unfoldable pub readCall : (file : Bytes) (plan : Words) (table : Table) → HostReadEffect
-readCall file plan table =
-    cond (shortPlan plan) (record { number = bufferTooShort; plan = plan; table = table })
+unfoldable pub readCall : (file : Bytes) (plan : Words) (table : Table) (offset : Offset) → HostReadEffect
+readCall file plan table offset =
+    cond (shortPlan plan) (record { number = bufferTooShort; plan = plan; table = table; offset = offset })
     (readWords (reader file table) plan)
 
 -- The effect of the write's call.

@@ -5,6 +5,7 @@ use dispatch::answers::Outcome;
 use judge::answers::Slack;
 use judge::answers::Verdict;
 use judge::answers::number_of;
+use plan::refusal::BUFFER_TOO_SHORT;
 use plan::refusal::DONE;
 use planfile::reader::Answer as Reader;
 use planwriter::writer::Written;
@@ -130,7 +131,19 @@ pub(crate) fn read_number(a: Reader) -> u32
 {
     match a {
         Reader::Read => DONE as u32,
-        Reader::Refused(number) => number as u32,
+        Reader::TooShort => BUFFER_TOO_SHORT as u32,
+        Reader::Refused(refusal) => refusal.number as u32,
+    }
+}
+
+// Where a refused file is wrong; 0 if it was read or the table is too short.
+pub(crate) fn read_offset(a: Reader) -> usize
+    ensures { λ r. ⌜ r ≡ firstOf (files.answerView a) ⌝ }
+{
+    match a {
+        Reader::Read => 0,
+        Reader::TooShort => 0,
+        Reader::Refused(refusal) => refusal.offset,
     }
 }
 

@@ -1,5 +1,6 @@
 // The calls for hosts on plan files.
 use crate::answers::read_number;
+use crate::answers::read_offset;
 use crate::answers::written_length;
 use crate::answers::written_number;
 use hostmemory::plans::plan_of;
@@ -11,18 +12,25 @@ use planfile::reader::read;
 use planwriter::writer::write;
 ghost use Rattle.gateway.specs.Answers.{HostReads, HostWrites, HostShows};
 
-// Reads a plan file into the lent plan and table; 22 with nothing changed if the plan is too short.
+// Reads a plan file into the lent plan and table, and returns in `offset` where a refused file is wrong;
+// 22 with nothing changed if the plan is too short.
 #[no_mangle]
-pub extern "C" fn gateway_read(file: &[u8], plan: &mut [u64], table: &mut [u32]) -> u32
-    ensures { λ r. ⌜ HostReads (now (file .entry)) (now (plan .entry)) (now (table .entry)) r (now (plan .exit)) (now (table .exit)) ⌝ }
+pub extern "C" fn gateway_read(
+    file: &[u8],
+    plan: &mut [u64],
+    table: &mut [u32],
+    offset: &mut usize,
+) -> u32
+    ensures { λ r. ⌜ HostReads (now (file .entry)) (now (plan .entry)) (now (table .entry)) (now (offset .entry)) r (now (plan .exit)) (now (table .exit)) (now (offset .exit)) ⌝ }
 {
     if plan.len() < Sizes::PLAN {
-        return BUFFER_TOO_SHORT as u32;
+        return BUFFER_TOO_SHORT as u32; // the offset stays too
     }
     let reading = read(file, table);
     let answer = reading.answer;
     let p = reading.plan;
     put_plan(plan, p);
+    *offset = read_offset(answer);
     read_number(answer)
 }
 

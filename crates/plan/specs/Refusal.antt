@@ -1,19 +1,20 @@
 -- A refusal, and the refusal numbers, by name.
 use Prim.Native.Nat.{ℕ}
-use Rattle.plan.specs.Kinds.{Number}
+use Rattle.plan.specs.Kinds.{Number, Offset}
 use Rattle.plan.specs.declared.refusal.Refusal as code
 
--- A refusal as every reading step hands it on: a record with its `number`.
+-- A refusal as every reading step hands it on: its `number`, and the `offset` of the first byte of the
+-- field in hand.
 abbrev pub Refusal : Type 0
 Refusal = code.Refusal
 
--- The refusal with a number.
-abbrev pub refusalOf : Number → Refusal
-refusalOf number = record { number = number }
+-- The refusal with a number, at an offset.
+abbrev pub refusalAt : (number : Number) (offset : Offset) → Refusal
+refusalAt number offset = record { number = number; offset = offset }
 
 -- What stands where nothing is refused: no refusal has this number.
 abbrev pub noRefusal : Refusal
-noRefusal = refusalOf 0
+noRefusal = refusalAt 0 0
 
 -- There is no first byte, or it is not the version.
 abbrev pub wrongVersion : ℕ

@@ -1,8 +1,10 @@
 // A refusal, and the refusal numbers, by name.
 
-// A refusal as every reading step hands it on.
+// A refusal as every reading step hands it on: its number, and the offset of the first byte of the field
+// in hand.
 pub struct Refusal {
     pub number: u8,
+    pub offset: usize,
 }
 
 // The number of no refusal.

@@ -4,7 +4,7 @@ use mathlib.Core.Bool.{Bool, true, false, _&&_}
 use mathlib.Core.List.{List}
 use Prim.Native.Nat.{ℕ}
 use Rattle.plan.specs.Versions.{newestVersion, countAllowedIn}
-use Rattle.plan.specs.Refusal.{Refusal, refusalOf, wrongRates, wrongJobCount, wrongGrade, wrongJobBounds}
+use Rattle.plan.specs.Refusal.{Refusal, refusalAt, wrongRates, wrongJobCount, wrongGrade, wrongJobBounds}
 use Rattle.plan.specs.Rules.{ratesAllowed, gradeAllowed, windowAllowed, sizeAllowed}
 use Rattle.plan.specs.declared.kinds.Job.{Job}
 use Rattle.fields.specs.Parsers.{Parsed, got, no, field, checked, opening}
@@ -27,7 +27,7 @@ module _ (compared : Bool) (file : List ℕ) (at : ℕ) where
       head-no-floor e = rw (e₁, e₂, e)
 
       module _ {d a₃ : ℕ} (e₃ : field 2 file a₂ ≡ got d a₃) where
-        pub head-rates : ratesAllowed n d ≡ false → _≡_ {A = Parsed Head} (no (refusalOf wrongRates)) (head compared file at)
+        pub head-rates : ratesAllowed n d ≡ false → _≡_ {A = Parsed Head} (no (refusalAt wrongRates a₁)) (head compared file at)
         unfolding head
         head-rates t = rw (e₁, e₂, e₃, t)
 
@@ -37,7 +37,7 @@ module _ (compared : Bool) (file : List ℕ) (at : ℕ) where
           head-no-count e = rw (e₁, e₂, e₃, t, e)
 
           pub head-count-refused : {count a₄ : ℕ} → field 1 file a₃ ≡ got count a₄ → countAllowedIn v count ≡ false
-              → _≡_ {A = Parsed Head} (no (refusalOf wrongJobCount)) (head compared file at)
+              → _≡_ {A = Parsed Head} (no (refusalAt wrongJobCount a₃)) (head compared file at)
           unfolding head
           head-count-refused e u = rw (e₁, e₂, e₃, t, e, u)
 
@@ -54,7 +54,7 @@ module _ (earlier file : List ℕ) (at : ℕ) {name grade release size deadline 
     (e₁ : jobName earlier file at ≡ got name a₁) (e₂ : checked 1 gradeAllowed wrongGrade file a₁ ≡ got grade a₂)
     (e₃ : field 4 file a₂ ≡ got release a₃) (e₄ : field 4 file a₃ ≡ got size a₄) (e₅ : field 4 file a₄ ≡ got deadline a₅) where
   pub job-bounds : (windowAllowed release deadline && sizeAllowed size) ≡ false
-      → _≡_ {A = Parsed Job} (no (refusalOf wrongJobBounds)) (oneJob earlier file at)
+      → _≡_ {A = Parsed Job} (no (refusalAt wrongJobBounds a₂)) (oneJob earlier file at)
   unfolding oneJob
   job-bounds t = rw (e₁, e₂, e₃, e₄, e₅, t)
 

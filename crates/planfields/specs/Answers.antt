@@ -43,10 +43,6 @@ abbrev pub jobRefusal : JobRead → Refusal
 jobRefusal (job.Job j next) = noRefusal
 jobRefusal (job.Refused refusal) = refusal
 
--- The contract of `read_named`: a length byte, which must be `length`, then a name.
-abbrev pub ReadsNamed : (file : Bytes) (at : Offset) (length : ℕ) (r : Field) → Type 0
-ReadsNamed file at length r = fieldView r ≡ rule.named length file at
-
 -- The contract of `read_head`: all fields before the jobs, from offset 0 on.
 abbrev pub ReadsHead : (file : Bytes) (lengths : LengthRule) (r : HeadRead) → Type 0
 ReadsHead file lengths r = headView r ≡ rule.head (isCompared lengths) file 0

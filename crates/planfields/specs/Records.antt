@@ -7,7 +7,7 @@ use Rattle.plan.specs.Versions.{newestVersion, countAllowedIn}
 use Rattle.plan.specs.Refusal.{wrongRates, wrongJobCount, wrongNameByte, nameTaken, wrongGrade, wrongJobBounds}
 use Rattle.plan.specs.Rules.{ratesAllowed, nameAllowed, isAbsent, gradeAllowed, windowAllowed, sizeAllowed}
 use Rattle.plan.specs.declared.kinds.Job.{Job}
-use Rattle.fields.specs.Parsers.{Parser, _>>=_, _>>_, done, test, field, checked, recordLength, opening}
+use Rattle.fields.specs.Parsers.{Parser, _>>=_, _>>_, done, here, test, field, checked, recordLength, opening}
 use Rattle.planfields.specs.Layout.{jobLength}
 
 -- The fields before the jobs, without the length field.
@@ -17,41 +17,40 @@ pub record Head : Type 0 where
   pub d : ℕ
   pub count : ℕ
 
--- The opening, both rates, which must pass rule 4, and a job count that the version allows (rule 5). The
--- length field is compared with the bytes after it, or only read.
+-- The opening, both rates, which must pass rule 4 (otherwise it is refused at n), and a job count that the
+-- version allows (rule 5). The length field is compared with the bytes after it, or only read.
 unfoldable pub head : (compared : Bool) → Parser Head
 head compared = do
   version ← opening newestVersion compared
+  from ← here
   n ← field 2
   d ← field 2
-  test (ratesAllowed n d) wrongRates
+  test (ratesAllowed n d) wrongRates from
   count ← checked 1 (countAllowedIn version) wrongJobCount
   done (record { version = version; n = n; d = d; count = count })
-
--- The length byte of a record, which must be `long`, then its name.
-unfoldable pub named : ℕ → Parser ℕ
-named long = do
-  recordLength long
-  field nameBytes
 
 -- The length byte and the name of a job;
 -- the name must pass rule 6 and be none of the earlier names (rule 7).
 unfoldable pub jobName : List ℕ → Parser ℕ
 jobName earlier = do
-  name ← named jobLength
-  test (nameAllowed name) wrongNameByte
-  test (isAbsent earlier name) nameTaken
+  recordLength jobLength
+  from ← here
+  name ← field nameBytes
+  test (nameAllowed name) wrongNameByte from
+  test (isAbsent earlier name) nameTaken from
   done name
 
--- One job, given the names of the jobs before it.
+-- One job, given the names of the jobs before it. Where its window or size is not allowed (rule 9), it is
+-- refused at its release.
 unfoldable pub oneJob : List ℕ → Parser Job
 oneJob earlier = do
   name ← jobName earlier
   grade ← checked 1 gradeAllowed wrongGrade
+  from ← here
   release ← field 4
   size ← field 4
   deadline ← field 4
-  test (windowAllowed release deadline && sizeAllowed size) wrongJobBounds
+  test (windowAllowed release deadline && sizeAllowed size) wrongJobBounds from
   done
       (record {
         name = record { 0 = name };

@@ -32,7 +32,10 @@ pub fn head_refusal(h: HeadRead) -> Refusal
     ensures { λ r. ⌜ r ≡ headRefusal h ⌝ }
 {
     match h {
-        HeadRead::Head(_, _) => Refusal { number: DONE },
+        HeadRead::Head(_, _) => Refusal {
+            number: DONE,
+            offset: 0,
+        },
         HeadRead::Refused(refusal) => refusal,
     }
 }
@@ -55,6 +58,7 @@ pub fn read_head(file: &[u8], lengths: LengthRule) -> HeadRead
     if !rates_allowed(Rate(n as u16), Rate(d as u16)) {
         return HeadRead::Refused(Refusal {
             number: WRONG_RATES,
+            offset: at,
         });
     }
     let jobs = read_byte(file, after_d);
@@ -64,6 +68,7 @@ pub fn read_head(file: &[u8], lengths: LengthRule) -> HeadRead
     if !count_allowed_in(version as u8, count) {
         return HeadRead::Refused(Refusal {
             number: WRONG_JOB_COUNT,
+            offset: after_d,
         });
     }
     HeadRead::Head(

@@ -1,10 +1,13 @@
 // Reading one job.
 use crate::layout::Layout;
-use crate::named::read_named;
 use fields::field::Field;
+use fields::field::Passed;
 use fields::field::field_refusal;
+use fields::field::passed_refusal;
 use fields::field::read_byte;
+use fields::field::read_eight;
 use fields::field::read_four;
+use fields::record::read_length;
 use plan::kinds::Job;
 use plan::kinds::Name;
 use plan::kinds::Slots;
@@ -38,7 +41,10 @@ pub fn job_refusal(j: JobRead) -> Refusal
     ensures { λ r. ⌜ r ≡ jobRefusal j ⌝ }
 {
     match j {
-        JobRead::Job(_, _) => Refusal { number: DONE },
+        JobRead::Job(_, _) => Refusal {
+            number: DONE,
+            offset: 0,
+        },
         JobRead::Refused(refusal) => refusal,
     }
 }
@@ -47,17 +53,25 @@ pub fn job_refusal(j: JobRead) -> Refusal
 fn read_name(file: &[u8], at: usize, earlier: &[u64]) -> Field
     ensures { λ r. ⌜ fieldView r ≡ jobName (now (earlier .entry)) (now (file .entry)) at ⌝ }
 {
-    let named = read_named(file, at, Layout::JOB_LENGTH as u64);
+    let long = read_length(file, at, Layout::JOB_LENGTH as u64);
+    let Passed::Next(from) = long else {
+        return Field::Refused(passed_refusal(long));
+    };
+    let named = read_eight(file, from);
     let Field::Value(name, next) = named else {
         return named;
     };
     if !name_allowed(Name(name)) {
         return Field::Refused(Refusal {
             number: WRONG_NAME_BYTE,
+            offset: from,
         });
     }
     if !is_absent(earlier, name) {
-        return Field::Refused(Refusal { number: NAME_TAKEN });
+        return Field::Refused(Refusal {
+            number: NAME_TAKEN,
+            offset: from,
+        });
     }
     named
 }
@@ -72,6 +86,7 @@ fn read_grade(file: &[u8], at: usize) -> Field
     if !grade_allowed(grade as u8) {
         return Field::Refused(Refusal {
             number: WRONG_GRADE,
+            offset: at,
         });
     }
     byte
@@ -110,6 +125,7 @@ pub fn read_job(file: &[u8], at: usize, earlier: &[u64]) -> JobRead
     if !(window_allowed(job.release, job.deadline) & size_allowed(job.size)) {
         return JobRead::Refused(Refusal {
             number: WRONG_JOB_BOUNDS,
+            offset: after_grade,
         });
     }
     JobRead::Job(job, next)

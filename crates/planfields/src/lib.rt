@@ -2,5 +2,4 @@
 pub mod head;
 pub mod job;
 pub mod layout;
-pub mod named;
 pub mod numbers;

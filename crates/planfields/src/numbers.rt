@@ -19,6 +19,7 @@ pub fn read_row_count(file: &[u8], at: usize, version: u8) -> Field
     if !rows_allowed_in(version, rows) {
         return Field::Refused(Refusal {
             number: TOO_MANY_ROWS,
+            offset: at,
         });
     }
     two
@@ -34,6 +35,7 @@ pub fn read_interval(file: &[u8], at: usize, spans: usize) -> Field
     if interval as usize >= spans {
         return Field::Refused(Refusal {
             number: ROW_WITHOUT_INTERVAL,
+            offset: at,
         });
     }
     two
@@ -49,6 +51,7 @@ pub fn read_units(file: &[u8], at: usize) -> Field
     if units == 0 {
         return Field::Refused(Refusal {
             number: ROW_WITHOUT_UNITS,
+            offset: at,
         });
     }
     four

@@ -15,8 +15,8 @@ use Rattle.plan.specs.Refusal.{wrongNameByte, nameTaken, wrongGrade, wrongJobBo
 use Rattle.plan.specs.Rules.{nameAllowed, isAbsent, gradeAllowed, windowAllowed, sizeAllowed}
 use Rattle.plan.specs.declared.kinds.Job.{Job}
 use Rattle.base.proofs.Below.{every-at}
-use Rattle.fields.specs.Parsers.{got, field, checked}
-use Rattle.planfields.specs.Records.{named, jobName, oneJob}
+use Rattle.fields.specs.Parsers.{got, field, checked, recordLength}
+use Rattle.planfields.specs.Records.{jobName, oneJob}
 use Rattle.planfile.specs.Reader.{namesOf, allJobs}
 use Rattle.planfile.specs.inner.Parts.{Distinct}
 use Rattle.fields.proofs.ParserLaws.{through, past, checked-is, same-value, same-next}
@@ -53,7 +53,9 @@ pub record JobRead (earlier file : List ℕ) (at : ℕ) (j : Job) (next : ℕ) :
   pub a₂ : ℕ
   pub a₃ : ℕ
   pub a₄ : ℕ
-  pub name : named jobLength file at ≡ got (j .name .0) a₁
+  pub start : ℕ
+  pub measured : recordLength jobLength file at ≡ got tt start
+  pub name : field 8 file start ≡ got (j .name .0) a₁
   pub allowed : nameAllowed (j .name .0) ≡ true
   pub absent : isAbsent earlier (j .name .0) ≡ true
   pub grade : field 1 file a₁ ≡ got (j .grade) a₂
@@ -63,15 +65,23 @@ pub record JobRead (earlier file : List ℕ) (at : ℕ) (j : Job) (next : ℕ) :
   pub deadline : field 4 file a₄ ≡ got (j .deadline .0) next
   pub bounds : (windowAllowed (j .release .0) (j .deadline .0) && sizeAllowed (j .size .0)) ≡ true
 
-name-read : (earlier file : List ℕ) (at : ℕ) {x next : ℕ} → jobName earlier file at ≡ got x next
-    → (named jobLength file at ≡ got x next) × (nameAllowed x ≡ true) × (isAbsent earlier x ≡ true)
+-- The name of a job that is read, behind its length byte, and the tests that it passes.
+record NameRead (earlier file : List ℕ) (at x next : ℕ) : Type 0 where
+  start : ℕ
+  measured : recordLength jobLength file at ≡ got tt start
+  name : field 8 file start ≡ got x next
+  allowed : nameAllowed x ≡ true
+  absent : isAbsent earlier x ≡ true
+
+name-read : (earlier file : List ℕ) (at : ℕ) {x next : ℕ} → jobName earlier file at ≡ got x next → NameRead earlier file at x next
 unfolding jobName
 name-read earlier file at e =
-    let t₁ = through (named jobLength file at) e in
-    let t₂ = past (nameAllowed (t₁ .value)) wrongNameByte file (t₁ .next) (t₁ .on) in
-    let t₃ = past (isAbsent earlier (t₁ .value)) nameTaken file (t₁ .next) (t₂ .on) in
+    let t₀ = through (recordLength jobLength file at) e in
+    let t₁ = through (field 8 file (t₀ .next)) (t₀ .on) in
+    let t₂ = past (nameAllowed (t₁ .value)) wrongNameByte (t₀ .next) file (t₁ .next) (t₁ .on) in
+    let t₃ = past (isAbsent earlier (t₁ .value)) nameTaken (t₀ .next) file (t₁ .next) (t₂ .on) in
     let v = same-value (t₃ .on) in
-    (t₁ .is ∙ t₃ .on, rw v at (t₂ .is), rw v at (t₃ .is))
+    record { start = t₀ .next; measured = t₀ .is; name = t₁ .is ∙ t₃ .on; allowed = rw v at (t₂ .is); absent = rw v at (t₃ .is) }
 
 moved : {earlier file : List ℕ} {at : ℕ} {j k : Job} {m n : ℕ} → JobRead earlier file at j m → j ≡ k → m ≡ n → JobRead earlier file at k n
 moved r p q = rw q at (rw p at r)
@@ -84,7 +94,7 @@ job-read earlier file at j next e =
     let t₃ = through (field 4 file (t₂ .next)) (t₂ .on) in
     let t₄ = through (field 4 file (t₃ .next)) (t₃ .on) in
     let t₅ = through (field 4 file (t₄ .next)) (t₄ .on) in
-    let t₆ = past (windowAllowed (t₃ .value) (t₅ .value) && sizeAllowed (t₄ .value)) wrongJobBounds file (t₅ .next) (t₅ .on) in
+    let t₆ = past (windowAllowed (t₃ .value) (t₅ .value) && sizeAllowed (t₄ .value)) wrongJobBounds (t₂ .next) file (t₅ .next) (t₅ .on) in
     let n = name-read earlier file at (t₁ .is) in
     let g = checked-is 1 gradeAllowed wrongGrade file (t₁ .next) (t₂ .is) in
     moved (record {
@@ -92,9 +102,11 @@ job-read earlier file at j next e =
       a₂ = t₂ .next;
       a₃ = t₃ .next;
       a₄ = t₄ .next;
-      name = n .0;
-      allowed = n .1;
-      absent = n .2;
+      start = n .start;
+      measured = n .measured;
+      name = n .name;
+      allowed = n .allowed;
+      absent = n .absent;
       grade = g .0;
       graded = g .1;
       release = t₃ .is;

@@ -11,37 +11,27 @@ use Rattle.plan.specs.Refusal.{wrongRates, wrongJobCount, tooManyRows}
 use Rattle.plan.specs.Rules.{ratesAllowed}
 use Rattle.plan.specs.Boundaries.{intervals}
 use Rattle.plan.specs.declared.kinds.Job.{Job}
-use Rattle.fields.specs.Parsers.{Parsed, got, no, field, checked, recordLength, opening, ended}
+use Rattle.fields.specs.Parsers.{Parsed, got, no, field, checked, opening, ended}
 use Rattle.planfields.specs.Layout.{jobLength, nameAt}
-use Rattle.planfields.specs.Records.{Head, head, named, oneJob}
+use Rattle.planfields.specs.Records.{Head, head, oneJob}
 use Rattle.planfile.specs.Reader.{namesOf, allJobs, Preamble, preamble, allRows, Contents, planFile, readFile}
 use Rattle.planfile.specs.inner.Parts.{countOf}
 use Rattle.fields.proofs.ParserLaws.{through, past, checked-is, same-value, same-next, field-extent}
 use Rattle.fields.proofs.OpeningLaws.{length-is, opening-read}
 use Rattle.planfile.proofs.DistinctNames.{job-read}
 
--- A name that is read stands behind its length byte.
-pub named-extent : (long : ℕ) (file : List ℕ) (at : ℕ) {v next : ℕ} → named long file at ≡ got v next
-    → (field 1 file at ≡ got long (at + 1)) × (field 8 file (at + 1) ≡ got v next)
-unfolding named
-named-extent long file at e =
-    let t = through (recordLength long file at) e in
-    let c = length-is long file at (t .is) in
-    let x = field-extent 1 file at c .0 in
-    (rw x at c, rw x at (t .on))
-
 -- A job takes 1 + jobLength bytes inside the file, and n jobs take n times as many.
 pub job-extent : (earlier file : List ℕ) (at : ℕ) {j : Job} {next : ℕ} → oneJob earlier file at ≡ got j next
     → (next ≡ at + (1 + jobLength)) × (at + (1 + jobLength) ≤ length file)
 job-extent earlier file at {j} {next} e =
     let r = job-read earlier file at j next e in
-    let n = named-extent jobLength file at (r .name) in
-    let x₁ = field-extent 8 file (at + 1) (n .1) in
+    let x₀ = field-extent 1 file at (length-is jobLength file at (r .measured)) in
+    let x₁ = field-extent 8 file (r .start) (r .name) in
     let x₂ = field-extent 1 file (r .a₁) (r .grade) in
     let x₃ = field-extent 4 file (r .a₂) (r .release) in
     let x₄ = field-extent 4 file (r .a₃) (r .size) in
     let x₅ = field-extent 4 file (r .a₄) (r .deadline) in
-    (omega (arith, x₁ .0, x₂ .0, x₃ .0, x₄ .0, x₅ .0), omega (arith, x₁ .0, x₂ .0, x₃ .0, x₄ .0, x₅ .1))
+    (omega (arith, x₀ .0, x₁ .0, x₂ .0, x₃ .0, x₄ .0, x₅ .0), omega (arith, x₀ .0, x₁ .0, x₂ .0, x₃ .0, x₄ .0, x₅ .1))
 
 pub jobs-extent : (n : ℕ) (jobs : List Job) (file : List ℕ) (at : ℕ) (all : List Job) (next : ℕ) → allJobs n jobs file at ≡ got all next
     → (next ≡ at + n * (1 + jobLength)) × (1 ≤ n → at + n * (1 + jobLength) ≤ length file)
@@ -93,7 +83,7 @@ head-read file e =
     let x₂ : t₂ .next ≡ 7 = field-extent 2 file (t₁ .next) (t₂ .is) .0 ∙ ap (λ k. k + 2) x₁ in
     let t₃ = through (field 2 file (t₂ .next)) (t₂ .on) in
     let x₃ : t₃ .next ≡ 9 = field-extent 2 file (t₂ .next) (t₃ .is) .0 ∙ ap (λ k. k + 2) x₂ in
-    let t₄ = past (ratesAllowed (t₂ .value) (t₃ .value)) wrongRates file (t₃ .next) (t₃ .on) in
+    let t₄ = past (ratesAllowed (t₂ .value) (t₃ .value)) wrongRates (t₁ .next) file (t₃ .next) (t₃ .on) in
     let t₅ = through (checked 1 (countAllowedIn (t₁ .value)) wrongJobCount file (t₃ .next)) (t₄ .on) in
     let c = checked-is 1 (countAllowedIn (t₁ .value)) wrongJobCount file (t₃ .next) (t₅ .is) in
     let x₅ : t₅ .next ≡ 10 = field-extent 1 file (t₃ .next) (c .0) .0 ∙ ap (λ k. k + 1) x₃ in

@@ -21,7 +21,7 @@ use Rattle.fields.specs.declared.field.Field.{Field}
 use Rattle.fields.specs.declared.field.Field.the-variants as field
 use Rattle.fields.specs.declared.field.Passed.the-variants as passed
 use Rattle.planfile.specs.declared.preamble.Preamble.{Preamble as PreambleRead}
-use Rattle.planfile.specs.declared.preamble.Jobs.{Jobs}
+use Rattle.planfile.specs.declared.preamble.PlanPassed.{PlanPassed}
 use Rattle.plan.proofs.BoundaryOrder.{boundaries-few}
 use Rattle.plan.proofs.VersionLimits.{count-some, count-fits}
 use Rattle.planfile.proofs.Offsets.{head-read}
@@ -36,7 +36,7 @@ head-count file {h} e =
     (count-some (h .version) (h .count) allowed, count-fits (h .version) (h .count) allowed)
 
 -- What the answer of `read_jobs` says about the parser result.
-module _ (h : Head) (first : List ℕ) (r : Jobs) (names : List ℕ) where
+module _ (h : Head) (first : List ℕ) (r : PlanPassed) (names : List ℕ) where
   pub jobs-refused : (s : Parsed (List Job)) {k : Refusal} → JobsAnswer h first s r names → r .answer ≡ passed.Refused k → s ≡ no k
   jobs-refused (got jobs next) a e = absurd (let z : _≡_ {A = ℕ} 0 1 = cc (a .0) in omega arith)
   jobs-refused (no refusal) a e = cc

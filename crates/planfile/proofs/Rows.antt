@@ -10,55 +10,78 @@ use lib.Dec.{leb, ltb, eqb}
 use lib.ListN.{length, set}
 use Rattle.plan.specs.Edition.{mostIntervals}
 use Rattle.planfields.specs.Layout.{rowLength}
-use Rattle.plan.specs.Refusal.{Refusal, refusalOf, rowWithoutJob, rowWithoutInterval, rowWithoutUnits, rowOutOfOrder}
+use Rattle.plan.specs.Refusal.{Refusal, refusalAt, rowWithoutJob, rowWithoutInterval, rowWithoutUnits, rowOutOfOrder}
 use Rattle.plan.specs.Table.{place}
-use Rattle.fields.specs.Parsers.{Parsed, got, no, onward, checked}
-use Rattle.planfields.specs.Records.{named}
-use Rattle.planfile.specs.Reader.{position, Row, oneRow, allRows}
+use Rattle.fields.specs.Parsers.{Parsed, got, no, onward, field, checked, recordLength}
+use Rattle.planfile.specs.Reader.{position, Row, rowJob, oneRow, allRows}
 use Rattle.fields.proofs.ParserLaws.{through, past, checked-is, same-value}
+
+-- The length byte and the name of a row: the first fault decides the result.
+module _ (names file : List ℕ) (at : ℕ) where
+  pub job-unmeasured : {k : Refusal} → recordLength rowLength file at ≡ no k → _≡_ {A = Parsed ℕ} (no k) (rowJob names file at)
+  unfolding rowJob
+  job-unmeasured e = rw e
+
+  module _ {u : Unit {0}} {a₁ : ℕ} (e₁ : recordLength rowLength file at ≡ got u a₁) where
+    pub job-unnamed : {k : Refusal} → field 8 file a₁ ≡ no k → _≡_ {A = Parsed ℕ} (no k) (rowJob names file at)
+    unfolding rowJob
+    job-unnamed e = rw (e₁, e)
+
+    module _ {name a₂ : ℕ} (e₂ : field 8 file a₁ ≡ got name a₂) where
+      pub job-missing : ltb (position names name) (length names) ≡ false
+          → _≡_ {A = Parsed ℕ} (no (refusalAt rowWithoutJob a₁)) (rowJob names file at)
+      unfolding rowJob
+      job-missing t = rw (e₁, e₂, t)
+
+      pub job-found : ltb (position names name) (length names) ≡ true → _≡_ {A = Parsed ℕ} (got (position names name) a₂) (rowJob names file at)
+      unfolding rowJob
+      job-found t = rw (e₁, e₂, t)
+
+-- Where a row's job is read, it is the position of the name that stands there.
+pub job-there : (names file : List ℕ) (at : ℕ) {job next : ℕ} → rowJob names file at ≡ got job next → job < length names
+unfolding rowJob
+job-there names file at e =
+    let t₁ = through (recordLength rowLength file at) e in
+    let t₂ = through (field 8 file (t₁ .next)) (t₁ .on) in
+    let t₃ = past (ltb (position names (t₂ .value)) (length names)) rowWithoutJob (t₁ .next) file (t₂ .next) (t₂ .on) in
+    omega (arith, same-value (t₃ .on), ltb-true (position names (t₂ .value)) (length names) (t₃ .is))
 
 -- One row, field by field: the first fault decides the result.
 module _ (width : ℕ) (names : List ℕ) (spans low : ℕ) (file : List ℕ) (at : ℕ) where
-  pub row-unnamed : {k : Refusal} → named rowLength file at ≡ no k → oneRow width names spans low file at ≡ no k
+  pub row-jobless : {k : Refusal} → rowJob names file at ≡ no k → oneRow width names spans low file at ≡ no k
   unfolding oneRow
-  row-unnamed e = rw e
+  row-jobless e = rw e
 
-  module _ {name a₁ : ℕ} (e₁ : named rowLength file at ≡ got name a₁) where
-    pub row-jobless : ltb (position names name) (length names) ≡ false → oneRow width names spans low file at ≡ no (refusalOf rowWithoutJob)
+  module _ {job a₁ : ℕ} (e₁ : rowJob names file at ≡ got job a₁) where
+    pub row-unplaced : {k : Refusal} → checked 2 (λ j. ltb j spans) rowWithoutInterval file a₁ ≡ no k → oneRow width names spans low file at ≡ no k
     unfolding oneRow
-    row-jobless t = rw (e₁, t)
+    row-unplaced e = rw (e₁, e)
 
-    module _ (t : ltb (position names name) (length names) ≡ true) where
-      pub row-unplaced : {k : Refusal} → checked 2 (λ j. ltb j spans) rowWithoutInterval file a₁ ≡ no k → oneRow width names spans low file at ≡ no k
+    module _ {interval a₂ : ℕ} (e₂ : checked 2 (λ j. ltb j spans) rowWithoutInterval file a₁ ≡ got interval a₂) where
+      pub row-empty : {k : Refusal} → checked 4 (λ u. not (eqb u 0)) rowWithoutUnits file a₂ ≡ no k → oneRow width names spans low file at ≡ no k
       unfolding oneRow
-      row-unplaced e = rw (e₁, t, e)
+      row-empty e = rw (e₁, e₂, e)
 
-      module _ {interval a₂ : ℕ} (e₂ : checked 2 (λ j. ltb j spans) rowWithoutInterval file a₁ ≡ got interval a₂) where
-        pub row-empty : {k : Refusal} → checked 4 (λ u. not (eqb u 0)) rowWithoutUnits file a₂ ≡ no k → oneRow width names spans low file at ≡ no k
+      module _ {units a₃ : ℕ} (e₃ : checked 4 (λ u. not (eqb u 0)) rowWithoutUnits file a₂ ≡ got units a₃) where
+        pub row-late : place width job interval < low → oneRow width names spans low file at ≡ no (refusalAt rowOutOfOrder at)
         unfolding oneRow
-        row-empty e = rw (e₁, t, e₂, e)
+        row-late h = rw (e₁, e₂, e₃, lt-leb low (place width job interval) h)
 
-        module _ {units a₃ : ℕ} (e₃ : checked 4 (λ u. not (eqb u 0)) rowWithoutUnits file a₂ ≡ got units a₃) where
-          pub row-late : place width (position names name) interval < low → oneRow width names spans low file at ≡ no (refusalOf rowOutOfOrder)
-          unfolding oneRow
-          row-late h = rw (e₁, t, e₂, e₃, lt-leb low (place width (position names name) interval) h)
-
-          pub row-whole : low ≤ place width (position names name) interval
-              → oneRow width names spans low file at ≡ got (record { at = place width (position names name) interval; units = units }) a₃
-          unfolding oneRow
-          row-whole h = rw (e₁, t, e₂, e₃, le-leb low (place width (position names name) interval) h)
+        pub row-whole : low ≤ place width job interval
+            → oneRow width names spans low file at ≡ got (record { at = place width job interval; units = units }) a₃
+        unfolding oneRow
+        row-whole h = rw (e₁, e₂, e₃, le-leb low (place width job interval) h)
 
 -- The place of a row that is read is below mostIntervals times the number of jobs.
 pub row-inside : (names : List ℕ) (spans low : ℕ) (file : List ℕ) (at : ℕ) {row : Row} {next : ℕ}
     → oneRow mostIntervals names spans low file at ≡ got row next → spans ≤ mostIntervals → row .at < mostIntervals * length names
 unfolding oneRow
 row-inside names spans low file at e h =
-    let t₁ = through (named rowLength file at) e in
-    let t₂ = past (ltb (position names (t₁ .value)) (length names)) rowWithoutJob file (t₁ .next) (t₁ .on) in
-    let t₃ = through (checked 2 (λ j. ltb j spans) rowWithoutInterval file (t₁ .next)) (t₂ .on) in
+    let t₁ = through (rowJob names file at) e in
+    let t₃ = through (checked 2 (λ j. ltb j spans) rowWithoutInterval file (t₁ .next)) (t₁ .on) in
     let t₄ = through (checked 4 (λ u. not (eqb u 0)) rowWithoutUnits file (t₃ .next)) (t₃ .on) in
-    let t₅ = past (leb low (place mostIntervals (position names (t₁ .value)) (t₃ .value))) rowOutOfOrder file (t₄ .next) (t₄ .on) in
-    let i = ltb-true (position names (t₁ .value)) (length names) (t₂ .is) in
+    let t₅ = past (leb low (place mostIntervals (t₁ .value) (t₃ .value))) rowOutOfOrder at file (t₄ .next) (t₄ .on) in
+    let i = job-there names file at (t₁ .is) in
     let j = ltb-true (t₃ .value) spans (checked-is 2 (λ j. ltb j spans) rowWithoutInterval file (t₁ .next) (t₃ .is) .1) in
     let q = ap (λ (r : Row). r .at) (same-value (t₅ .on)) in
     omega (arith, q)

@@ -16,12 +16,13 @@ use Rattle.plan.specs.Rules.{noPlan}
 use Rattle.planfile.specs.Reader.{Preamble, preamble, allRows, Contents, planFile, readFile, ReadEffect, leaves, reader, shownBy, foundBy}
 use Rattle.base.proofs.Logic.{if-less}
 use Rattle.planfields.specs.Layout.{nameAt}
-use Rattle.fields.specs.Answers.{passedView}
+use Rattle.fields.specs.Answers.{passedView, passedRefusal}
 use Rattle.planfile.specs.Answers.{answerView, readView}
 use Rattle.planfile.specs.inner.Parts.{Distinct, RowsAnswer, FillAnswer, countOf}
 use Rattle.fields.specs.declared.field.Passed.{Passed}
 use Rattle.fields.specs.declared.field.Passed.the-variants as passed
 use Rattle.planfile.specs.declared.reader.Answer.the-variants as answer
+use Rattle.planfile.specs.declared.preamble.PlanPassed.{PlanPassed}
 use Rattle.planfile.specs.declared.reader.PlanRead.{PlanRead}
 use Rattle.planfile.proofs.PreambleLaws.{preamble-fine}
 use Rattle.planfile.proofs.Rows.{onlyPassed}
@@ -72,6 +73,12 @@ module _ (file : List ℕ) where
       unfolding planFile
       file-whole t = rw (e, e′, t)
 
+      -- The answer of `fill` is that of the end.
+      pub file-ended : (r : Passed) → passedView r ≡ ended file last → {plan : Plan} → plan ≡ f .plan → (lent left : List ℕ)
+          → (lent ≡ replicate places 0 → left ≡ table) → FillAnswer (readFile file) lent (record { answer = r; plan = plan }) left
+      file-ended (passed.Next next) t p lent left stored = rw (file-whole (sym t)) (refl, p, stored)
+      file-ended (passed.Refused k) t p lent left stored = rw (no-end (sym t)) refl
+
 -- The names and the number of intervals that the code passes to `store_rows`
 -- are those of the preamble.
 module _ (file : List ℕ) {f : Preamble} {at : ℕ} (e : preamble file 0 ≡ got f at) {rows : ℕ} (er : f .rows ≡ rows) {plan : Plan}
@@ -96,17 +103,19 @@ module _ (file : List ℕ) {f : Preamble} {at : ℕ} (e : preamble file 0 ≡ go
   rows-same spans s table = rw (names-taken, s, ep, er)
 
 -- What the reader leaves, by the answer of `fill` and by the length of the table.
-pub whole-read : (s : Parsed Contents) (table : List ℕ) (r : PlanRead) (left : List ℕ) → FillAnswer s table r left → table ≡ replicate places 0 → r .answer ≡ answer.Read → readView r left ≡ leaves s []
+pub whole-read : (s : Parsed Contents) (table : List ℕ) (r : PlanPassed) (left : List ℕ) → FillAnswer s table r left → table ≡ replicate places 0
+    → {next : ℕ} → r .answer ≡ passed.Next next → readView (record { answer = answer.Read; plan = r .plan }) left ≡ leaves s []
 whole-read (got contents next) table r left a zeros e =
-    λ t. record { answer = (ap answerView e) t; plan = (a .1) t; table = (a .2 zeros ∙ sym (append-nil (contents .table))) t }
+    λ t. record { answer = []; plan = (a .1) t; table = (a .2 zeros ∙ sym (append-nil (contents .table))) t }
 whole-read (no refusal) table r left a zeros e = absurd (let z : _≡_ {A = ℕ} 0 1 = cc in omega arith)
 
-pub whole-refused : (s : Parsed Contents) (table : List ℕ) (r : PlanRead) (left : List ℕ) → FillAnswer s table r left → {k : ℕ} → r .answer ≡ answer.Refused k
-    → {plan : Plan} → plan ≡ noPlan → {zeros : List ℕ} → zeros ≡ replicate places 0
-    → readView (record { answer = r .answer; plan = plan }) zeros ≡ leaves s []
-whole-refused (got contents next) table r left a e p z = absurd (let z : _≡_ {A = ℕ} 0 1 = cc (a .0) in omega arith)
-whole-refused (no refusal) table r left a e p z =
-    λ t. record { answer = (ap answerView a) t; plan = p t; table = (z ∙ sym (append-nil (replicate places 0))) t }
+pub whole-refused : (s : Parsed Contents) (table : List ℕ) (r : PlanPassed) (left : List ℕ) → FillAnswer s table r left → {k x : Refusal} → r .answer ≡ passed.Refused k
+    → x ≡ passedRefusal (r .answer) → {plan : Plan} → plan ≡ noPlan → {zeros : List ℕ} → zeros ≡ replicate places 0
+    → readView (record { answer = answer.Refused x; plan = plan }) zeros ≡ leaves s []
+whole-refused (got contents next) table r left a e f p z = absurd (let z : _≡_ {A = ℕ} 0 1 = cc (a .0) in omega arith)
+whole-refused (no refusal) table r left a e f p z =
+    let is = f ∙ ap passedRefusal a in
+    λ t. record { answer = (ap (λ x. answerView (answer.Refused x)) is) t; plan = p t; table = (z ∙ sym (append-nil (replicate places 0))) t }
 
 pub whole-beyond : (s : Parsed Contents) (r : PlanRead) (left table : List ℕ) → readView r left ≡ leaves s []
     → readView r (left ++ drop places table) ≡ leaves s table
@@ -133,13 +142,13 @@ unfolding reader
 reader-long file table h = rw (le-ltb (length table) places h)
 
 -- The job count by the answer of `fill`.
-pub count-read : (s : Parsed Contents) (table : List ℕ) (r : PlanRead) (left : List ℕ) → FillAnswer s table r left → r .answer ≡ answer.Read
+pub count-read : (s : Parsed Contents) (table : List ℕ) (r : PlanPassed) (left : List ℕ) → FillAnswer s table r left → {next : ℕ} → r .answer ≡ passed.Next next
     → r .plan .count ≡ countOf s
 count-read (got contents next) table r left a e = ap (λ (p : Plan). p .count) (a .1)
 count-read (no refusal) table r left a e = absurd (let z : _≡_ {A = ℕ} 0 1 = cc in omega arith)
 
-pub count-refused : (s : Parsed Contents) (table : List ℕ) (r : PlanRead) (left : List ℕ) → FillAnswer s table r left → {k : ℕ}
-    → r .answer ≡ answer.Refused k → 0 ≡ countOf s
+pub count-refused : (s : Parsed Contents) (table : List ℕ) (r : PlanPassed) (left : List ℕ) → FillAnswer s table r left → {k : Refusal}
+    → r .answer ≡ passed.Refused k → 0 ≡ countOf s
 count-refused (got contents next) table r left a e = absurd (let z : _≡_ {A = ℕ} 0 1 = cc (a .0) in omega arith)
 count-refused (no refusal) table r left a e = refl
 

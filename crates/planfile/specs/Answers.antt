@@ -3,15 +3,19 @@ use mathlib.Core.Path.{_≡_}
 use mathlib.Core.List.{List, [], _∷_}
 use Prim.Native.Nat.{ℕ, _+_}
 use Rattle.plan.specs.Kinds.{Bytes, Position, Table}
+use Rattle.plan.specs.Refusal.{bufferTooShort}
+use Rattle.plan.specs.Report.{Report}
 use Rattle.planfile.specs.declared.reader.Answer.{Answer}
 use Rattle.planfile.specs.declared.reader.Answer.the-variants as answer
 use Rattle.planfile.specs.declared.reader.PlanRead.{PlanRead}
 use Rattle.planfile.specs.Reader as rule
 
--- The view of the reader's answer: empty for a plan that was read, otherwise the refusal number.
-abbrev pub answerView : Answer → List ℕ
+-- The view of the reader's answer: empty for a plan that was read, otherwise the refusal number and, except
+-- with 22, the offset of the field in hand.
+abbrev pub answerView : Answer → Report
 answerView answer.Read = []
-answerView (answer.Refused number) = number ∷ []
+answerView answer.TooShort = bufferTooShort ∷ []
+answerView (answer.Refused refusal) = refusal .number ∷ refusal .offset ∷ []
 
 -- The view of the reader's effect: its answer, the plan, and the table at exit.
 abbrev pub readView : (r : PlanRead) (left : List ℕ) → rule.ReadEffect

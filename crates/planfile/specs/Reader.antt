@@ -10,13 +10,14 @@ use Rattle.plan.specs.Edition.{mostJobs, mostIntervals, places, nameBytes}
 use Rattle.plan.specs.Versions.{rowsAllowedIn}
 use Rattle.planfields.specs.Layout.{rowLength, nameAt}
 use Rattle.plan.specs.Refusal.{tooManyRows, rowWithoutJob, rowWithoutInterval, rowWithoutUnits, rowOutOfOrder, bufferTooShort}
+use Rattle.plan.specs.Report.{Report}
 use Rattle.plan.specs.Rules.{sameName, noJob, noPlan}
 use Rattle.plan.specs.Boundaries.{intervals}
 use Rattle.plan.specs.Table.{place}
 use Rattle.plan.specs.declared.kinds.Job.{Job}
 use Rattle.plan.specs.declared.kinds.Plan.{Plan}
-use Rattle.fields.specs.Parsers.{Parsed, got, no, Parser, _>>=_, _>>_, done, test, checked, ended}
-use Rattle.planfields.specs.Records.{Head, head, named, oneJob}
+use Rattle.fields.specs.Parsers.{Parsed, got, no, Parser, _>>=_, _>>_, done, here, test, field, checked, recordLength, ended}
+use Rattle.planfields.specs.Records.{Head, head, oneJob}
 
 -- The names of a list of jobs.
 abbrev pub namesOf : List Job → List ℕ
@@ -40,16 +41,25 @@ pub record Row : Type 0 where
   pub at : ℕ
   pub units : ℕ
 
--- One row: its length byte, one of the names, an interval below `spans`, units other than 0, and a place
--- that is at least `low`.
+-- The length byte of a row and its name, which must be one of the names: the position of the job.
+unfoldable pub rowJob : (names : List ℕ) → Parser ℕ
+rowJob names = do
+  recordLength rowLength
+  from ← here
+  name ← field nameBytes
+  test (ltb (position names name) (length names)) rowWithoutJob from
+  done (position names name)
+
+-- One row: its length byte and its job, an interval below `spans`, units other than 0, and a place that is
+-- at least `low`; otherwise it is refused at its length byte.
 unfoldable pub oneRow : (width : ℕ) (names : List ℕ) (spans low : ℕ) → Parser Row
 oneRow width names spans low = do
-  name ← named rowLength
-  test (ltb (position names name) (length names)) rowWithoutJob
+  from ← here
+  job ← rowJob names
   interval ← checked 2 (λ j. ltb j spans) rowWithoutInterval
   units ← checked 4 (λ u. not (eqb u 0)) rowWithoutUnits
-  test (leb low (place width (position names name) interval)) rowOutOfOrder
-  done (record { at = place width (position names name) interval; units = units })
+  test (leb low (place width job interval)) rowOutOfOrder from
+  done (record { at = place width job interval; units = units })
 
 -- n rows in sequence, with strictly increasing places from `low` on, each stored in the table if the
 -- table has its place.
@@ -101,10 +111,10 @@ planFile = do
 abbrev pub readFile : Bytes → Parsed Contents
 readFile file = planFile file 0
 
--- What a call of the reader leaves: its answer (empty for a plan that was read,
--- otherwise the refusal number), the plan, and the lent table.
+-- What a call of the reader leaves: its report (empty for a plan that was read, otherwise the refusal number
+-- and, except with 22, the offset of the field in hand), the plan, and the lent table.
 pub record ReadEffect : Type 0 where
-  pub answer : List ℕ
+  pub answer : Report
   pub plan : Plan
   pub table : List ℕ
 
@@ -112,7 +122,7 @@ pub record ReadEffect : Type 0 where
 -- a refusal, and behind them what the lent table has from place `places` on.
 abbrev pub leaves : Parsed Contents → Table → ReadEffect
 leaves (got contents at) table = record { answer = []; plan = contents .plan; table = contents .table ++ drop places table }
-leaves (no refusal) table = record { answer = refusal .number ∷ []; plan = noPlan; table = replicate places 0 ++ drop places table }
+leaves (no refusal) table = record { answer = refusal .number ∷ refusal .offset ∷ []; plan = noPlan; table = replicate places 0 ++ drop places table }
 
 -- The reader: 22 for a table that is too short, which stays unchanged;
 -- otherwise what reading the file leaves.

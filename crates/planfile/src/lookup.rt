@@ -1,6 +1,6 @@
 // The name lookup: a job's name as a part of the caller's file.
-use crate::reader::Answer;
 use crate::reader::fill;
+use fields::field::Passed;
 use plan::edition::Edition;
 use planfields::layout::Layout;
 ghost use mathlib.Core.Path.{_≡_};
@@ -16,7 +16,7 @@ fn count_in(file: &[u8]) -> usize
     let reading = fill(file, &mut none[..0]);
     let answer = reading.answer;
     let plan = reading.plan;
-    let Answer::Read = answer else {
+    let Passed::Next(_) = answer else {
         return 0;
     };
     plan.count

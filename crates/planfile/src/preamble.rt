@@ -28,7 +28,8 @@ ghost use Rattle.planfile.specs.Reader.{allJobs, preamble, planFrom};
 ghost use Rattle.planfields.specs.Answers.{headOf};
 ghost use Rattle.planfile.specs.inner.Parts.{JobsAnswer, PreambleAnswer};
 
-pub struct Jobs {
+// The offset after what was read, or the refusal; and the plan.
+pub struct PlanPassed {
     pub answer: Passed,
     pub plan: Plan,
 }
@@ -73,7 +74,7 @@ pub(crate) fn no_plan() -> Plan
 }
 
 // The jobs of a plan with this head. Their names are also stored in `names`.
-fn read_jobs(file: &[u8], at: usize, head: Head, names: &mut [u64]) -> Jobs
+fn read_jobs(file: &[u8], at: usize, head: Head, names: &mut [u64]) -> PlanPassed
     requires { ⌜ (length (now names) ≡ mostJobs) × (head .count ≤ mostJobs) ⌝ }
     ensures { λ r. ⌜ JobsAnswer (headOf head) (now (names .entry)) (allJobs (head .count) [] (now (file .entry)) at) r (now (names .exit)) ⌝ }
 {
@@ -84,7 +85,7 @@ fn read_jobs(file: &[u8], at: usize, head: Head, names: &mut [u64]) -> Jobs
     while i < count {
         let read = read_job(file, next, &names[..i]);
         let JobRead::Job(job, after) = read else {
-            return Jobs {
+            return PlanPassed {
                 answer: Passed::Refused(job_refusal(read)),
                 plan,
             };
@@ -95,7 +96,7 @@ fn read_jobs(file: &[u8], at: usize, head: Head, names: &mut [u64]) -> Jobs
         next = after;
         i += 1;
     }
-    Jobs {
+    PlanPassed {
         answer: Passed::Next(next),
         plan,
     }

@@ -1,4 +1,5 @@
 // The reader of plan files.
+use crate::preamble::PlanPassed;
 use crate::preamble::no_plan;
 use crate::preamble::read_preamble;
 use crate::store::store_rows;
@@ -10,7 +11,7 @@ use fields::field::passed_refusal;
 use plan::boundaries::intervals_of;
 use plan::edition::Edition;
 use plan::kinds::Plan;
-use plan::refusal::BUFFER_TOO_SHORT;
+use plan::refusal::Refusal;
 ghost use mathlib.Core.Path.{_≡_};
 ghost use mathlib.Core.List.{[]};
 ghost use lib.ListN.{length, replicate};
@@ -19,9 +20,11 @@ ghost use Rattle.planfile.specs.Reader.{readFile, leaves};
 ghost use Rattle.planfile.specs.Answers.{readView, Reads};
 ghost use Rattle.planfile.specs.inner.Parts.{FillAnswer};
 
+// The plan was read; or the table is too short; or the file is refused.
 pub enum Answer {
     Read,
-    Refused(u8),
+    TooShort,
+    Refused(Refusal),
 }
 
 // The answer and the plan; with a refusal of `read` the plan is all zeros.
@@ -43,7 +46,7 @@ fn clear(table: &mut [u32])
 // Reads a file: the plan, and into a table of exactly PLACES zeros the allotments. With an empty
 // table the rows are checked and none is stored.
 // After a refusal the plan and the table have no meaning.
-pub(crate) fn fill(file: &[u8], table: &mut [u32]) -> PlanRead
+pub(crate) fn fill(file: &[u8], table: &mut [u32]) -> PlanPassed
     ensures { λ r. ⌜ FillAnswer (readFile (now (file .entry))) (now (table .entry)) r (now (table .exit)) ⌝ }
 {
     let mut names = [0u64; Edition::MOST_JOBS];
@@ -51,9 +54,8 @@ pub(crate) fn fill(file: &[u8], table: &mut [u32]) -> PlanRead
     let counted = preamble.answer;
     let plan = preamble.plan;
     let Field::Value(rows, at) = counted else {
-        let refusal = field_refusal(counted);
-        return PlanRead {
-            answer: Answer::Refused(refusal.number),
+        return PlanPassed {
+            answer: Passed::Refused(field_refusal(counted)),
             plan,
         };
     };
@@ -61,22 +63,13 @@ pub(crate) fn fill(file: &[u8], table: &mut [u32]) -> PlanRead
     let spans = intervals_of(plan);
     let stored = store_rows(file, at, rows as usize, &names[..count], spans, table);
     let Passed::Next(last) = stored else {
-        let refusal = passed_refusal(stored);
-        return PlanRead {
-            answer: Answer::Refused(refusal.number),
+        return PlanPassed {
+            answer: stored,
             plan,
         };
     };
-    let end = read_end(file, last);
-    let Passed::Next(_) = end else {
-        let refusal = passed_refusal(end);
-        return PlanRead {
-            answer: Answer::Refused(refusal.number),
-            plan,
-        };
-    };
-    PlanRead {
-        answer: Answer::Read,
+    PlanPassed {
+        answer: read_end(file, last),
         plan,
     }
 }
@@ -90,14 +83,18 @@ fn read_whole(file: &[u8], table: &mut [u32]) -> PlanRead
     clear(table);
     let reading = fill(file, table);
     let answer = reading.answer;
-    let Answer::Read = answer else {
+    let plan = reading.plan;
+    let Passed::Next(_) = answer else {
         clear(table);
         return PlanRead {
-            answer,
+            answer: Answer::Refused(passed_refusal(answer)),
             plan: no_plan(),
         };
     };
-    reading
+    PlanRead {
+        answer: Answer::Read,
+        plan,
+    }
 }
 
 // Reads a plan file into the lent table.
@@ -106,7 +103,7 @@ pub fn read(file: &[u8], table: &mut [u32]) -> PlanRead
 {
     if table.len() < Edition::PLACES {
         return PlanRead {
-            answer: Answer::Refused(BUFFER_TOO_SHORT),
+            answer: Answer::TooShort,
             plan: no_plan(),
         };
     }

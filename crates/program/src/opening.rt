@@ -9,6 +9,7 @@ use judge::answers::number_of;
 use lines::refused_line;
 use lines::slot_header;
 use plan::kinds::Plan;
+use plan::refusal::BUFFER_TOO_SHORT;
 use planfile::reader::Answer;
 use planfile::reader::read;
 ghost use mathlib.Core.Path.{_≡_};
@@ -74,6 +75,7 @@ pub fn open(file: &[u8], table: &mut [u32], out: &mut [u8]) -> Turn
     let p = reading.plan;
     match said {
         Answer::Read => judge_and_start(p, table, out),
-        Answer::Refused(number) => refuse(p, number, out),
+        Answer::TooShort => refuse(p, BUFFER_TOO_SHORT, out),
+        Answer::Refused(refusal) => refuse(p, refusal.number, out),
     }
 }

@@ -19,22 +19,14 @@ use Rattle.plan.specs.declared.kinds.Plan.{Plan}
 use Rattle.base.proofs.Logic.{both}
 use Rattle.fields.specs.Bytes.{bytes}
 use Rattle.fields.specs.Parsers.{got}
-use Rattle.planfields.specs.Records.{named, jobName, oneJob}
+use Rattle.planfields.specs.Records.{jobName, oneJob}
 use Rattle.planfile.specs.Reader.{namesOf, allJobs}
 use Rattle.planwriter.specs.Writing.{jobBytes, jobsBytes}
 use Rattle.fields.proofs.ByteLaws.{Octets}
 use Rattle.fields.proofs.ParserLaws.{through, same-value, same-next}
 use Rattle.planfile.proofs.JobLoop.{length-snoc, jobs-step, jobs-done}
 use Rattle.fields.proofs.BytesAt.{Stands, stands-none, stands-then, stands-first, stands-rest, stands-at}
-use Rattle.fields.proofs.RoundTripLaws.{Law, law-as, then-law, test-law, done-law, field-law, checked-law, length-law}
-
--- The front of a record: its length byte and its name.
-pub named-law : (file : List ℕ) (long : ℕ) → long < 256 ^ 1
-    → Law file (named long) (λ x. bytes 1 long ++ bytes 8 x) (λ x. x < 256 ^ 8)
-unfolding named
-named-law file long small =
-    law-as (then-law (λ _. tt) (length-law file long small) (λ _. field-law file 8 (omega arith)) (λ a b first good. refl))
-    (λ x good. (tt, good)) (λ x good. good .1) (λ x. refl)
+use Rattle.fields.proofs.RoundTripLaws.{Law, law-as, here-law, then-law, test-law, done-law, field-law, checked-law, length-law}
 
 -- What a job needs to be read after jobs with the given names.
 pub record Readable (earlier : List ℕ) (j : Job) : Type 0 where
@@ -59,13 +51,16 @@ unfolding oneJob jobName
 job-law file earlier =
     law-as
     (then-law (λ (j : Job). j .name .0)
-    (then-law (λ x. x) (named-law file jobLength (lit< tt))
-    (λ name. test-law (nameAllowed name) wrongNameByte (test-law (isAbsent earlier name) nameTaken (done-law file name))) (λ a b first good. good .1 .1))
+    (then-law (λ _. tt) (length-law file jobLength (lit< tt))
+    (λ _. here-law (λ from. then-law (λ x. x) (field-law file 8 (omega arith))
+    (λ name. test-law (nameAllowed name) wrongNameByte from (test-law (isAbsent earlier name) nameTaken from (done-law file name)))
+    (λ a b first good. good .1 .1)))
+    (λ a b first good. refl))
     (λ name. then-law (λ (j : Job). j .grade) (checked-law file 1 (omega arith) gradeAllowed wrongGrade)
-    (λ grade. then-law (λ (j : Job). j .release .0) (field-law file 4 (omega arith))
+    (λ grade. here-law (λ from. then-law (λ (j : Job). j .release .0) (field-law file 4 (omega arith))
     (λ release. then-law (λ (j : Job). j .size .0) (field-law file 4 (omega arith))
     (λ size. then-law (λ (j : Job). j .deadline .0) (field-law file 4 (omega arith))
-    (λ deadline. test-law (windowAllowed release deadline && sizeAllowed size) wrongJobBounds
+    (λ deadline. test-law (windowAllowed release deadline && sizeAllowed size) wrongJobBounds from
     (done-law file
     (record {
       name = record { 0 = name };
@@ -76,7 +71,7 @@ job-law file earlier =
     })))
     (λ a b first good. ap (λ (j : Job). j .deadline .0) (good .1)))
     (λ a b first good. ap (λ (j : Job). j .size .0) (good .1 .1)))
-    (λ a b first good. ap (λ (j : Job). j .release .0) (good .1 .1 .1)))
+    (λ a b first good. ap (λ (j : Job). j .release .0) (good .1 .1 .1))))
     (λ a b first good. ap (λ (j : Job). j .grade) (good .1 .1 .1 .1)))
     (λ a b first good. ap (λ (j : Job). j .name .0) (good .1 .1 .1 .1 .1)))
     (λ j ok.
@@ -85,16 +80,16 @@ job-law file earlier =
     let from = ltb-true (j .release .0) (j .deadline .0) (w .0) in
     let to = leb-true (j .deadline .0) mostDeadline (w .1) in
     let size = leb-true (j .size .0) mostSize (both (leb 1 (j .size .0)) (leb (j .size .0) mostSize) (t .1) .1) in (
-      (ok .fits, (ok .allowed, (ok .absent, refl))),
+      (tt, (ok .fits, (ok .allowed, (ok .absent, refl)))),
       (
         (grade-small (j .grade) (ok .graded), ok .graded),
         (omega (arith, from, to), (omega (arith, size), (omega (arith, to), (ok .bounds, refl)))),
       ),
     ))
     (λ j good. record {
-      fits = good .0 .0;
-      allowed = good .0 .1 .0;
-      absent = good .0 .1 .1 .0;
+      fits = good .0 .1 .0;
+      allowed = good .0 .1 .1 .0;
+      absent = good .0 .1 .1 .1 .0;
       graded = good .1 .0 .1;
       bounds = good .1 .1 .1 .1 .1 .0;
     })

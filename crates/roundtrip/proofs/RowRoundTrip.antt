@@ -16,8 +16,9 @@ use Rattle.planfields.specs.Layout.{rowLength}
 use Rattle.plan.specs.Refusal.{rowWithoutJob, rowWithoutInterval, rowWithoutUnits, rowOutOfOrder}
 use Rattle.plan.specs.Table.{place, noStray}
 use Rattle.base.proofs.Logic.{both}
+use Rattle.fields.specs.Bytes.{bytes}
 use Rattle.fields.specs.Parsers.{got}
-use Rattle.planfile.specs.Reader.{position, Row, oneRow, allRows}
+use Rattle.planfile.specs.Reader.{position, Row, rowJob, oneRow, allRows}
 use Rattle.planwriter.specs.Writing.{rowBytes, rowsBytes, rowCount}
 use Rattle.planfile.specs.inner.Parts.{Distinct}
 use Rattle.fields.proofs.ByteLaws.{Octets}
@@ -26,8 +27,7 @@ use Rattle.planfile.proofs.PositionLaws.{position-only, position-found}
 use Rattle.planfile.proofs.Rows.{row-inside, rows-step, rows-done}
 use Rattle.planwriter.proofs.JobAndRowBytes.{rows-split, count-split}
 use Rattle.fields.proofs.BytesAt.{Stands, stands-none, stands-then, stands-first, stands-rest, stands-at}
-use Rattle.fields.proofs.RoundTripLaws.{Law, law-as, then-law, test-law, done-law, checked-law}
-use Rattle.roundtrip.proofs.JobRoundTrip.{named-law}
+use Rattle.fields.proofs.RoundTripLaws.{Law, law-as, here-law, then-law, test-law, done-law, field-law, checked-law, length-law}
 
 -- Zeros have no rows.
 zeros-rows : (names : List ℕ) (q m : ℕ) → rowsBytes mostIntervals names q (replicate m 0) ≡ []
@@ -86,20 +86,24 @@ module _ (names : List ℕ) (spans : ℕ) (differ : Distinct names) (narrow : sp
       let is : place mostIntervals i j ≡ i * mostIntervals + j = ap (λ k. k + j) (mul-comm mostIntervals i) in
       (ap (λ k. k / mostIntervals) is ∙ digits-div i wide, ap (λ k. k % mostIntervals) is ∙ digits-mod i wide)
 
-  -- The name at the job of a place is the name that gave the job.
-  name-of-place : (name j : ℕ) → ltb (position names name) (length names) ≡ true → j < spans
-      → getD names (place mostIntervals (position names name) j / mostIntervals) 0 ≡ name
-  name-of-place name j found h =
-      ap (λ i. getD names i 0) (place-parts (position names name) j h .0) ∙ position-found names name (ltb-true (position names name) (length names) found)
-
-  -- The position of the name at the job of a place, and the place that it gives.
-  place-of-name : (q : ℕ) → q / mostIntervals < length names
-      → (ltb (position names (getD names (q / mostIntervals) 0)) (length names) ≡ true)
-      × (place mostIntervals (position names (getD names (q / mostIntervals) 0)) (q % mostIntervals) ≡ q)
-  place-of-name q job =
-      let name = getD names (q / mostIntervals) 0 in
-      let p : q / mostIntervals ≡ position names name = position-only names name (q / mostIntervals) differ job refl in
-      (lt-ltb (position names name) (length names) (rw (← p) job), rw (← p) (div-add-mod q mostIntervals))
+  -- The length byte and the name of a row, by the position of its job.
+  job-law : (file : List ℕ)
+      → Law file (rowJob names) (λ job. bytes 1 rowLength ++ bytes 8 (getD names job 0)) (λ job. (job < length names) × (getD names job 0 < 256 ^ 8))
+  unfolding rowJob
+  job-law file =
+      law-as
+      (then-law (λ _. tt) (length-law file rowLength (lit< tt))
+      (λ _. here-law (λ from. then-law (λ job. getD names job 0) (field-law file 8 (omega arith))
+      (λ name. test-law (ltb (position names name) (length names)) rowWithoutJob from (done-law file (position names name)))
+      (λ name job first good.
+      ap (λ i. getD names i 0) (good .1) ∙ position-found names name (ltb-true (position names name) (length names) (good .0)))))
+      (λ a b first good. refl))
+      (λ job good.
+      let is : job ≡ position names (getD names job 0) = position-only names (getD names job 0) job differ (good .0) refl in
+      (tt, (good .1, (lt-ltb (position names (getD names job 0)) (length names) (rw (← is) (good .0)), is))))
+      (λ job good.
+      (omega (arith, good .1 .1 .1, ltb-true (position names (getD names job 0)) (length names) (good .1 .1 .0)), good .1 .0))
+      (λ job. simp (append-nil))
 
   -- A row, from its fields and their tests.
   pub row-law : (file : List ℕ) (low : ℕ)
@@ -107,43 +111,32 @@ module _ (names : List ℕ) (spans : ℕ) (differ : Distinct names) (narrow : sp
   unfolding oneRow
   row-law file low =
       law-as
-      (then-law (λ (r : Row). getD names (r .at / mostIntervals) 0) (named-law file rowLength (lit< tt))
-      (λ name. test-law (ltb (position names name) (length names)) rowWithoutJob
-      (then-law (λ (r : Row). r .at % mostIntervals) (checked-law file 2 (omega arith) (λ j. ltb j spans) rowWithoutInterval)
+      (here-law (λ from. then-law (λ (r : Row). r .at / mostIntervals) (job-law file)
+      (λ job. then-law (λ (r : Row). r .at % mostIntervals) (checked-law file 2 (omega arith) (λ j. ltb j spans) rowWithoutInterval)
       (λ interval. then-law (λ (r : Row). r .units) (checked-law file 4 (omega arith) (λ u. not (eqb u 0)) rowWithoutUnits)
-      (λ units. test-law (leb low (place mostIntervals (position names name) interval)) rowOutOfOrder
-      (done-law file (record { at = place mostIntervals (position names name) interval; units = units })))
+      (λ units. test-law (leb low (place mostIntervals job interval)) rowOutOfOrder from
+      (done-law file (record { at = place mostIntervals job interval; units = units })))
       (λ a b first good. ap (λ (r : Row). r .units) (good .1)))
+      (λ a b first good. ap (λ (r : Row). r .at % mostIntervals) (good .1 .1) ∙ place-parts job a (ltb-true a spans (first .1)) .1))
       (λ a b first good.
-      ap (λ (r : Row). r .at % mostIntervals) (good .1 .1) ∙ place-parts (position names name) a (ltb-true a spans (first .1)) .1)))
-      (λ a b first good.
-      ap (λ (r : Row). getD names (r .at / mostIntervals) 0) (good .1 .1 .1 .1) ∙ name-of-place a (b .at % mostIntervals) (good .0) (ltb-true _ spans (good .1 .0 .1))))
+      ap (λ (r : Row). r .at / mostIntervals) (good .1 .1 .1) ∙ place-parts a (b .at % mostIntervals) (ltb-true (b .at % mostIntervals) spans (good .0 .1)) .0)))
       (λ r ok.
-      let p = place-of-name (r .at) (ok .job) in (
-        ok .fits,
+      let is : place mostIntervals (r .at / mostIntervals) (r .at % mostIntervals) ≡ r .at = div-add-mod (r .at) mostIntervals in (
+        (ok .job, ok .fits),
         (
-          p .0,
-          (
-            (omega (arith, ok .interval, narrow), lt-ltb (r .at % mostIntervals) spans (ok .interval)),
-            (
-              (ok .small, unit-test (ok .some)),
-              (rw (p .1) (le-leb low (r .at) (ok .after)), ap (λ k. record { at = k; units = r .units }) (sym (p .1))),
-            ),
-          ),
+          (omega (arith, ok .interval, narrow), lt-ltb (r .at % mostIntervals) spans (ok .interval)),
+          ((ok .small, unit-test (ok .some)), (rw is (le-leb low (r .at) (ok .after)), ap (λ k. record { at = k; units = r .units }) (sym is))),
         ),
       ))
       (λ r good.
-      let i = position names (getD names (r .at / mostIntervals) 0) in
-      let j = r .at % mostIntervals in
-      let in-span = ltb-true j spans (good .1 .1 .0 .1) in
-      let is : r .at ≡ place mostIntervals i j = ap (λ (r : Row). r .at) (good .1 .1 .1 .1 .1) in
+      let is : r .at ≡ place mostIntervals (r .at / mostIntervals) (r .at % mostIntervals) = ap (λ (r : Row). r .at) (good .1 .1 .1 .1) in
       record {
-        fits = good .0;
-        job = omega (arith, ap (λ k. k / mostIntervals) is ∙ place-parts i j in-span .0, ltb-true i (length names) (good .1 .0));
-        interval = in-span;
-        some = eqb-false (r .units) 0 (not-true (eqb (r .units) 0) (good .1 .1 .1 .0 .1));
-        small = good .1 .1 .1 .0 .0;
-        after = omega (arith, is, leb-true low (place mostIntervals i j) (good .1 .1 .1 .1 .0));
+        fits = good .0 .1;
+        job = good .0 .0;
+        interval = ltb-true (r .at % mostIntervals) spans (good .1 .0 .1);
+        some = eqb-false (r .units) 0 (not-true (eqb (r .units) 0) (good .1 .1 .0 .1));
+        small = good .1 .1 .0 .0;
+        after = omega (arith, is, leb-true low (place mostIntervals (r .at / mostIntervals) (r .at % mostIntervals)) (good .1 .1 .1 .0));
       })
       (λ r. simp (append-nil, append-assoc))
     where

@@ -12,11 +12,8 @@ use Rattle.fields.specs.declared.field.Passed.{Passed}
 use Rattle.fields.specs.declared.field.Passed.the-variants as passed
 use Rattle.planfile.specs.declared.row.RowRead.{RowRead}
 use Rattle.planfile.specs.declared.row.RowRead.the-variants as row
-use Rattle.planfile.specs.declared.preamble.Jobs.{Jobs}
+use Rattle.planfile.specs.declared.preamble.PlanPassed.{PlanPassed}
 use Rattle.planfile.specs.declared.preamble.Preamble.{Preamble}
-use Rattle.planfile.specs.declared.reader.Answer.{Answer}
-use Rattle.planfile.specs.declared.reader.Answer.the-variants as answer
-use Rattle.planfile.specs.declared.reader.PlanRead.{PlanRead}
 use Rattle.planfile.specs.Reader as rule
 use Rattle.fields.specs.Parsers.{Parsed, got, no}
 use Rattle.planfields.specs.Records.{Head}
@@ -37,7 +34,7 @@ rowRefusal (row.Refused refusal) = refusal
 
 -- The contract of `read_jobs`: the next offset, the plan,
 -- and the names stored over the prefix of `first`; after a refusal, only the refusal.
-abbrev pub JobsAnswer : Head → List ℕ → Parsed (List Job) → Jobs → List ℕ → Type 0
+abbrev pub JobsAnswer : Head → List ℕ → Parsed (List Job) → PlanPassed → List ℕ → Type 0
 JobsAnswer h first (got jobs next) r names =
     (r .answer ≡ passed.Next next) × (r .plan ≡ rule.planFrom h jobs) × (names ≡ rule.namesOf jobs ++ drop (h .count) first)
 JobsAnswer h first (no refusal) r names = r .answer ≡ passed.Refused refusal
@@ -54,12 +51,12 @@ abbrev pub RowsAnswer : Parsed (List ℕ) → Passed → List ℕ → Type 0
 RowsAnswer (got table next) r left = (r ≡ passed.Next next) × (left ≡ table)
 RowsAnswer (no refusal) r left = r ≡ passed.Refused refusal
 
--- The contract of `fill`: the plan and, if the table was all zeros, the table; after a refusal,
--- only the refusal.
-abbrev pub FillAnswer : Parsed rule.Contents → (table : List ℕ) (r : PlanRead) (left : List ℕ) → Type 0
+-- The contract of `fill`: where the file ends, the plan and, if the table was all zeros, the table; after a
+-- refusal, only the refusal.
+abbrev pub FillAnswer : Parsed rule.Contents → (table : List ℕ) (r : PlanPassed) (left : List ℕ) → Type 0
 FillAnswer (got contents next) table r left =
-    (r .answer ≡ answer.Read) × (r .plan ≡ contents .plan) × (table ≡ replicate places 0 → left ≡ contents .table)
-FillAnswer (no refusal) table r left = r .answer ≡ answer.Refused (refusal .number)
+    (r .answer ≡ passed.Next next) × (r .plan ≡ contents .plan) × (table ≡ replicate places 0 → left ≡ contents .table)
+FillAnswer (no refusal) table r left = r .answer ≡ passed.Refused refusal
 
 -- The job count of a file's contents, or 0 for a refused file.
 abbrev pub countOf : Parsed rule.Contents → ℕ

@@ -19,6 +19,9 @@ read-requires c κs = search needs
 put-plan-requires : tie.Need-put-plan-requires
 put-plan-requires c κs = search needs
 
+read-offset-requires : tie.Need-read-offset-requires
+read-offset-requires c κs = search needs
+
 read-number-requires : tie.Need-read-number-requires
 read-number-requires c κs = search needs
 
@@ -41,6 +44,7 @@ gateway-read-spec =
     returns
     read-requires
     put-plan-requires
+    read-offset-requires
     read-number-requires
     same-length
     same-length-2

@@ -13,7 +13,7 @@ use Rattle.planfile.specs.inner.Parts.{RowsAnswer}
 use Rattle.fields.proofs.ParserLaws.{so, refused, passed-refused, field-refused}
 use Rattle.planfile.proofs.Rows.{onlyPassed, rows-only}
 use Rattle.planfile.proofs.PreambleLaws.{preamble-refused, preamble-got}
-use Rattle.planfile.proofs.WholeFile.{rowsOf, rows-passed, rows-left, only-refused, only-got, no-preamble, no-rows, no-end, file-whole, taken-length, count-within, rows-asked, rows-same}
+use Rattle.planfile.proofs.WholeFile.{rowsOf, rows-passed, rows-left, only-refused, only-got, no-preamble, no-rows, file-ended, taken-length, count-within, rows-asked, rows-same}
 use Rattle.planfile.proofs.reader.fill.Statement.{statement}
 use Rattle.planfile.proofs.reader.fill.Tie as tie
 
@@ -98,52 +98,25 @@ enum-known-stored c = search needs
 enum-told-2 : tie.Need-enum-told-2
 enum-told-2 c = search needs
 
-passed-refusal-requires : tie.Need-passed-refusal-requires
-passed-refusal-requires c κs = search needs
-
 same-length : tie.Need-same-length
 same-length c = search needs
 
 returns-2 : tie.Need-returns-2
 returns-2 c =
-    let at-store-rows = c .before .before .before .before .before in
+    let at-store-rows = c .before .before .before .before in
     let matched = at-store-rows .before .before .before .before in
     let file = matched .before .before .before .before .before .before .before .before .before .args .file .now in
-    rw (no-rows file (preamble-here matched .1)
-    (only-refused _ (passed-here at-store-rows) (passed-refused (c .before .enum-told2 .given .1) (c .passed-refusal .ensures)))) refl
+    rw (no-rows file (preamble-here matched .1) (only-refused _ (passed-here at-store-rows) (c .enum-told2 .given .1))) (c .enum-told2 .given .1)
 
 read-end-requires : tie.Need-read-end-requires
 read-end-requires c κs = search needs
-
-enum-told-3 : tie.Need-enum-told-3
-enum-told-3 c = search needs
-
-enum-told-4 : tie.Need-enum-told-4
-enum-told-4 c = search needs
-
-passed-refusal-requires-2 : tie.Need-passed-refusal-requires-2
-passed-refusal-requires-2 c κs = search needs
 
 same-length-2 : tie.Need-same-length-2
 same-length-2 c = search needs
 
 returns-3 : tie.Need-returns-3
 returns-3 c =
-    let at-read-end = c .before .before .before in
-    let next = at-read-end .before in
-    let at-store-rows = next .before .before .before .before .before in
-    let matched = at-store-rows .before .before .before .before in
-    let file = matched .before .before .before .before .before .before .before .before .before .args .file .now in
-    let rows = only-got _ (passed-here at-store-rows) (next .before .stored .given .1) in
-    rw (no-end file (preamble-here matched .1) (rows .1)
-    (refused passedView passedRefusal (at-read-end .read-end .ensures) (c .before .enum-told4 .given .1) refl refl (c .passed-refusal2 .ensures))) refl
-
-same-length-3 : tie.Need-same-length-3
-same-length-3 c = search needs
-
-returns-4 : tie.Need-returns-4
-returns-4 c =
-    let at-read-end = c .before .before in
+    let at-read-end = c in
     let next = at-read-end .before in
     let at-store-rows = next .before .before .before .before .before in
     let matched = at-store-rows .before .before .before .before in
@@ -152,8 +125,8 @@ returns-4 c =
     let g = preamble-here matched in
     let rows = only-got _ (passed-here at-store-rows) (next .before .stored .given .1) in
     let at = matched .before .counted .given .0 .1 .0 in
-    rw (file-whole file (g .1) (rows .1) (so passedView (at-read-end .read-end .ensures) (c .enum-told3 .given .1)))
-    (refl, g .3, λ zeros. rows-left _ _ (rowsOf (g .0) (entry .args .table .now) file at) (rows-here at-store-rows) (ap (λ l. rowsOf (g .0) l file at) zeros ∙ rows .1))
+    file-ended file (g .1) (rows .1) (at-read-end .read-end .result) (at-read-end .read-end .ensures) (g .3) (entry .args .table .now) _
+    (λ zeros. rows-left _ _ (rowsOf (g .0) (entry .args .table .now) file at) (rows-here at-store-rows) (ap (λ l. rowsOf (g .0) l file at) zeros ∙ rows .1))
 
 pub fill-spec : {M : Type 1} → statement M
 fill-spec =
@@ -171,14 +144,8 @@ fill-spec =
     store-rows-requires
     enum-known-stored
     enum-told-2
-    passed-refusal-requires
     same-length
     returns-2
     read-end-requires
-    enum-told-3
-    enum-told-4
-    passed-refusal-requires-2
     same-length-2
-    returns-3
-    same-length-3
-    returns-4)
+    returns-3)

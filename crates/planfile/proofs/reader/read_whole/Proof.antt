@@ -22,6 +22,9 @@ enum-told-2 c = search needs
 clear-requires-2 : tie.Need-clear-requires-2
 clear-requires-2 c κs = search needs
 
+passed-refusal-requires : tie.Need-passed-refusal-requires
+passed-refusal-requires c κs = search needs
+
 no-plan-requires : tie.Need-no-plan-requires
 no-plan-requires c κs = search needs
 
@@ -30,11 +33,13 @@ same-length c = search needs
 
 returns : tie.Need-returns
 returns c =
-    let at-clear2 = c .before .before .before in
-    let f = at-clear2 .before .before .before .before .before .before .fill in
-    let at-clear = at-clear2 .before .before .before .before .before .before .before .before .before .before in
+    let at-passed-refusal = c .before in
+    let at-clear2 = at-passed-refusal .before .before .before in
+    let at-fill = at-clear2 .before .before .before .before .before .before .before in
+    let f = at-fill .fill in
+    let at-clear = at-fill .before .before .before .before in
     let entry = at-clear .before .before .before .before in
-    whole-refused (readFile (entry .args .file .now)) (at-clear .clear .last .0) (f .result) (f .last .1 .0) (f .ensures) (at-clear2 .before .before .enum-told2 .given .1) (c .no-plan .ensures)
+    whole-refused (readFile (entry .args .file .now)) (at-clear .clear .last .0) (f .result) (f .last .1 .0) (f .ensures) (at-clear2 .before .before .enum-told2 .given .1) (at-passed-refusal .passed-refusal .ensures) (c .no-plan .ensures)
     (at-clear2 .clear2 .ensures ∙ ap (λ n. replicate n 0) (f .kept .1 .0 ∙ at-clear .clear .kept .0 ∙ entry .pre))
 
 same-length-2 : tie.Need-same-length-2
@@ -42,7 +47,7 @@ same-length-2 c = search needs
 
 returns-2 : tie.Need-returns-2
 returns-2 c =
-    let at-fill = c .before .before .before .before in
+    let at-fill = c .before .before .before .before .before in
     let at-clear = at-fill .before .before .before .before in
     let entry = at-clear .before .before .before .before in
     let f = at-fill .fill in
@@ -58,6 +63,7 @@ read-whole-spec =
     enum-told
     enum-told-2
     clear-requires-2
+    passed-refusal-requires
     no-plan-requires
     same-length
     returns
