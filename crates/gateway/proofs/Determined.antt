@@ -9,14 +9,18 @@ use Rattle.gateway.specs.Calls.{HostJudgeEffect, HostSlackEffect, HostSt
 use Rattle.gateway.specs.Answers.{HostReads, HostWrites, HostShows, HostJudges, HostMeasures, HostStarts, HostSteps, HostEnds}
 
 -- `gateway_read`.
-pub one-read : (file plan table : List ℕ) (r s : ℕ) (words others cells other-cells : List ℕ) → HostReads file plan table r words cells
-    → HostReads file plan table s others other-cells → (r ≡ s) × (words ≡ others) × (cells ≡ other-cells)
-one-read file plan table r s words others cells other-cells d e =
-    let same = d ∙ sym e in
-    (ap (λ (x : HostReadEffect). x .number) same, ap (λ (x : HostReadEffect). x .plan) same, ap (λ (x : HostReadEffect). x .table) same)
+pub one-read : (file plan table : List ℕ) (was r s : ℕ) (words others cells other-cells : List ℕ) (offset other : ℕ) → HostReads file plan table was r words cells offset
+    → HostReads file plan table was s others other-cells other → (r ≡ s) × (words ≡ others) × (cells ≡ other-cells) × (offset ≡ other)
+one-read file plan table was r s words others cells other-cells offset other d e =
+    let same = d ∙ sym e in (
+      ap (λ (x : HostReadEffect). x .number) same,
+      ap (λ (x : HostReadEffect). x .plan) same,
+      ap (λ (x : HostReadEffect). x .table) same,
+      ap (λ (x : HostReadEffect). x .offset) same,
+    )
 
-pub some-read : (file plan table : List ℕ) → (r : ℕ) × (words : List ℕ) × (cells : List ℕ) × HostReads file plan table r words cells
-some-read file plan table = let c = readCall file plan table in (c .number, c .plan, c .table, refl)
+pub some-read : (file plan table : List ℕ) (was : ℕ) → (r : ℕ) × (words : List ℕ) × (cells : List ℕ) × (offset : ℕ) × HostReads file plan table was r words cells offset
+some-read file plan table was = let c = readCall file plan table was in (c .number, c .plan, c .table, c .offset, refl)
 
 -- `gateway_write`.
 pub one-write : (plan table out : List ℕ) (was r s : ℕ) (left other : List ℕ) (length long : ℕ) → HostWrites plan table out was r left length

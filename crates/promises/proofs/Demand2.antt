@@ -22,9 +22,9 @@ use Rattle.plan.specs.declared.kinds.Plan.{Plan}
 use Rattle.base.proofs.Logic.{and-left, and-right}
 use Rattle.fields.specs.Bytes.{value}
 use Rattle.fields.specs.Parsers.{Parsed, got, no, field, version, extent, opening, ended, recordLength}
-use Rattle.planfields.specs.Records.{head, named, jobName, oneJob}
+use Rattle.planfields.specs.Records.{head, jobName, oneJob}
 use Rattle.plan.specs.Rules.{noPlan}
-use Rattle.planfile.specs.Reader.{allJobs, position, oneRow, allRows, preamble, planFile, Contents, readFile, ReadEffect, leaves, reader}
+use Rattle.planfile.specs.Reader.{allJobs, position, rowJob, oneRow, allRows, preamble, planFile, Contents, readFile, ReadEffect, leaves, reader}
 use Rattle.planfile.proofs.WholeFile.{reader-long}
 use Rattle.planwriter.specs.Writing.{WriteEffect, wrote, written, writer}
 use Rattle.roundtrip.proofs.KeptPlan.{kept, kept-job}
@@ -160,7 +160,7 @@ allBelow bound (x ∷ l) = ltb x bound && allBelow bound l
 
 -- Plan E's file is accepted, and gives plan E and its table.
 pub read-E : readFile fileE ≡ got (record { plan = planE; table = tableE }) 116
-unfolding tableOf Below.every nameAllowed isAbsent insert boundariesTo value field version extent opening head recordLength named jobName oneJob allJobs position oneRow allRows preamble planFile ended
+unfolding tableOf Below.every nameAllowed isAbsent insert boundariesTo value field version extent opening head recordLength jobName oneJob allJobs position rowJob oneRow allRows preamble planFile ended
 read-E = refl
 
 pub octets-E : (k : ℕ) → getD fileE k 0 < 256

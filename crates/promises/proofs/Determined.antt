@@ -21,9 +21,9 @@ use Rattle.plan.specs.declared.kinds.Slots.{Slots}
 use Rattle.fields.specs.Parsers as rule
 use Rattle.fields.specs.Parsers.{Parsed, got, no, checked, recordLength, opening, ended}
 use Rattle.planfields.specs.Records as records
-use Rattle.planfields.specs.Records.{Head, named, oneJob}
+use Rattle.planfields.specs.Records.{Head, oneJob}
 use Rattle.fields.specs.Answers.{fieldView, fieldValue, passedView, isCompared, ReadsField, ReadsLength, ReadsOpening, ReadsEnd}
-use Rattle.planfields.specs.Answers.{headView, jobView, ReadsNamed, ReadsHead, ReadsJob, ReadsRowCount, ReadsInterval, ReadsUnits}
+use Rattle.planfields.specs.Answers.{headView, jobView, ReadsHead, ReadsJob, ReadsRowCount, ReadsInterval, ReadsUnits}
 use Rattle.fields.specs.declared.field.Field.{Field}
 use Rattle.fields.specs.declared.field.Field.the-variants as field
 use Rattle.fields.specs.declared.field.Passed.{Passed}
@@ -372,13 +372,6 @@ one-end file at r s d e = passed-one r s (d ∙ sym e)
 
 pub some-end : (file : List ℕ) (at : ℕ) → (r : Passed) × ReadsEnd file at r
 some-end file at = passed-some (ended file at)
-
--- `planfields::named::read_named`.
-pub one-named : (file : List ℕ) (at length : ℕ) (r s : Field) → ReadsNamed file at length r → ReadsNamed file at length s → r ≡ s
-one-named file at length r s d e = fields-one r s (d ∙ sym e)
-
-pub some-named : (file : List ℕ) (at length : ℕ) → (r : Field) × ReadsNamed file at length r
-some-named file at length = field-some (named length file at)
 
 -- `planfields::head::read_head`.
 pub one-head : (file : List ℕ) (lengths : LengthRule) (r s : HeadRead) → ReadsHead file lengths r → ReadsHead file lengths s → r ≡ s

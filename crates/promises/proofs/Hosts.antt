@@ -53,14 +53,14 @@ report-one numbers [] h = refl
 report-one numbers (number ∷ rest) h = or-one number doneNumber numbers (h number rest refl)
 
 -- `gateway_read`: 0, 1 to 14, 22.
-pub host-read-numbers : (file plan table : List ℕ)
+pub host-read-numbers : (file plan table : List ℕ) (was : ℕ)
     → isOneOf
     (doneNumber ∷ wrongVersion ∷ wrongExtent ∷ wrongRecordLength ∷ wrongRates ∷ wrongJobCount ∷ wrongNameByte ∷ nameTaken ∷ wrongGrade ∷ wrongJobBounds
     ∷ tooManyRows ∷ rowWithoutJob ∷ rowWithoutInterval ∷ rowWithoutUnits ∷ rowOutOfOrder ∷ bufferTooShort ∷ [])
-    (readCall file plan table .number)
+    (readCall file plan table was .number)
     ≡ true
 unfolding readCall
-host-read-numbers file plan table = by (shortPlan plan)
+host-read-numbers file plan table was = by (shortPlan plan)
   where
     numbers : List ℕ
     numbers =
@@ -68,7 +68,7 @@ host-read-numbers file plan table = by (shortPlan plan)
         ∷ tooManyRows ∷ rowWithoutJob ∷ rowWithoutInterval ∷ rowWithoutUnits ∷ rowOutOfOrder ∷ bufferTooShort ∷ []
 
     by : (b : Bool)
-        → isOneOf (doneNumber ∷ numbers) (cond b (record { number = bufferTooShort; plan = plan; table = table }) (readWords (reader file table) plan) .number) ≡ true
+        → isOneOf (doneNumber ∷ numbers) (cond b (record { number = bufferTooShort; plan = plan; table = table; offset = was }) (readWords (reader file table) plan) .number) ≡ true
     by true = refl
     by false = report-one numbers (reader file table .answer) (reader-numbers file table)
 
@@ -193,12 +193,12 @@ host-outcome-numbers plan run position = by (shortPlan plan || shortRun run) (no
 
 -- `gateway_read`: 22 leaves the table unchanged; any other refusal leaves zeros in its own
 -- places, and the words of a plan of zeros.
-pub host-read-22-leaves : (file plan table : List ℕ) → readCall file plan table .number ≡ bufferTooShort → readCall file plan table .table ≡ table
+pub host-read-22-leaves : (file plan table : List ℕ) (was : ℕ) → readCall file plan table was .number ≡ bufferTooShort → readCall file plan table was .table ≡ table
 unfolding readCall
-host-read-22-leaves file plan table = by (shortPlan plan)
+host-read-22-leaves file plan table was = by (shortPlan plan)
   where
     left : Bool → HostReadEffect
-    left b = cond b (record { number = bufferTooShort; plan = plan; table = table }) (readWords (reader file table) plan)
+    left b = cond b (record { number = bufferTooShort; plan = plan; table = table; offset = was }) (readWords (reader file table) plan)
 
     by-answer : (r : Report) → reader file table .answer ≡ r → numberOf r ≡ bufferTooShort → reader file table .table ≡ table
     by-answer [] e n = absurd (omega (arith, n))
@@ -208,13 +208,13 @@ host-read-22-leaves file plan table = by (shortPlan plan)
     by true n = refl
     by false n = by-answer (reader file table .answer) refl n
 
-pub host-read-other-leaves : (file plan table : List ℕ) → readCall file plan table .number ≢ doneNumber → readCall file plan table .number ≢ bufferTooShort
-    → (readCall file plan table .table ≡ replicate places 0 ++ drop places table) × (readCall file plan table .plan ≡ planPut plan noPlan)
+pub host-read-other-leaves : (file plan table : List ℕ) (was : ℕ) → readCall file plan table was .number ≢ doneNumber → readCall file plan table was .number ≢ bufferTooShort
+    → (readCall file plan table was .table ≡ replicate places 0 ++ drop places table) × (readCall file plan table was .plan ≡ planPut plan noPlan)
 unfolding readCall
-host-read-other-leaves file plan table = by (shortPlan plan)
+host-read-other-leaves file plan table was = by (shortPlan plan)
   where
     left : Bool → HostReadEffect
-    left b = cond b (record { number = bufferTooShort; plan = plan; table = table }) (readWords (reader file table) plan)
+    left b = cond b (record { number = bufferTooShort; plan = plan; table = table; offset = was }) (readWords (reader file table) plan)
 
     by-answer : (r : Report) → reader file table .answer ≡ r → numberOf r ≢ doneNumber → numberOf r ≢ bufferTooShort
         → (reader file table .table ≡ replicate places 0 ++ drop places table) × (planPut plan (reader file table .plan) ≡ planPut plan noPlan)
@@ -316,11 +316,11 @@ same-host-step-E run = same-host-step wordsE tableE elseWords elseTable words-sa
 
 -- Instances that meet the premises of what refusals leave: an empty file, a table of one place, no
 -- words for a plan, no words for a location, and plan E at speed 3.
-empty-file-host-leaves : (readCall [] wordsE (replicate places 7) .table ≡ replicate places 0) × (readCall [] wordsE (replicate places 7) .plan ≡ planPut wordsE noPlan)
+empty-file-host-leaves : (readCall [] wordsE (replicate places 7) 9 .table ≡ replicate places 0) × (readCall [] wordsE (replicate places 7) 9 .plan ≡ planPut wordsE noPlan)
 unfolding field version opening head preamble planFile reader readCall jobsOut planOut
 empty-file-host-leaves = host-read-other-leaves [] wordsE (replicate places 7) (λ e. absurd (omega (arith, e))) (λ e. absurd (omega (arith, e)))
 
-short-table-host-stays : readCall [] wordsE (7 ∷ []) .table ≡ 7 ∷ []
+short-table-host-stays : readCall [] wordsE (7 ∷ []) 9 .table ≡ 7 ∷ []
 unfolding reader readCall jobsOut planOut
 short-table-host-stays = host-read-22-leaves [] wordsE (7 ∷ []) refl
 

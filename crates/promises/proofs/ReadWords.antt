@@ -79,9 +79,9 @@ record Taken (file plan table : List ℕ) : Type 0 where
   plan-long : planWords ≤ length plan
   answer : reader file table .answer ≡ []
 
-read-done : (file plan table : List ℕ) → readCall file plan table .number ≡ doneNumber → Taken file plan table
+read-done : (file plan table : List ℕ) (was : ℕ) → readCall file plan table was .number ≡ doneNumber → Taken file plan table
 unfolding readCall
-read-done file plan table e = go (shortPlan plan) refl e
+read-done file plan table was e = go (shortPlan plan) refl e
   where
     numbers : List ℕ
     numbers =
@@ -93,19 +93,19 @@ read-done file plan table e = go (shortPlan plan) refl e
     told (number ∷ rest) a e = absurd (false≢true (sym (ap (isOneOf numbers) e) ∙ reader-numbers file table number rest a))
 
     go : (b : Bool) → shortPlan plan ≡ b
-        → cond b (record { number = bufferTooShort; plan = plan; table = table }) (readWords (reader file table) plan) .number ≡ doneNumber
+        → cond b (record { number = bufferTooShort; plan = plan; table = table; offset = was }) (readWords (reader file table) plan) .number ≡ doneNumber
         → Taken file plan table
     go true s e = absurd (omega (arith, e))
     go false s e = record { plan-long = ltb-false (length plan) planWords s; answer = told (reader file table .answer) refl e }
 
 -- If `gateway_read` returns 0, the reader takes the file, the words that are left encode its plan,
 -- and the table that is left is its table.
-pub words-are-the-plan : (file : List ℕ) → Octets file → (plan table plan-left table-left : List ℕ)
-    → HostReads file plan table doneNumber plan-left table-left
+pub words-are-the-plan : (file : List ℕ) → Octets file → (plan table plan-left table-left : List ℕ) (was offset : ℕ)
+    → HostReads file plan table was doneNumber plan-left table-left offset
     → (reader file table .answer ≡ []) × (planOf plan-left ≡ reader file table .plan) × (table-left ≡ reader file table .table)
 unfolding readCall
-words-are-the-plan file octets plan table plan-left table-left contract =
-    let t = read-done file plan table (sym (ap (λ (x : HostReadEffect). x .number) contract)) in
+words-are-the-plan file octets plan table plan-left table-left was offset contract =
+    let t = read-done file plan table was (sym (ap (λ (x : HostReadEffect). x .number) contract)) in
     let taken = taken-is file table (t .answer) in
     let contents = taken .0 in
     let plan-is : reader file table .plan ≡ contents .plan = ap (λ (x : ReadEffect). x .plan) (taken .4) in
@@ -121,8 +121,8 @@ words-are-the-plan file octets plan table plan-left table-left contract =
     moved e x = rw e x
 
 -- Instance: plan E's file.
-read-words-E : (plan table plan-left table-left : List ℕ) → HostReads fileE plan table doneNumber plan-left table-left
+read-words-E : (plan table plan-left table-left : List ℕ) (was offset : ℕ) → HostReads fileE plan table was doneNumber plan-left table-left offset
     → planOf plan-left ≡ planE
-read-words-E plan table plan-left table-left contract =
-    let so = words-are-the-plan fileE octets-E plan table plan-left table-left contract in
+read-words-E plan table plan-left table-left was offset contract =
+    let so = words-are-the-plan fileE octets-E plan table plan-left table-left was offset contract in
     so .1 ∙ ap (λ (x : ReadEffect). x .plan) (sym (reader-long fileE table (taken-is fileE table (so .0) .3)) ∙ ap (λ c. leaves c table) read-E)

@@ -9,7 +9,7 @@ use native.Mathlib.Omega.{arith}
 use lib.Dec.{ltb, lit≤}
 use lib.ListN.{length, take, drop, replicate}
 use Rattle.plan.specs.Edition.{places}
-use Rattle.plan.specs.Refusal.{Refusal, refusalOf, wrongVersion, belowFloorRule, speedAboveNormal, unsound, bufferTooShort}
+use Rattle.plan.specs.Refusal.{Refusal, refusalAt, wrongVersion, belowFloorRule, speedAboveNormal, unsound, bufferTooShort}
 use Rattle.base.specs.Below
 use Rattle.plan.specs.Rules.{nameAllowed, namesHold, namesDiffer, gradesHold, boundsHold, rulesHold}
 use Rattle.plan.specs.Boundaries.{insert, boundariesTo}
@@ -148,7 +148,7 @@ empty-file-leaves = reader-other-leaves [] (replicate places 7 ++ (9 ∷ [])) wr
 -- An empty file shows no name, and plan E's file shows no third one.
 empty-file-shows-nothing : nameShown [] 0 ≡ []
 unfolding field version opening head preamble planFile
-empty-file-shows-nothing = refused-file-shows-nothing [] (refusalOf wrongVersion) 0 refl
+empty-file-shows-nothing = refused-file-shows-nothing [] (refusalAt wrongVersion 0) 0 refl
 
 E-shows-no-third : nameShown fileE 2 ≡ []
 E-shows-no-third = no-job-shows-nothing fileE (record { plan = planE; table = tableE }) 116 2 read-E (lit≤ tt)

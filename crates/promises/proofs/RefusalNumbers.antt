@@ -10,7 +10,7 @@ use Rattle.base.specs.Sum.{sum}
 use Rattle.plan.specs.Edition.{mostIntervals, places}
 use Rattle.plan.specs.Versions.{newestVersion, countAllowedIn, rowsAllowedIn}
 use Rattle.planfields.specs.Layout.{jobLength, rowLength}
-use Rattle.plan.specs.Refusal.{refusalOf, wrongVersion, wrongExtent, wrongRecordLength, wrongRates, wrongJobCount, wrongNameByte, nameTaken, wrongGrade, wrongJobBounds, tooManyRows, rowWithoutJob, rowWithoutInterval, rowWithoutUnits, rowOutOfOrder, outsideWindow, wrongTotal, overCapacity, belowFloorRule, clockAtEnd, speedAboveNormal, unsound, bufferTooShort}
+use Rattle.plan.specs.Refusal.{refusalAt, wrongVersion, wrongExtent, wrongRecordLength, wrongRates, wrongJobCount, wrongNameByte, nameTaken, wrongGrade, wrongJobBounds, tooManyRows, rowWithoutJob, rowWithoutInterval, rowWithoutUnits, rowOutOfOrder, outsideWindow, wrongTotal, overCapacity, belowFloorRule, clockAtEnd, speedAboveNormal, unsound, bufferTooShort}
 use Rattle.base.specs.Below
 use Rattle.plan.specs.Rules.{counted, size, deadline, isHi, ratesAllowed, nameAllowed, isAbsent, gradeAllowed, windowAllowed, sizeAllowed, namesHold, namesDiffer, gradesHold, boundsHold, rulesHold}
 use Rattle.plan.specs.Boundaries.{insert, boundariesTo, boundary, intervals, lastDeadline}
@@ -19,9 +19,9 @@ use Rattle.plan.specs.declared.kinds.Job.{Job}
 use Rattle.plan.specs.declared.kinds.Plan.{Plan}
 use Rattle.fields.specs.Bytes.{bytes, value}
 use Rattle.fields.specs.Parsers.{Parsed, got, no, Parser, onward, test, field, checked, recordLength, refusedAs, isVersion, version, extent, opening, ended}
-use Rattle.planfields.specs.Records.{head, named, jobName, oneJob}
+use Rattle.planfields.specs.Records.{head, jobName, oneJob}
 use Rattle.plan.specs.Rules.{noPlan}
-use Rattle.planfile.specs.Reader.{namesOf, allJobs, position, oneRow, allRows, Contents, preamble, planFile, readFile, leaves, reader}
+use Rattle.planfile.specs.Reader.{namesOf, allJobs, position, rowJob, oneRow, allRows, Contents, preamble, planFile, readFile, leaves, reader}
 use Rattle.planwriter.specs.Writing as writing
 use Rattle.planwriter.specs.Writing.{wrote, withheld, written, writer}
 use Rattle.judge.specs.Constraints.{intervalLength, total, load}
@@ -53,14 +53,14 @@ only-onward : {A B : Type 0} (numbers : List ℕ) (s : Parsed A) (rest : A → P
 only-onward numbers (got a next) rest file h r = r a next
 only-onward numbers (no k) rest file h r = h
 
-only-cond : {A : Type 0} (numbers : List ℕ) (b : Bool) (number : ℕ) (a : A) (next : ℕ) → isOneOf numbers number ≡ true
-    → Only numbers (cond b (got a next) (no (refusalOf number)))
-only-cond numbers true number a next h = tt
-only-cond numbers false number a next h = h
+only-cond : {A : Type 0} (numbers : List ℕ) (b : Bool) (number offset : ℕ) (a : A) (next : ℕ) → isOneOf numbers number ≡ true
+    → Only numbers (cond b (got a next) (no (refusalAt number offset)))
+only-cond numbers true number offset a next h = tt
+only-cond numbers false number offset a next h = h
 
-only-test : (numbers : List ℕ) (b : Bool) (number : ℕ) (file : List ℕ) (at : ℕ) → isOneOf numbers number ≡ true → Only numbers (test b number file at)
-only-test numbers true number file at h = tt
-only-test numbers false number file at h = h
+only-test : (numbers : List ℕ) (b : Bool) (number from : ℕ) (file : List ℕ) (at : ℕ) → isOneOf numbers number ≡ true → Only numbers (test b number from file at)
+only-test numbers true number from file at h = tt
+only-test numbers false number from file at h = h
 
 -- The refusals of reading a plan file: 1 to 14.
 abbrev pub fileNumbers : List ℕ
@@ -71,12 +71,12 @@ fileNumbers =
 module _ (file : List ℕ) where
   field-only : (w at : ℕ) → Only fileNumbers (field w file at)
   unfolding field
-  field-only w at = only-cond fileNumbers (leb (at + w) (length file)) wrongExtent (value 0 (take w (drop at file))) (at + w) refl
+  field-only w at = only-cond fileNumbers (leb (at + w) (length file)) wrongExtent at (value 0 (take w (drop at file))) (at + w) refl
 
   pub checked-only : (w : ℕ) (ok : ℕ → Bool) (number at : ℕ) → isOneOf fileNumbers number ≡ true → Only fileNumbers (checked w ok number file at)
   checked-only w ok number at h =
       only-onward fileNumbers (field w file at) _ file (field-only w at)
-      (λ x next. only-onward fileNumbers (test (ok x) number file next) _ file (only-test fileNumbers (ok x) number file next h) (λ _ _. tt))
+      (λ x next. only-onward fileNumbers (test (ok x) number at file next) _ file (only-test fileNumbers (ok x) number at file next h) (λ _ _. tt))
 
   version-only : (newest at : ℕ) → Only fileNumbers (version newest file at)
   unfolding field version
@@ -90,7 +90,7 @@ module _ (file : List ℕ) where
   unfolding extent
   extent-only compared at =
       only-onward fileNumbers (field 4 file at) _ file (field-only 4 at)
-      (λ says next. only-test fileNumbers (not compared || eqb (next + says) (length file)) wrongExtent file next refl)
+      (λ says next. only-test fileNumbers (not compared || eqb (next + says) (length file)) wrongExtent at file next refl)
 
   pub opening-only : (newest : ℕ) (compared : Bool) (at : ℕ) → Only fileNumbers (opening newest compared file at)
   unfolding opening
@@ -104,7 +104,7 @@ module _ (file : List ℕ) where
       only-onward fileNumbers (opening newestVersion compared file at) _ file (opening-only newestVersion compared at)
       (λ v a₁. only-onward fileNumbers (field 2 file a₁) _ file (field-only 2 a₁)
       (λ n a₂. only-onward fileNumbers (field 2 file a₂) _ file (field-only 2 a₂)
-      (λ d a₃. only-onward fileNumbers (test (ratesAllowed n d) wrongRates file a₃) _ file (only-test fileNumbers (ratesAllowed n d) wrongRates file a₃ refl)
+      (λ d a₃. only-onward fileNumbers (test (ratesAllowed n d) wrongRates a₁ file a₃) _ file (only-test fileNumbers (ratesAllowed n d) wrongRates a₁ file a₃ refl)
       (λ _ a₄. only-onward fileNumbers (checked 1 (countAllowedIn v) wrongJobCount file a₄) _ file (checked-only 1 (countAllowedIn v) wrongJobCount a₄ refl)
       (λ _ _. tt)))))
 
@@ -112,19 +112,16 @@ module _ (file : List ℕ) where
   unfolding recordLength
   length-only long at =
       only-onward fileNumbers (field 1 file at) _ file (field-only 1 at)
-      (λ x next. only-test fileNumbers (eqb x long) wrongRecordLength file next refl)
-
-  pub named-only : (long at : ℕ) → Only fileNumbers (named long file at)
-  unfolding recordLength named
-  named-only long at = only-onward fileNumbers (recordLength long file at) _ file (length-only long at) (λ _ next. field-only 8 next)
+      (λ x next. only-test fileNumbers (eqb x long) wrongRecordLength at file next refl)
 
   name-only : (earlier : List ℕ) (at : ℕ) → Only fileNumbers (jobName earlier file at)
   unfolding jobName
   name-only earlier at =
-      only-onward fileNumbers (named jobLength file at) _ file (named-only jobLength at)
-      (λ name a₁. only-onward fileNumbers (test (nameAllowed name) wrongNameByte file a₁) _ file (only-test fileNumbers (nameAllowed name) wrongNameByte file a₁ refl)
-      (λ _ a₂. only-onward fileNumbers (test (isAbsent earlier name) nameTaken file a₂) _ file (only-test fileNumbers (isAbsent earlier name) nameTaken file a₂ refl)
-      (λ _ _. tt)))
+      only-onward fileNumbers (recordLength jobLength file at) _ file (length-only jobLength at)
+      (λ _ a₁. only-onward fileNumbers (field 8 file a₁) _ file (field-only 8 a₁)
+      (λ name a₂. only-onward fileNumbers (test (nameAllowed name) wrongNameByte a₁ file a₂) _ file (only-test fileNumbers (nameAllowed name) wrongNameByte a₁ file a₂ refl)
+      (λ _ a₃. only-onward fileNumbers (test (isAbsent earlier name) nameTaken a₁ file a₃) _ file (only-test fileNumbers (isAbsent earlier name) nameTaken a₁ file a₃ refl)
+      (λ _ _. tt))))
 
   pub job-only : (earlier : List ℕ) (at : ℕ) → Only fileNumbers (oneJob earlier file at)
   unfolding oneJob
@@ -136,7 +133,7 @@ module _ (file : List ℕ) where
       (λ size a₄. only-onward fileNumbers (field 4 file a₄) _ file (field-only 4 a₄)
       (λ deadline a₅.
       let ok : Bool = windowAllowed release deadline && sizeAllowed size in
-      only-onward fileNumbers (test ok wrongJobBounds file a₅) _ file (only-test fileNumbers ok wrongJobBounds file a₅ refl) (λ _ _. tt))))))
+      only-onward fileNumbers (test ok wrongJobBounds a₂ file a₅) _ file (only-test fileNumbers ok wrongJobBounds a₂ file a₅ refl) (λ _ _. tt))))))
 
   jobs-only : (n : ℕ) (jobs : List Job) (at : ℕ) → Only fileNumbers (allJobs n jobs file at)
   unfolding allJobs
@@ -144,18 +141,24 @@ module _ (file : List ℕ) where
   jobs-only (suc n) jobs at =
       only-onward fileNumbers (oneJob (namesOf jobs) file at) _ file (job-only (namesOf jobs) at) (λ job next. jobs-only n (jobs ++ (job ∷ [])) next)
 
+  row-job-only : (names : List ℕ) (at : ℕ) → Only fileNumbers (rowJob names file at)
+  unfolding rowJob
+  row-job-only names at =
+      only-onward fileNumbers (recordLength rowLength file at) _ file (length-only rowLength at)
+      (λ _ a₁. only-onward fileNumbers (field 8 file a₁) _ file (field-only 8 a₁)
+      (λ name a₂.
+      let found : Bool = ltb (position names name) (length names) in
+      only-onward fileNumbers (test found rowWithoutJob a₁ file a₂) _ file (only-test fileNumbers found rowWithoutJob a₁ file a₂ refl) (λ _ _. tt)))
+
   row-only : (width : ℕ) (names : List ℕ) (spans low at : ℕ) → Only fileNumbers (oneRow width names spans low file at)
   unfolding oneRow
   row-only width names spans low at =
-      only-onward fileNumbers (named rowLength file at) _ file (named-only rowLength at)
-      (λ name a₁.
-      let found : Bool = ltb (position names name) (length names) in
-      only-onward fileNumbers (test found rowWithoutJob file a₁) _ file (only-test fileNumbers found rowWithoutJob file a₁ refl)
-      (λ _ a₂. only-onward fileNumbers (checked 2 (λ j. ltb j spans) rowWithoutInterval file a₂) _ file (checked-only 2 (λ j. ltb j spans) rowWithoutInterval a₂ refl)
-      (λ interval a₃. only-onward fileNumbers (checked 4 (λ u. not (eqb u 0)) rowWithoutUnits file a₃) _ file (checked-only 4 (λ u. not (eqb u 0)) rowWithoutUnits a₃ refl)
-      (λ _ a₄.
-      let after : Bool = leb low (place width (position names name) interval) in
-      only-onward fileNumbers (test after rowOutOfOrder file a₄) _ file (only-test fileNumbers after rowOutOfOrder file a₄ refl) (λ _ _. tt)))))
+      only-onward fileNumbers (rowJob names file at) _ file (row-job-only names at)
+      (λ job a₁. only-onward fileNumbers (checked 2 (λ j. ltb j spans) rowWithoutInterval file a₁) _ file (checked-only 2 (λ j. ltb j spans) rowWithoutInterval a₁ refl)
+      (λ interval a₂. only-onward fileNumbers (checked 4 (λ u. not (eqb u 0)) rowWithoutUnits file a₂) _ file (checked-only 4 (λ u. not (eqb u 0)) rowWithoutUnits a₂ refl)
+      (λ _ a₃.
+      let after : Bool = leb low (place width job interval) in
+      only-onward fileNumbers (test after rowOutOfOrder at file a₃) _ file (only-test fileNumbers after rowOutOfOrder at file a₃ refl) (λ _ _. tt))))
 
   rows-only : (n width : ℕ) (names : List ℕ) (spans low : ℕ) (table : List ℕ) (at : ℕ) → Only fileNumbers (allRows n width names spans low table file at)
   unfolding allRows
@@ -166,7 +169,7 @@ module _ (file : List ℕ) where
 
   pub end-only : (at : ℕ) → Only fileNumbers (ended file at)
   unfolding ended
-  end-only at = only-test fileNumbers (eqb at (length file)) wrongExtent file at refl
+  end-only at = only-test fileNumbers (eqb at (length file)) wrongExtent at file at refl
 
   pub file-only : Only fileNumbers (readFile file)
   unfolding planFile preamble

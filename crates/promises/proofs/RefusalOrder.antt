@@ -20,8 +20,8 @@ use Rattle.plan.specs.declared.kinds.Plan.{Plan}
 use Rattle.planfields.specs.Layout.{jobLength, rowLength}
 use Rattle.fields.specs.Bytes.{bytes, value}
 use Rattle.fields.specs.Parsers.{field, version, extent, opening, ended, recordLength}
-use Rattle.planfields.specs.Records.{head, named, jobName, oneJob}
-use Rattle.planfile.specs.Reader.{allJobs, position, oneRow, allRows, preamble, planFile, readFile, leaves, reader, ReadEffect}
+use Rattle.planfields.specs.Records.{head, jobName, oneJob}
+use Rattle.planfile.specs.Reader.{allJobs, position, rowJob, oneRow, allRows, preamble, planFile, readFile, leaves, reader, ReadEffect}
 use Rattle.planfile.proofs.WholeFile.{reader-long}
 use Rattle.planwriter.specs.Writing as writing
 use Rattle.planwriter.specs.Writing.{written, writer}
@@ -71,93 +71,94 @@ twoGood = headBytes 2 1 2 ++ jobFields jobLength capitalMirror lo 0 6 5 ++ jobFi
 abbrev secondRow : List ℕ
 secondRow = rowFields rowLength smallMirror 1 4
 
--- A file and the number that must refuse it.
+-- A file, the number that must refuse it, and the offset of the field in hand.
 pub record FileCase : Type 0 where
   pub file : List ℕ
   pub must : ℕ
+  pub at : ℕ
 
-abbrev gives : List ℕ → ℕ → FileCase
-gives file must = record { file = file; must = must }
+abbrev gives : List ℕ → ℕ → ℕ → FileCase
+gives file must at = record { file = file; must = must; at = at }
 
 -- The reader, front to back. A field that the bytes do not hold whole is 2 before its value counts,
 -- and after a test that fails nothing more is read.
 abbrev headCases : List FileCase
 headCases =
     -- No first byte is 1, and a wrong one is 1 although the length field is missing.
-    gives [] wrongVersion
-    ∷ gives (2 ∷ []) wrongVersion
+    gives [] wrongVersion 0
+    ∷ gives (2 ∷ []) wrongVersion 0
     -- A wrong length field is 2 although the rates are wrong.
-    ∷ gives (bytes 1 newestVersion ++ bytes 4 9 ++ bytes 2 2 ++ bytes 2 2) wrongExtent
+    ∷ gives (bytes 1 newestVersion ++ bytes 4 9 ++ bytes 2 2 ++ bytes 2 2) wrongExtent 1
     -- n is out of bounds, but d is cut.
-    ∷ gives (whole (bytes 2 (mostRate + 1) ++ bytes 1 0)) wrongExtent
+    ∷ gives (whole (bytes 2 (mostRate + 1) ++ bytes 1 0)) wrongExtent 7
     -- Wrong rates are 4 although the count is missing, or is wrong too.
-    ∷ gives (whole (bytes 2 2 ++ bytes 2 2)) wrongRates
-    ∷ gives (whole (headBytes 2 2 0)) wrongRates
+    ∷ gives (whole (bytes 2 2 ++ bytes 2 2)) wrongRates 5
+    ∷ gives (whole (headBytes 2 2 0)) wrongRates 5
     -- A wrong count is 5 although the first job is missing, or its length byte is wrong.
-    ∷ gives (whole (headBytes 2 1 (mostJobs + 1))) wrongJobCount
-    ∷ gives (whole (headBytes 2 1 (mostJobs + 1) ++ jobFields (jobLength + 1) capitalMirror lo 0 6 5)) wrongJobCount
+    ∷ gives (whole (headBytes 2 1 (mostJobs + 1))) wrongJobCount 9
+    ∷ gives (whole (headBytes 2 1 (mostJobs + 1) ++ jobFields (jobLength + 1) capitalMirror lo 0 6 5)) wrongJobCount 9
     ∷ []
 
 abbrev jobCases : List FileCase
 jobCases =
     -- A wrong length byte is 3 although the name is cut, or has a byte that it may not have.
-    gives (whole (oneHead ++ bytes 1 (jobLength + 1) ++ bytes 1 0)) wrongRecordLength
-    ∷ gives (whole (oneHead ++ jobFields (jobLength + 1) spacedMirror lo 0 6 5)) wrongRecordLength
+    gives (whole (oneHead ++ bytes 1 (jobLength + 1) ++ bytes 1 0)) wrongRecordLength 10
+    ∷ gives (whole (oneHead ++ jobFields (jobLength + 1) spacedMirror lo 0 6 5)) wrongRecordLength 10
     -- A name that is cut is 2 although its first byte is wrong.
-    ∷ gives (whole (oneHead ++ bytes 1 jobLength ++ bytes 1 0x20)) wrongExtent
+    ∷ gives (whole (oneHead ++ bytes 1 jobLength ++ bytes 1 0x20)) wrongExtent 11
     -- A wrong name is 6, and a name that is taken is 7, although the grade is wrong. (Both cannot
     -- be: the earlier job with that name is refused.)
-    ∷ gives (whole (oneHead ++ jobFields jobLength spacedMirror 2 0 6 5)) wrongNameByte
-    ∷ gives (whole (headBytes 2 1 2 ++ jobFields jobLength capitalMirror lo 0 6 5 ++ jobFields jobLength capitalMirror 2 1 8 10)) nameTaken
+    ∷ gives (whole (oneHead ++ jobFields jobLength spacedMirror 2 0 6 5)) wrongNameByte 11
+    ∷ gives (whole (headBytes 2 1 2 ++ jobFields jobLength capitalMirror lo 0 6 5 ++ jobFields jobLength capitalMirror 2 1 8 10)) nameTaken 33
     -- A wrong grade is 8 although the release is missing, or the size is wrong.
-    ∷ gives (whole (oneHead ++ bytes 1 jobLength ++ bytes 8 capitalMirror ++ bytes 1 2)) wrongGrade
-    ∷ gives (whole (oneHead ++ jobFields jobLength capitalMirror 2 0 0 5)) wrongGrade
+    ∷ gives (whole (oneHead ++ bytes 1 jobLength ++ bytes 8 capitalMirror ++ bytes 1 2)) wrongGrade 19
+    ∷ gives (whole (oneHead ++ jobFields jobLength capitalMirror 2 0 0 5)) wrongGrade 19
     -- The size is 0, but the deadline is cut.
-    ∷ gives (whole (oneHead ++ bytes 1 jobLength ++ bytes 8 capitalMirror ++ bytes 1 lo ++ bytes 4 0 ++ bytes 4 0 ++ bytes 3 0)) wrongExtent
+    ∷ gives (whole (oneHead ++ bytes 1 jobLength ++ bytes 8 capitalMirror ++ bytes 1 lo ++ bytes 4 0 ++ bytes 4 0 ++ bytes 3 0)) wrongExtent 28
     -- A wrong size is 9 although the next job's length byte is wrong, the row count is missing, or
     -- it is above its bound.
-    ∷ gives (whole (headBytes 2 1 2 ++ jobFields jobLength capitalMirror lo 0 0 5 ++ jobFields (jobLength + 1) smallMirror hi 1 8 10)) wrongJobBounds
-    ∷ gives (whole (oneHead ++ jobFields jobLength capitalMirror lo 0 0 5)) wrongJobBounds
-    ∷ gives (whole (oneHead ++ jobFields jobLength capitalMirror lo 0 0 5 ++ bytes 2 (mostRows + 1))) wrongJobBounds
+    ∷ gives (whole (headBytes 2 1 2 ++ jobFields jobLength capitalMirror lo 0 0 5 ++ jobFields (jobLength + 1) smallMirror hi 1 8 10)) wrongJobBounds 20
+    ∷ gives (whole (oneHead ++ jobFields jobLength capitalMirror lo 0 0 5)) wrongJobBounds 20
+    ∷ gives (whole (oneHead ++ jobFields jobLength capitalMirror lo 0 0 5 ++ bytes 2 (mostRows + 1))) wrongJobBounds 20
     ∷ []
 
 abbrev rowCases : List FileCase
 rowCases =
     -- Too many rows are 10 although none is there, or the first one's length byte is wrong.
-    gives (whole (oneGood ++ bytes 2 (mostRows + 1))) tooManyRows
-    ∷ gives (whole (oneGood ++ bytes 2 (mostRows + 1) ++ rowFields (rowLength + 1) capitalMirror 0 6)) tooManyRows
+    gives (whole (oneGood ++ bytes 2 (mostRows + 1))) tooManyRows 32
+    ∷ gives (whole (oneGood ++ bytes 2 (mostRows + 1) ++ rowFields (rowLength + 1) capitalMirror 0 6)) tooManyRows 32
     -- A wrong length byte is 3 although no job has the name.
-    ∷ gives (whole (oneGood ++ bytes 2 1 ++ rowFields (rowLength + 1) smallMirror 0 6)) wrongRecordLength
+    ∷ gives (whole (oneGood ++ bytes 2 1 ++ rowFields (rowLength + 1) smallMirror 0 6)) wrongRecordLength 34
     -- A name that is cut is 2, and one with a byte that no name may have is 11.
-    ∷ gives (whole (oneGood ++ bytes 2 1 ++ bytes 1 rowLength ++ bytes 1 0x20)) wrongExtent
-    ∷ gives (whole (oneGood ++ bytes 2 1 ++ rowFields rowLength spacedMirror 0 6)) rowWithoutJob
+    ∷ gives (whole (oneGood ++ bytes 2 1 ++ bytes 1 rowLength ++ bytes 1 0x20)) wrongExtent 35
+    ∷ gives (whole (oneGood ++ bytes 2 1 ++ rowFields rowLength spacedMirror 0 6)) rowWithoutJob 35
     -- An unknown name is 11 although the interval is missing, or past the last one.
-    ∷ gives (whole (oneGood ++ bytes 2 1 ++ bytes 1 rowLength ++ bytes 8 smallMirror)) rowWithoutJob
-    ∷ gives (whole (oneGood ++ bytes 2 1 ++ rowFields rowLength smallMirror 1 6)) rowWithoutJob
+    ∷ gives (whole (oneGood ++ bytes 2 1 ++ bytes 1 rowLength ++ bytes 8 smallMirror)) rowWithoutJob 35
+    ∷ gives (whole (oneGood ++ bytes 2 1 ++ rowFields rowLength smallMirror 1 6)) rowWithoutJob 35
     -- An interval past the last one is 12 although the units are missing, or 0.
-    ∷ gives (whole (oneGood ++ bytes 2 1 ++ bytes 1 rowLength ++ bytes 8 capitalMirror ++ bytes 2 1)) rowWithoutInterval
-    ∷ gives (whole (oneGood ++ bytes 2 1 ++ rowFields rowLength capitalMirror 1 0)) rowWithoutInterval
+    ∷ gives (whole (oneGood ++ bytes 2 1 ++ bytes 1 rowLength ++ bytes 8 capitalMirror ++ bytes 2 1)) rowWithoutInterval 43
+    ∷ gives (whole (oneGood ++ bytes 2 1 ++ rowFields rowLength capitalMirror 1 0)) rowWithoutInterval 43
     -- A row out of order is 12 if its interval is past the last one, 13 if it has 0 units.
-    ∷ gives (whole (twoGood ++ bytes 2 2 ++ secondRow ++ rowFields rowLength capitalMirror 3 4)) rowWithoutInterval
-    ∷ gives (whole (twoGood ++ bytes 2 2 ++ secondRow ++ rowFields rowLength capitalMirror 0 0)) rowWithoutUnits
+    ∷ gives (whole (twoGood ++ bytes 2 2 ++ secondRow ++ rowFields rowLength capitalMirror 3 4)) rowWithoutInterval 80
+    ∷ gives (whole (twoGood ++ bytes 2 2 ++ secondRow ++ rowFields rowLength capitalMirror 0 0)) rowWithoutUnits 82
     -- Otherwise it is 14, also a second row of one place, although the next row is missing, or bytes
     -- are left.
-    ∷ gives (whole (twoGood ++ bytes 2 3 ++ secondRow ++ secondRow)) rowOutOfOrder
-    ∷ gives (whole (twoGood ++ bytes 2 2 ++ secondRow ++ rowFields rowLength capitalMirror 0 2 ++ bytes 1 0)) rowOutOfOrder
+    ∷ gives (whole (twoGood ++ bytes 2 3 ++ secondRow ++ secondRow)) rowOutOfOrder 71
+    ∷ gives (whole (twoGood ++ bytes 2 2 ++ secondRow ++ rowFields rowLength capitalMirror 0 2 ++ bytes 1 0)) rowOutOfOrder 71
     -- Bytes that are left after good rows are 2.
-    ∷ gives (whole (twoGood ++ bytes 2 1 ++ secondRow ++ bytes 1 0)) wrongExtent
+    ∷ gives (whole (twoGood ++ bytes 2 1 ++ secondRow ++ bytes 1 0)) wrongExtent 71
     ∷ []
 
 abbrev pub fileCases : List FileCase
 fileCases = headCases ++ jobCases ++ rowCases
 
-file-cases : (table : List ℕ) → map (λ (c : FileCase). leaves (readFile (c .file)) table .answer) fileCases ≡ map (λ (c : FileCase). c .must ∷ []) fileCases
-unfolding Below.every nameAllowed isAbsent insert boundariesTo bytes value field version extent opening head recordLength named jobName oneJob allJobs position oneRow allRows preamble planFile ended
+file-cases : (table : List ℕ) → map (λ (c : FileCase). leaves (readFile (c .file)) table .answer) fileCases ≡ map (λ (c : FileCase). c .must ∷ c .at ∷ []) fileCases
+unfolding Below.every nameAllowed isAbsent insert boundariesTo bytes value field version extent opening head recordLength jobName oneJob allJobs position rowJob oneRow allRows preamble planFile ended
 file-cases table = refl
 
--- The reader gives each file its number, if the table is long enough.
+-- The reader gives each file its number and its offset, if the table is long enough.
 pub reader-order : (table : List ℕ) → places ≤ length table
-    → map (λ (c : FileCase). reader (c .file) table .answer) fileCases ≡ map (λ (c : FileCase). c .must ∷ []) fileCases
+    → map (λ (c : FileCase). reader (c .file) table .answer) fileCases ≡ map (λ (c : FileCase). c .must ∷ c .at ∷ []) fileCases
 reader-order table long = each fileCases ∙ file-cases table
   where
     each : (l : List FileCase) → map (λ (c : FileCase). reader (c .file) table .answer) l ≡ map (λ (c : FileCase). leaves (readFile (c .file)) table .answer) l
@@ -308,8 +309,8 @@ host-judge-order = (refl, refl, refl, refl)
 
 -- Read and write: 22 for too few words of the plan, although the file is empty, which is 1, or the
 -- plan of zeros that they stand for is unsound.
-pub host-file-order : (readCall [] [] (replicate places 7) .number ≡ bufferTooShort)
-    × (readCall [] (replicate planWords 7) (replicate places 7) .number ≡ wrongVersion)
+pub host-file-order : (readCall [] [] (replicate places 7) 0 .number ≡ bufferTooShort)
+    × (readCall [] (replicate planWords 7) (replicate places 7) 0 .number ≡ wrongVersion)
     × (writeCall [] tableE [] 0 .number ≡ bufferTooShort)
     × (writeCall (replicate planWords 0) tableE [] 0 .number ≡ unsound)
 unfolding tableOf rulesHold sound field version opening head preamble planFile reader writer jobsTo planIn planOf readCall writeCall

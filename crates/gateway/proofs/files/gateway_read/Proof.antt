@@ -34,7 +34,10 @@ same-length-2 c = search needs
 returns-2 : tie.Need-returns-2
 unfolding readCall
 returns-2 c =
-    rw (le-ltb _ _ (c .before .before .before .before .before .before .before .before .before .before .if1 .left), ← (c .before .before .before .before .before .before .before .before .read .ensures), ← (c .read-number .ensures), ← (c .before .before .before .put-plan .ensures)) refl
+    let at-read-offset = c .before in
+    let at-put-plan = at-read-offset .before .before .before in
+    let at-read = at-put-plan .before .before .before .before .before in
+    rw (le-ltb _ _ (at-read .before .before .if1 .left), ← (at-read .read .ensures), ← (c .read-number .ensures), ← (at-read-offset .read-offset .ensures), ← (at-put-plan .put-plan .ensures)) refl
 
 pub gateway-read-spec : {M : Type 1} → statement M
 gateway-read-spec =
