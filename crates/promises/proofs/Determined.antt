@@ -103,9 +103,9 @@ some-reading file table = by (ltb (length table) places) (readFile file)
     by : (b : Bool) (s : Parsed Contents)
         → (r : PlanRead) × (left : List ℕ)
         × (readView r left ≡ cond b (record { answer = bufferTooShort ∷ []; plan = noPlan; table = table }) (leaves s table))
-    by true s = (record { answer = read-answer.Refused bufferTooShort; plan = noPlan }, table, refl)
+    by true s = (record { answer = read-answer.TooShort; plan = noPlan }, table, refl)
     by false (got held end) = (record { answer = read-answer.Read; plan = held .plan }, held .table ++ drop places table, refl)
-    by false (no refusal) = (record { answer = read-answer.Refused (refusal .number); plan = noPlan }, replicate places 0 ++ drop places table, refl)
+    by false (no refusal) = (record { answer = read-answer.Refused refusal; plan = noPlan }, replicate places 0 ++ drop places table, refl)
 
 -- `planfile::lookup::name_of`.
 pub one-name : (file : List ℕ) (position : ℕ) (part other : List ℕ) → Shows file position part → Shows file position other → part ≡ other

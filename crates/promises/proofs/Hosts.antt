@@ -318,11 +318,11 @@ same-host-step-E run = same-host-step wordsE tableE elseWords elseTable words-sa
 -- words for a plan, no words for a location, and plan E at speed 3.
 empty-file-host-leaves : (readCall [] wordsE (replicate places 7) 9 .table ≡ replicate places 0) × (readCall [] wordsE (replicate places 7) 9 .plan ≡ planPut wordsE noPlan)
 unfolding field version opening head preamble planFile reader readCall jobsOut planOut
-empty-file-host-leaves = host-read-other-leaves [] wordsE (replicate places 7) (λ e. absurd (omega (arith, e))) (λ e. absurd (omega (arith, e)))
+empty-file-host-leaves = host-read-other-leaves [] wordsE (replicate places 7) 9 (λ e. absurd (omega (arith, e))) (λ e. absurd (omega (arith, e)))
 
 short-table-host-stays : readCall [] wordsE (7 ∷ []) 9 .table ≡ 7 ∷ []
 unfolding reader readCall jobsOut planOut
-short-table-host-stays = host-read-22-leaves [] wordsE (7 ∷ []) refl
+short-table-host-stays = host-read-22-leaves [] wordsE (7 ∷ []) 9 refl
 
 no-room-host-stays : (writeCall [] tableE (7 ∷ []) 5 .out ≡ 7 ∷ []) × (writeCall [] tableE (7 ∷ []) 5 .length ≡ 5)
 unfolding writeCall

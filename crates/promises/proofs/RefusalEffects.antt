@@ -143,7 +143,7 @@ short-table-stays = reader-22-leaves fileE (7 ∷ []) [] refl
 empty-file-leaves : (reader [] (replicate places 7 ++ (9 ∷ [])) .table ≡ replicate places 0 ++ (9 ∷ []))
     × (reader [] (replicate places 7 ++ (9 ∷ [])) .plan ≡ noPlan)
 unfolding field version opening head preamble planFile reader
-empty-file-leaves = reader-other-leaves [] (replicate places 7 ++ (9 ∷ [])) wrongVersion [] refl (λ e. absurd (let z : wrongVersion ≡ bufferTooShort = e in omega arith))
+empty-file-leaves = reader-other-leaves [] (replicate places 7 ++ (9 ∷ [])) wrongVersion (0 ∷ []) refl (λ e. absurd (let z : wrongVersion ≡ bufferTooShort = e in omega arith))
 
 -- An empty file shows no name, and plan E's file shows no third one.
 empty-file-shows-nothing : nameShown [] 0 ≡ []

@@ -373,8 +373,9 @@ line-numbers text out number e = by (ltb (length out) (length text)) e
     by true e = cc
     by false e = absurd (let z : _≡_ {A = ℕ} 0 1 = cc in omega arith)
 
--- For each theorem above, an instance that meets its premise. An empty file is refused by 1.
-pub empty-file : reader [] (replicate places 7) .answer ≡ wrongVersion ∷ []
+-- For each theorem above, an instance that meets its premise. An empty file is refused by 1,
+-- at offset 0.
+pub empty-file : reader [] (replicate places 7) .answer ≡ wrongVersion ∷ 0 ∷ []
 unfolding field version opening head preamble planFile reader
 empty-file = refl
 
