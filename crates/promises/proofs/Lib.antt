@@ -29,3 +29,4 @@ pub mod ReadWords
 pub mod Exactly
 pub mod RefusalOrder
 pub mod JudgeExactly
+pub mod ReaderExactly

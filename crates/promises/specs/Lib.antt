@@ -3,3 +3,4 @@ pub mod Demands
 pub mod Numbers
 pub mod HostNight
 pub mod Grounds
+pub mod FileFaults

@@ -34,9 +34,11 @@ passed-refusal-requires c κs = search needs
 returns : tie.Need-returns
 returns c =
     let at-read-length = c .before .before .before in
-    let a = at-read-length .before .before .before .args in
-    (job-unmeasured (a .names .now) (a .file .now) (a .at)
-    (refused passedView passedRefusal (at-read-length .read-length .ensures) (c .before .enum-told .given .1) refl refl (c .passed-refusal .ensures)), omega arith)
+    let a = at-read-length .before .before .before .args in (
+      job-unmeasured (a .names .now) (a .file .now) (a .at)
+          (refused passedView passedRefusal (at-read-length .read-length .ensures) (c .before .enum-told .given .1) refl refl (c .passed-refusal .ensures)),
+      omega arith,
+    )
 
 read-eight-requires : tie.Need-read-eight-requires
 read-eight-requires c κs = search needs
@@ -53,9 +55,11 @@ returns-2 c =
     let at-long = at-read-eight .before .before in
     let at-read-length = at-long .before .before in
     let a = at-read-length .before .before .before .args in
-    rw (c .enum-told2 .given .1)
-    (job-unnamed (a .names .now) (a .file .now) (a .at) (so passedView (at-read-length .read-length .ensures) (at-long .long .given .1))
-    (so fieldView (at-read-eight .read-eight .ensures .0) (c .enum-told2 .given .1)), omega arith)
+    rw (c .enum-told2 .given .1) (
+      job-unnamed (a .names .now) (a .file .now) (a .at) (so passedView (at-read-length .read-length .ensures) (at-long .long .given .1))
+          (so fieldView (at-read-eight .read-eight .ensures .0) (c .enum-told2 .given .1)),
+      omega arith,
+    )
 
 find-requires : tie.Need-find-requires
 find-requires c κs = search needs
@@ -67,9 +71,11 @@ returns-3 c =
     let at-read-eight = at-named .before .before in
     let at-long = at-read-eight .before .before in
     let at-read-length = at-long .before .before in
-    let a = at-read-length .before .before .before .args in
-    (job-missing (a .names .now) (a .file .now) (a .at) (so passedView (at-read-length .read-length .ensures) (at-long .long .given .1))
-    (so fieldView (at-read-eight .read-eight .ensures .0) (at-named .named .given .1)) (missing (at-find .find .ensures) (c .if1 .taken)), omega arith)
+    let a = at-read-length .before .before .before .args in (
+      job-missing (a .names .now) (a .file .now) (a .at) (so passedView (at-read-length .read-length .ensures) (at-long .long .given .1))
+          (so fieldView (at-read-eight .read-eight .ensures .0) (at-named .named .given .1)) (missing (at-find .find .ensures) (c .if1 .taken)),
+      omega arith,
+    )
 
 returns-4 : tie.Need-returns-4
 returns-4 c =
@@ -78,10 +84,12 @@ returns-4 c =
     let at-read-eight = at-named .before .before in
     let at-long = at-read-eight .before .before in
     let at-read-length = at-long .before .before in
-    let a = at-read-length .before .before .before .args in
-    (rw (at-find .find .ensures)
-    (job-found (a .names .now) (a .file .now) (a .at) (so passedView (at-read-length .read-length .ensures) (at-long .long .given .1))
-    (so fieldView (at-read-eight .read-eight .ensures .0) (at-named .named .given .1)) (found (at-find .find .ensures) (c .if1 .left))), omega (arith, c .if1 .left))
+    let a = at-read-length .before .before .before .args in (
+      rw (at-find .find .ensures)
+          (job-found (a .names .now) (a .file .now) (a .at) (so passedView (at-read-length .read-length .ensures) (at-long .long .given .1))
+          (so fieldView (at-read-eight .read-eight .ensures .0) (at-named .named .given .1)) (found (at-find .find .ensures) (c .if1 .left))),
+      omega (arith, c .if1 .left),
+    )
 
 pub read-row-job-spec : {M : Type 1} → statement M
 read-row-job-spec =

@@ -1,0 +1,195 @@
+-- The faults of a plan file, told from its bytes and the layout alone: at which offset each field begins,
+-- and what is wrong with it, in the order in which the reader looks. (proofs/ReaderExactly: the reader
+-- answers the first of them, with its number and offset.)
+use mathlib.Core.Bool.{Bool, true, not, _&&_}
+use mathlib.Core.List.{List, [], _∷_, _++_}
+use Prim.Native.Nat.{ℕ, zero, suc, _+_}
+use lib.Dec.{leb, ltb, eqb}
+use lib.ListN.{length, take, drop, set, replicate}
+use Rattle.plan.specs.Kinds.{Bytes, Number, Offset, Position, Table}
+use Rattle.plan.specs.Edition.{mostIntervals, nameBytes, places}
+use Rattle.plan.specs.Versions.{newestVersion, countAllowedIn, rowsAllowedIn}
+use Rattle.plan.specs.Refusal.{wrongVersion, wrongExtent, wrongRecordLength, wrongRates, wrongJobCount, wrongNameByte, nameTaken, wrongGrade, wrongJobBounds, tooManyRows, rowWithoutJob, rowWithoutInterval, rowWithoutUnits, rowOutOfOrder}
+use Rattle.plan.specs.Report.{Report, orElse, fault, first}
+use Rattle.plan.specs.Rules.{ratesAllowed, nameAllowed, isAbsent, gradeAllowed, windowAllowed, sizeAllowed}
+use Rattle.plan.specs.Boundaries.{intervals}
+use Rattle.plan.specs.Table.{place}
+use Rattle.plan.specs.declared.kinds.Job.{Job}
+use Rattle.plan.specs.declared.kinds.Plan.{Plan}
+use Rattle.fields.specs.Bytes.{value}
+use Rattle.fields.specs.Parsers.{isVersion}
+use Rattle.planfields.specs.Layout.{headerBytes, jobLength, rowLength, rowCountBytes}
+use Rattle.planfields.specs.Records.{Head}
+use Rattle.planfile.specs.Reader.{namesOf, position, planFrom, Row}
+
+-- The number in the w bytes at an offset, highest first; of fewer bytes if the file ends before.
+abbrev pub valueAt : (file : Bytes) (w : ℕ) (at : Offset) → ℕ
+valueAt file w at = value 0 (take w (drop at file))
+
+-- The bytes end inside the w bytes at an offset.
+abbrev pub cutAt : (file : Bytes) (w : ℕ) (at : Offset) → Report
+cutAt file w at = fault (not (leb (at + w) (length file))) (wrongExtent ∷ at ∷ [])
+
+-- A test fails that the number stands for; the field in hand begins at the offset.
+abbrev pub unlessAt : (ok : Bool) (number : Number) (at : Offset) → Report
+unlessAt ok number at = fault (not ok) (number ∷ at ∷ [])
+
+-- The faults of a field that is tested by itself.
+abbrev pub fieldFaults : (file : Bytes) (w : ℕ) (ok : ℕ → Bool) (number : Number) (at : Offset) → Report
+fieldFaults file w ok number at = orElse (cutAt file w at) (unlessAt (ok (valueAt file w at)) number at)
+
+-- The faults of a record's length byte.
+abbrev pub lengthFaults : (file : Bytes) (long : ℕ) (at : Offset) → Report
+lengthFaults file long at = fieldFaults file 1 (λ x. eqb x long) wrongRecordLength at
+
+-- The faults of the fields before the jobs. There is no first byte, or it is no version; the length field
+-- is cut or is not the number of bytes after it; a rate is cut, or the rates are not allowed; the job
+-- count is cut or not allowed.
+unfoldable pub headFaults : (file : Bytes) → Report
+headFaults file =
+    orElse
+    (orElse (unlessAt (leb 1 (length file) && isVersion newestVersion (valueAt file 1 0)) wrongVersion 0)
+    (orElse (cutAt file 4 1) (unlessAt (eqb (5 + valueAt file 4 1) (length file)) wrongExtent 1)))
+    (orElse (cutAt file 2 5) (orElse (cutAt file 2 7) (orElse (unlessAt (ratesAllowed (valueAt file 2 5) (valueAt file 2 7)) wrongRates 5)
+    (fieldFaults file 1 (countAllowedIn (valueAt file 1 0)) wrongJobCount 9))))
+
+-- The fields before the jobs, where the layout has them.
+abbrev pub headIn : (file : Bytes) → Head
+headIn file = record { version = valueAt file 1 0; n = valueAt file 2 5; d = valueAt file 2 7; count = valueAt file 1 9 }
+
+-- Where a job's name, grade, release, size and deadline begin, and what follows the job, if the job begins
+-- at `at`: each field begins where the one before it ends.
+abbrev pub nameFrom : Offset → Offset
+nameFrom at = at + 1
+
+abbrev pub gradeFrom : Offset → Offset
+gradeFrom at = nameFrom at + nameBytes
+
+abbrev pub releaseFrom : Offset → Offset
+releaseFrom at = gradeFrom at + 1
+
+abbrev pub sizeFrom : Offset → Offset
+sizeFrom at = releaseFrom at + 4
+
+abbrev pub deadlineFrom : Offset → Offset
+deadlineFrom at = sizeFrom at + 4
+
+abbrev pub afterJob : Offset → Offset
+afterJob at = deadlineFrom at + 4
+
+-- Where job i begins.
+unfoldable pub jobFrom : Position → Offset
+jobFrom zero = headerBytes
+jobFrom (suc i) = afterJob (jobFrom i)
+
+-- The job that begins at an offset, whatever its fields hold.
+abbrev pub jobIn : (file : Bytes) (at : Offset) → Job
+jobIn file at =
+    record {
+      name = record { 0 = valueAt file nameBytes (nameFrom at) };
+      grade = valueAt file 1 (gradeFrom at);
+      release = record { 0 = valueAt file 4 (releaseFrom at) };
+      size = record { 0 = valueAt file 4 (sizeFrom at) };
+      deadline = record { 0 = valueAt file 4 (deadlineFrom at) };
+    }
+
+-- The first n jobs.
+unfoldable pub jobsIn : (file : Bytes) (n : ℕ) → List Job
+jobsIn file zero = []
+jobsIn file (suc n) = jobsIn file n ++ (jobIn file (jobFrom n) ∷ [])
+
+-- The faults of a job that begins at an offset, after jobs with these names: its length byte; its name, cut,
+-- not allowed, or taken; its grade; its release, size or deadline, cut, or not allowed together.
+abbrev pub jobFaultsAt : (file : Bytes) (earlier : List ℕ) (at : Offset) → Report
+jobFaultsAt file earlier at =
+    let j = jobIn file at in
+    orElse
+    (orElse (lengthFaults file jobLength at) (orElse (cutAt file nameBytes (nameFrom at))
+    (orElse (unlessAt (nameAllowed (j .name .0)) wrongNameByte (nameFrom at)) (unlessAt (isAbsent earlier (j .name .0)) nameTaken (nameFrom at)))))
+    (orElse (fieldFaults file 1 gradeAllowed wrongGrade (gradeFrom at))
+    (orElse (cutAt file 4 (releaseFrom at)) (orElse (cutAt file 4 (sizeFrom at)) (orElse (cutAt file 4 (deadlineFrom at))
+    (unlessAt (windowAllowed (j .release .0) (j .deadline .0) && sizeAllowed (j .size .0)) wrongJobBounds (releaseFrom at))))))
+
+-- The faults of job i.
+abbrev pub jobFaults : (file : Bytes) (i : Position) → Report
+jobFaults file i = jobFaultsAt file (namesOf (jobsIn file i)) (jobFrom i)
+
+-- Where a row's name, interval and units begin, and what follows the row, if the row begins at `at`.
+abbrev pub intervalFrom : Offset → Offset
+intervalFrom at = nameFrom at + nameBytes
+
+abbrev pub unitsFrom : Offset → Offset
+unitsFrom at = intervalFrom at + 2
+
+abbrev pub afterRow : Offset → Offset
+afterRow at = unitsFrom at + 4
+
+-- Where row k begins, if the rows begin at `start`.
+unfoldable pub rowFrom : (start : Offset) (k : ℕ) → Offset
+rowFrom start zero = start
+rowFrom start (suc k) = afterRow (rowFrom start k)
+
+-- The row that begins at an offset, whatever its fields hold: the place of its job, among these names, and
+-- its interval; and its units.
+abbrev pub rowIn : (file : Bytes) (names : List ℕ) (at : Offset) → Row
+rowIn file names at =
+    record { at = place mostIntervals (position names (valueAt file nameBytes (nameFrom at))) (valueAt file 2 (intervalFrom at)); units = valueAt file 4 (unitsFrom at) }
+
+-- The faults of a row that begins at an offset, in a plan with these names and this many intervals, after
+-- rows at places below `low`: its length byte; its name, cut, or that of no job; its interval; its units;
+-- its place.
+abbrev pub rowFaultsAt : (file : Bytes) (names : List ℕ) (spans low : ℕ) (at : Offset) → Report
+rowFaultsAt file names spans low at =
+    orElse
+    (orElse (lengthFaults file rowLength at) (orElse (cutAt file nameBytes (nameFrom at))
+    (unlessAt (ltb (position names (valueAt file nameBytes (nameFrom at))) (length names)) rowWithoutJob (nameFrom at))))
+    (orElse (fieldFaults file 2 (λ j. ltb j spans) rowWithoutInterval (intervalFrom at))
+    (orElse (fieldFaults file 4 (λ u. not (eqb u 0)) rowWithoutUnits (unitsFrom at))
+    (unlessAt (leb low (rowIn file names at .at)) rowOutOfOrder at)))
+
+-- The least place that row k may have: any, or one past that of the row before.
+abbrev pub lowestAt : (file : Bytes) (names : List ℕ) (start : Offset) (k : ℕ) → ℕ
+lowestAt file names start zero = 0
+lowestAt file names start (suc k) = suc (rowIn file names (rowFrom start k) .at)
+
+-- The faults of row k.
+abbrev pub rowFaults : (file : Bytes) (names : List ℕ) (spans : ℕ) (start : Offset) (k : ℕ) → Report
+rowFaults file names spans start k = rowFaultsAt file names spans (lowestAt file names start k) (rowFrom start k)
+
+-- The first k rows, stored in a table of zeros.
+unfoldable pub tableIn : (file : Bytes) (names : List ℕ) (start : Offset) (k : ℕ) → Table
+tableIn file names start zero = replicate places 0
+tableIn file names start (suc k) =
+    let row = rowIn file names (rowFrom start k) in
+    set (tableIn file names start k) (row .at) (row .units)
+
+-- The jobs of a file, as many as its job count says, and the plan of them.
+abbrev pub fileJobs : (file : Bytes) → List Job
+fileJobs file = jobsIn file (headIn file .count)
+
+abbrev pub filePlan : (file : Bytes) → Plan
+filePlan file = planFrom (headIn file) (fileJobs file)
+
+-- Where the row count and the rows begin, and how many rows the row count says.
+abbrev pub rowCountFrom : (file : Bytes) → Offset
+rowCountFrom file = jobFrom (headIn file .count)
+
+abbrev pub rowsFrom : (file : Bytes) → Offset
+rowsFrom file = rowCountFrom file + rowCountBytes
+
+abbrev pub rowsSaid : (file : Bytes) → ℕ
+rowsSaid file = valueAt file rowCountBytes (rowCountFrom file)
+
+-- Where the file must end.
+abbrev pub endOf : (file : Bytes) → Offset
+endOf file = rowFrom (rowsFrom file) (rowsSaid file)
+
+-- The first fault of a file, front to back: of the fields before the jobs, of the first job that has one,
+-- of the row count, of the first row that has one, or that bytes are left. Empty if there is none.
+unfoldable pub fileFault : (file : Bytes) → Report
+fileFault file =
+    orElse
+    (orElse (headFaults file)
+    (orElse (first (jobFaults file) (headIn file .count)) (fieldFaults file rowCountBytes (rowsAllowedIn (headIn file .version)) tooManyRows (rowCountFrom file))))
+    (orElse (first (rowFaults file (namesOf (fileJobs file)) (intervals (filePlan file)) (rowsFrom file)) (rowsSaid file))
+    (unlessAt (eqb (endOf file) (length file)) wrongExtent (endOf file)))
