@@ -1,15 +1,16 @@
 -- The reader answers the first fault that the bytes have by the layout, with its number and offset, or
 -- reads what the layout says: each number exactly when its ground holds and none before it does.
 use mathlib.Core.Path.{_≡_, refl, sym, _∙_, ap}
+use mathlib.Core.Logic.{_⊎_, inl, inr}
 use mathlib.Core.Bool.{Bool, true, false, not, cond, _&&_}
 use mathlib.Core.List.{List, [], _∷_, _++_}
-use Prim.Native.Nat.{ℕ, zero, suc, _+_, _≤_, _<_}
-use native.Mathlib.Nat.{add-zero, add-suc}
+use Prim.Native.Nat.{ℕ, zero, suc, _+_, _*_, _≤_, _<_}
+use native.Mathlib.Nat.{add-zero, add-suc, suc-add, zero-add}
 use native.Mathlib.Omega.{arith}
+use borrow.Author.Tests.{leb-true, eqb-false}
 use lib.Dec.{leb, ltb, eqb}
 use lib.ListN.{length, set, replicate}
-use borrow.Author.Tests.{leb-true}
-use Rattle.plan.specs.Refusal.{Refusal, refusalAt, wrongVersion, wrongExtent, wrongRecordLength, wrongRates, wrongJobCount, wrongNameByte, nameTaken, wrongGrade, wrongJobBounds, tooManyRows, rowWithoutJob, rowWithoutInterval, rowWithoutUnits, rowOutOfOrder, bufferTooShort}
+use Rattle.plan.specs.Refusal.{refusalAt, wrongVersion, wrongExtent, wrongRecordLength, wrongRates, wrongJobCount, wrongNameByte, nameTaken, wrongGrade, wrongJobBounds, tooManyRows, rowWithoutJob, rowWithoutInterval, rowWithoutUnits, rowOutOfOrder}
 use Rattle.plan.specs.Edition.{mostIntervals, places}
 use Rattle.plan.specs.Versions.{newestVersion, countAllowedIn, rowsAllowedIn}
 use Rattle.plan.specs.Report.{Report, orElse, fault, first}
@@ -19,10 +20,10 @@ use Rattle.plan.specs.Table.{place}
 use Rattle.plan.specs.declared.kinds.Job.{Job}
 use Rattle.plan.proofs.Reports.{or-assoc}
 use Rattle.fields.specs.Parsers.{Parsed, got, no, Parser, onward, test, field, checked, recordLength, refusedAs, isVersion, version, extent, opening, ended}
-use Rattle.planfields.specs.Layout.{jobLength, rowLength, rowCountBytes}
+use Rattle.planfields.specs.Layout.{headerBytes, jobLength, rowLength}
 use Rattle.planfields.specs.Records.{Head, head, jobName, oneJob}
-use Rattle.planfile.specs.Reader.{namesOf, allJobs, position, Row, rowJob, oneRow, allRows, Contents, planFrom, Preamble, preamble, planFile, readFile, leaves, reader}
-use Rattle.planfile.proofs.JobLoop.{names-snoc}
+use Rattle.planfile.specs.Reader.{namesOf, allJobs, position, Row, rowJob, oneRow, allRows, Contents, planFrom, Preamble, preamble, planFile, readFile, ReadEffect, leaves, reader}
+use Rattle.planfile.proofs.WholeFile.{reader-long}
 use Rattle.promises.specs.FileFaults.{valueAt, cutAt, unlessAt, fieldFaults, lengthFaults, headFaults, headIn, nameFrom, gradeFrom, releaseFrom, sizeFrom, deadlineFrom, afterJob, jobFrom, jobIn, jobsIn, jobFaultsAt, jobFaults, intervalFrom, unitsFrom, afterRow, rowFrom, rowIn, rowFaultsAt, lowestAt, rowFaults, tableIn, fileJobs, filePlan, rowCountFrom, rowsFrom, rowsSaid, endOf, fileFault}
 
 -- A parser's result by a report: the value and the next offset if the report is empty, otherwise the refusal
@@ -32,25 +33,41 @@ settle [] a next = got a next
 settle (number ∷ []) a next = no (refusalAt number 0)
 settle (number ∷ offset ∷ rest) a next = no (refusalAt number offset)
 
+-- A report is empty, and then the next offset is inside the file or at its end; or it is a number and an
+-- offset inside the file, or at its end for a field that would begin there.
+abbrev Inside : (file : List ℕ) → Report → ℕ → Type 0
+Inside file [] next = next ≤ length file
+Inside file (number ∷ []) next = ⊥
+Inside file (number ∷ offset ∷ []) next = (offset ≤ length file) × (offset ≡ length file → (number ≡ wrongExtent) ⊎ (number ≡ wrongVersion))
+Inside file (number ∷ offset ∷ more ∷ rest) next = ⊥
+
 -- What a parser gives at an offset, by the faults that it finds.
 record Settles {A : Type 0} (file : List ℕ) (read : Parser A) (at : ℕ) (F : Report) (a : A) (next : ℕ) : Type 0 where
   is : read file at ≡ settle F a next
+  inside : at ≤ length file → Inside file F next
 
 -- A parser, then the one that its value gives: the first report, or else the second.
 then-settles : {A B : Type 0} {file : List ℕ} {read : Parser A} {at : ℕ} {F : Report} {a : A} {next : ℕ} {rest : A → Parser B} {G : A → Report} {b : A → B} {end : ℕ}
-    → Settles file read at F a next → ((x : A) → Settles file (rest x) next (G x) (b x) end)
+    → Settles file read at F a next → ((x : A) → x ≡ a → Settles file (rest x) next (G x) (b x) end)
     → Settles file (λ f n. onward (read f n) rest f) at (orElse F (G a)) (b a) end
-then-settles {A} {B} {file} {F = F} {a} {next} {rest} {G} {b} {end} e f = record { is = by F (e .is) }
+then-settles {A} {B} {file} {F = F} {a} {next} {rest} {G} {b} {end} e f =
+    record { is = by F (e .is); inside = λ h. within F (e .inside h) }
   where
     by : (F : Report) {s : Parsed A} → s ≡ settle F a next → onward s rest file ≡ settle (orElse F (G a)) (b a) end
-    by [] e = rw e (f a .is)
+    by [] e = rw e (f a refl .is)
     by (number ∷ []) e = rw e refl
     by (number ∷ offset ∷ more) e = rw e refl
+
+    within : (F : Report) → Inside file F next → Inside file (orElse F (G a)) end
+    within [] i = f a refl .inside i
+    within (number ∷ []) i = i
+    within (number ∷ offset ∷ []) i = i
+    within (number ∷ offset ∷ more ∷ rest) i = i
 
 -- A parser, then a value made of its value.
 value-settles : {A B : Type 0} {file : List ℕ} {read : Parser A} {at : ℕ} {F : Report} {a : A} {next : ℕ} → Settles file read at F a next → (f : A → B)
     → Settles file (λ g n. onward (read g n) (λ x _ m. got (f x) m) g) at F (f a) next
-value-settles {A} {B} {file} {F = F} {a} {next} e f = record { is = by F (e .is) }
+value-settles {A} {B} {file} {F = F} {a} {next} e f = record { is = by F (e .is); inside = e .inside }
   where
     by : (F : Report) {s : Parsed A} → s ≡ settle F a next → onward s (λ x _ m. got (f x) m) file ≡ settle F (f a) next
     by [] e = rw e refl
@@ -59,41 +76,58 @@ value-settles {A} {B} {file} {F = F} {a} {next} e f = record { is = by F (e .is)
 
 -- A parser that is told where it begins.
 here-settles : {B : Type 0} {file : List ℕ} {rest : ℕ → Parser B} {at : ℕ} {F : ℕ → Report} {b : B} {end : ℕ}
-    → ((from : ℕ) → Settles file (rest from) at (F from) b end) → Settles file (λ f n. rest n f n) at (F at) b end
-here-settles {at = at} e = record { is = e at .is }
+    → ((from : ℕ) → from ≡ at → Settles file (rest from) at (F from) b end) → Settles file (λ f n. rest n f n) at (F at) b end
+here-settles {at = at} e = record { is = e at refl .is; inside = e at refl .inside }
+
+-- The same with equal reports, values and offsets.
+settles-as : {A : Type 0} {file : List ℕ} {read : Parser A} {at : ℕ} {F G : Report} {a b : A} {m n : ℕ} → Settles file read at F a m → F ≡ G → a ≡ b → m ≡ n
+    → Settles file read at G b n
+settles-as s p q r = rw r at (rw q at (rw p at s))
 
 module _ (file : List ℕ) where
   field-settles : (w at : ℕ) → Settles file (field w) at (cutAt file w at) (valueAt file w at) (at + w)
   unfolding field
-  field-settles w at = record { is = by (leb (at + w) (length file)) }
+  field-settles w at = record { is = by (leb (at + w) (length file)); inside = λ h. within h (leb (at + w) (length file)) refl }
     where
       by : (t : Bool) → cond t (got (valueAt file w at) (at + w)) (no (refusalAt wrongExtent at)) ≡ settle (fault (not t) (wrongExtent ∷ at ∷ [])) (valueAt file w at) (at + w)
       by true = refl
       by false = refl
 
-  test-settles : (ok : Bool) (number from at : ℕ) → Settles file (test ok number from) at (unlessAt ok number from) tt at
-  test-settles true number from at = record { is = refl }
-  test-settles false number from at = record { is = refl }
+      within : at ≤ length file → (t : Bool) → leb (at + w) (length file) ≡ t → Inside file (fault (not t) (wrongExtent ∷ at ∷ [])) (at + w)
+      within h true e = leb-true (at + w) (length file) e
+      within h false e = (h, λ _. inl refl)
 
-  -- A test, then a value.
-  passed-settles : {A : Type 0} (ok : Bool) (number from at : ℕ) (a : A)
+  -- A test on a field that begins before the offset, then a value.
+  passed-settles : {A : Type 0} (ok : Bool) (number from at : ℕ) → from < at → (a : A)
       → Settles file (λ f n. onward (test ok number from f n) (λ _ _ next. got a next) f) at (unlessAt ok number from) a at
-  passed-settles true number from at a = record { is = refl }
-  passed-settles false number from at a = record { is = refl }
+  passed-settles true number from at l a = record { is = refl; inside = λ h. h }
+  passed-settles false number from at l a = record { is = refl; inside = λ h. (omega arith, λ e. absurd (omega (arith, e))) }
 
-  checked-settles : (w : ℕ) (ok : ℕ → Bool) (number at : ℕ) → Settles file (checked w ok number) at (fieldFaults file w ok number at) (valueAt file w at) (at + w)
-  checked-settles w ok number at =
-      record { is = then-settles (field-settles w at) (λ x. passed-settles (ok x) number at (at + w) x) .is }
+  test-settles : (ok : Bool) (number from at : ℕ) → from < at → Settles file (test ok number from) at (unlessAt ok number from) tt at
+  test-settles true number from at l = record { is = refl; inside = λ h. h }
+  test-settles false number from at l = record { is = refl; inside = λ h. (omega arith, λ e. absurd (omega (arith, e))) }
+
+  as-is : {A : Type 0} {read : Parser A} {at : ℕ} {F : Report} {a : A} {next : ℕ} {other : Parser A} → Settles file read at F a next → other file at ≡ read file at
+      → Settles file other at F a next
+  as-is s e = record { is = e ∙ s .is; inside = s .inside }
+
+  checked-settles : (w : ℕ) → 1 ≤ w → (ok : ℕ → Bool) (number at : ℕ) → Settles file (checked w ok number) at (fieldFaults file w ok number at) (valueAt file w at) (at + w)
+  checked-settles w some ok number at =
+      here-settles (λ from is. then-settles (field-settles w at) (λ x _. passed-settles (ok x) number from (at + w) (omega (arith, is)) x))
 
   length-settles : (long at : ℕ) → Settles file (recordLength long) at (lengthFaults file long at) tt (at + 1)
   unfolding recordLength
   length-settles long at =
-      record { is = then-settles (field-settles 1 at) (λ x. test-settles (eqb x long) wrongRecordLength at (at + 1)) .is }
+      here-settles (λ from is. then-settles (field-settles 1 at) (λ x _. test-settles (eqb x long) wrongRecordLength from (at + 1) (omega (arith, is))))
 
   -- The version byte: where there is none, it is refused at 0 too.
   version-settles : Settles file (version newestVersion) 0 (unlessAt (leb 1 (length file) && isVersion newestVersion (valueAt file 1 0)) wrongVersion 0) (valueAt file 1 0) 1
   unfolding version field
-  version-settles = record { is = by (leb 1 (length file)) (isVersion newestVersion (valueAt file 1 0)) refl }
+  version-settles =
+      record {
+        is = by (leb 1 (length file)) (isVersion newestVersion (valueAt file 1 0)) refl;
+        inside = λ h. within (leb 1 (length file)) refl (isVersion newestVersion (valueAt file 1 0));
+      }
     where
       by : (long t : Bool) → isVersion newestVersion (valueAt file 1 0) ≡ t
           → refusedAs wrongVersion
@@ -104,62 +138,67 @@ module _ (file : List ℕ) where
       by true true e = rw e refl
       by true false e = rw e refl
 
+      within : (long : Bool) → leb 1 (length file) ≡ long → (known : Bool) → Inside file (unlessAt (long && known) wrongVersion 0) 1
+      within false e known = (omega arith, λ _. inr refl)
+      within true e true = leb-true 1 (length file) e
+      within true e false = (omega arith, λ _. inr refl)
+
   extent-settles : Settles file (extent true) 1 (orElse (cutAt file 4 1) (unlessAt (eqb (5 + valueAt file 4 1) (length file)) wrongExtent 1)) tt 5
   unfolding extent
-  extent-settles = record { is = then-settles (field-settles 4 1) compares .is }
+  extent-settles = here-settles (λ from is. then-settles (field-settles 4 1) (λ x _. compares from is x))
     where
-      compares : (x : ℕ) → Settles file (λ f n. test (eqb (n + x) (length f)) wrongExtent 1 f n) 5 (unlessAt (eqb (5 + x) (length file)) wrongExtent 1) tt 5
-      compares x = record { is = test-settles (eqb (5 + x) (length file)) wrongExtent 1 5 .is }
+      compares : (from : ℕ) → from ≡ 1 → (x : ℕ)
+          → Settles file (λ f n. test (eqb (n + x) (length f)) wrongExtent from f n) 5 (unlessAt (eqb (5 + x) (length file)) wrongExtent from) tt 5
+      compares from is x = as-is (test-settles (eqb (5 + x) (length file)) wrongExtent from 5 (omega (arith, is))) refl
 
   head-settles : Settles file (head true) 0 (headFaults file) (headIn file) 10
   unfolding head opening headFaults
   head-settles =
-      record {
-        is =
-            then-settles {B = Head} (then-settles version-settles (λ v. value-settles extent-settles (λ _. v)))
-            (λ v. here-settles (λ from. then-settles (field-settles 2 5)
-            (λ n. then-settles (field-settles 2 7)
-            (λ d. then-settles (test-settles (ratesAllowed n d) wrongRates from 9)
-            (λ _. value-settles (checked-settles 1 (countAllowedIn v) wrongJobCount 9) (λ count. record { version = v; n = n; d = d; count = count })))))) .is;
-      }
+      then-settles {B = Head} (then-settles version-settles (λ v _. value-settles extent-settles (λ _. v)))
+      (λ v _. here-settles (λ from is. then-settles (field-settles 2 5)
+      (λ n _. then-settles (field-settles 2 7)
+      (λ d _. then-settles (test-settles (ratesAllowed n d) wrongRates from 9 (omega (arith, is)))
+      (λ _ _. value-settles (checked-settles 1 (omega arith) (countAllowedIn v) wrongJobCount 9) (λ count. record { version = v; n = n; d = d; count = count }))))))
 
   job-settles : (earlier : List ℕ) (at : ℕ) → Settles file (oneJob earlier) at (jobFaultsAt file earlier at) (jobIn file at) (afterJob at)
   unfolding oneJob jobName
   job-settles earlier at =
-      record {
-        is =
-            then-settles {B = Job}
-            (then-settles (length-settles jobLength at)
-            (λ _. here-settles (λ from. then-settles (field-settles 8 (nameFrom at))
-            (λ name. then-settles (test-settles (nameAllowed name) wrongNameByte from (gradeFrom at))
-            (λ _. passed-settles (isAbsent earlier name) nameTaken from (gradeFrom at) name)))))
-            (λ name. then-settles (checked-settles 1 gradeAllowed wrongGrade (gradeFrom at))
-            (λ grade. here-settles (λ from. then-settles (field-settles 4 (releaseFrom at))
-            (λ release. then-settles (field-settles 4 (sizeFrom at))
-            (λ size. then-settles (field-settles 4 (deadlineFrom at))
-            (λ deadline. passed-settles (windowAllowed release deadline && sizeAllowed size) wrongJobBounds from (afterJob at)
-            (record {
-              name = record { 0 = name };
-              grade = grade;
-              release = record { 0 = release };
-              size = record { 0 = size };
-              deadline = record { 0 = deadline };
-            }))))))) .is;
-      }
+      then-settles {B = Job}
+      (then-settles (length-settles jobLength at)
+      (λ _ _. here-settles (λ from is. then-settles (field-settles 8 (nameFrom at))
+      (λ name _. then-settles (test-settles (nameAllowed name) wrongNameByte from (gradeFrom at) (omega (arith, is)))
+      (λ _ _. passed-settles (isAbsent earlier name) nameTaken from (gradeFrom at) (omega (arith, is)) name)))))
+      (λ name _. then-settles (checked-settles 1 (omega arith) gradeAllowed wrongGrade (gradeFrom at))
+      (λ grade _. here-settles (λ from is. then-settles (field-settles 4 (releaseFrom at))
+      (λ release _. then-settles (field-settles 4 (sizeFrom at))
+      (λ size _. then-settles (field-settles 4 (deadlineFrom at))
+      (λ deadline _. passed-settles (windowAllowed release deadline && sizeAllowed size) wrongJobBounds from (afterJob at) (omega (arith, is))
+      (record {
+        name = record { 0 = name };
+        grade = grade;
+        release = record { 0 = release };
+        size = record { 0 = size };
+        deadline = record { 0 = deadline };
+      })))))))
 
   row-settles : (names : List ℕ) (spans low at : ℕ)
       → Settles file (oneRow mostIntervals names spans low) at (rowFaultsAt file names spans low at) (rowIn file names at) (afterRow at)
   unfolding oneRow rowJob
   row-settles names spans low at =
-      record {
-        is =
-            here-settles {B = Row}
-            (λ from. then-settles
-            (then-settles (length-settles rowLength at)
-            (λ _. here-settles (λ start. then-settles (field-settles 8 (nameFrom at))
-            (λ name. passed-settles (ltb (position names name) (length names)) rowWithoutJob start (intervalFrom at) (position names name)))))
-            (λ job. then-settles (checked-settles 2 (λ j. ltb j spans) rowWithoutInterval (intervalFrom at))
-            (λ interval. then-settles (checked-settles 4 (λ u. not (eqb u 0)) rowWithoutUnits (unitsFrom at))
-            (λ units. passed-settles (leb low (place mostIntervals job interval)) rowOutOfOrder from (afterRow at)
-            (record { at = place mostIntervals job interval; units = units }))))) .is;
-      }
+      here-settles {B = Row}
+      (λ from is. then-settles
+      (then-settles (length-settles rowLength at)
+      (λ _ _. here-settles (λ start here. then-settles (field-settles 8 (nameFrom at))
+      (λ name _. passed-settles (ltb (position names name) (length names)) rowWithoutJob start (intervalFrom at) (omega (arith, here)) (position names name)))))
+      (λ job _. then-settles (checked-settles 2 (omega arith) (λ j. ltb j spans) rowWithoutInterval (intervalFrom at))
+      (λ interval _. then-settles (checked-settles 4 (omega arith) (λ u. not (eqb u 0)) rowWithoutUnits (unitsFrom at))
+      (λ units _. passed-settles (leb low (place mostIntervals job interval)) rowOutOfOrder from (afterRow at) (omega (arith, is))
+      (record { at = place mostIntervals job interval; units = units })))))
+
+  ended-settles : (at : ℕ) → Settles file ended at (unlessAt (eqb at (length file)) wrongExtent at) tt at
+  unfolding ended
+  ended-settles at = by (eqb at (length file)) refl
+    where
+      by : (t : Bool) → eqb at (length file) ≡ t → Settles file (λ f n. test (eqb n (length f)) wrongExtent n f n) at (unlessAt t wrongExtent at) tt at
+      by true e = record { is = rw e refl; inside = λ h. h }
+      by false e = record { is = rw e refl; inside = λ h. (h, λ s. absurd (eqb-false at (length file) e s)) }
