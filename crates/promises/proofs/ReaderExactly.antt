@@ -47,18 +47,18 @@ record Settles {A : Type 0} (file : List ℕ) (read : Parser A) (at : ℕ) (F : 
   inside : at ≤ length file → Inside file F next
 
 -- A parser, then the one that its value gives: the first report, or else the second.
-then-settles : {A B : Type 0} {file : List ℕ} {read : Parser A} {at : ℕ} {F : Report} {a : A} {next : ℕ} {rest : A → Parser B} {G : A → Report} {b : A → B} {end : ℕ}
-    → Settles file read at F a next → ((x : A) → x ≡ a → Settles file (rest x) next (G x) (b x) end)
-    → Settles file (λ f n. onward (read f n) rest f) at (orElse F (G a)) (b a) end
+then-settles : {A B : Type 0} {file : List ℕ} {read : Parser A} {at : ℕ} {F : Report} {a : A} {next : ℕ} {rest : A → Parser B} {G : A → Report} {b : A → B} {end : A → ℕ}
+    → Settles file read at F a next → ((x : A) → x ≡ a → Settles file (rest x) next (G x) (b x) (end x))
+    → Settles file (λ f n. onward (read f n) rest f) at (orElse F (G a)) (b a) (end a)
 then-settles {A} {B} {file} {F = F} {a} {next} {rest} {G} {b} {end} e f =
     record { is = by F (e .is); inside = λ h. within F (e .inside h) }
   where
-    by : (F : Report) {s : Parsed A} → s ≡ settle F a next → onward s rest file ≡ settle (orElse F (G a)) (b a) end
+    by : (F : Report) {s : Parsed A} → s ≡ settle F a next → onward s rest file ≡ settle (orElse F (G a)) (b a) (end a)
     by [] e = rw e (f a refl .is)
     by (number ∷ []) e = rw e refl
     by (number ∷ offset ∷ more) e = rw e refl
 
-    within : (F : Report) → Inside file F next → Inside file (orElse F (G a)) end
+    within : (F : Report) → Inside file F next → Inside file (orElse F (G a)) (end a)
     within [] i = f a refl .inside i
     within (number ∷ []) i = i
     within (number ∷ offset ∷ []) i = i
@@ -202,3 +202,109 @@ module _ (file : List ℕ) where
       by : (t : Bool) → eqb at (length file) ≡ t → Settles file (λ f n. test (eqb n (length f)) wrongExtent n f n) at (unlessAt t wrongExtent at) tt at
       by true e = record { is = rw e refl; inside = λ h. h }
       by false e = record { is = rw e refl; inside = λ h. (h, λ s. absurd (eqb-false at (length file) e s)) }
+
+-- The first of several reports is that of the first, or else the first of the others.
+or-done : (F : Report) → orElse F [] ≡ F
+or-done [] = refl
+or-done (number ∷ rest) = refl
+
+first-on : (f : ℕ → Report) (n : ℕ) → first f (suc n) ≡ orElse (f 0) (first (λ k. f (suc k)) n)
+unfolding first
+first-on f zero = sym (or-done (f 0))
+first-on f (suc n) = ap (λ r. orElse r (f (suc n))) (first-on f n) ∙ or-assoc (f 0) (first (λ k. f (suc k)) n) (f (suc n))
+
+first-same : (f g : ℕ → Report) (n : ℕ) → ((k : ℕ) → f k ≡ g k) → first f n ≡ first g n
+first-same f g n e = ap (λ h. first h n) (λ j k. e k j)
+
+-- The report of n records from record i on.
+from-on : (f : ℕ → Report) (i n : ℕ) → orElse (f i) (first (λ k. f (suc i + k)) n) ≡ first (λ k. f (i + k)) (suc n)
+from-on f i n =
+    ap (λ j. orElse (f j) (first (λ k. f (suc i + k)) n)) (sym (add-zero i))
+    ∙ ap (orElse (f (i + 0))) (first-same (λ k. f (suc i + k)) (λ k. f (i + suc k)) n (λ k. ap f (suc-add i k ∙ sym (add-suc i k))))
+    ∙ sym (first-on (λ k. f (i + k)) n)
+
+module _ (file : List ℕ) where
+  jobs-settle : (n i : ℕ)
+      → Settles file (allJobs n (jobsIn file i)) (jobFrom i) (first (λ k. jobFaults file (i + k)) n) (jobsIn file (i + n)) (jobFrom (i + n))
+  unfolding allJobs first jobsIn jobFrom
+  jobs-settle zero i =
+      settles-as (record { is = refl; inside = λ h. h }) refl (ap (jobsIn file) (sym (add-zero i))) (ap jobFrom (sym (add-zero i)))
+  jobs-settle (suc n) i =
+      settles-as
+      (then-settles (job-settles file (namesOf (jobsIn file i)) (jobFrom i)) (λ job is. next (jobs-settle n (suc i)) job is))
+      (from-on (jobFaults file) i n) (ap (jobsIn file) (suc-add i n ∙ sym (add-suc i n))) (ap jobFrom (suc-add i n ∙ sym (add-suc i n)))
+    where
+      next : Settles file (allJobs n (jobsIn file i ++ (jobIn file (jobFrom i) ∷ []))) (afterJob (jobFrom i)) (first (λ k. jobFaults file (suc i + k)) n) (jobsIn file (suc i + n)) (jobFrom (suc i + n))
+          → (job : Job) → job ≡ jobIn file (jobFrom i)
+          → Settles file (allJobs n (jobsIn file i ++ (job ∷ []))) (afterJob (jobFrom i)) (first (λ k. jobFaults file (suc i + k)) n) (jobsIn file (suc i + n)) (jobFrom (suc i + n))
+      next rest job is = rw is rest
+
+  module _ (names : List ℕ) (spans start : ℕ) where
+    rows-settle : (n k : ℕ)
+        → Settles file (allRows n mostIntervals names spans (lowestAt file names start k) (tableIn file names start k)) (rowFrom start k)
+        (first (λ m. rowFaults file names spans start (k + m)) n) (tableIn file names start (k + n)) (rowFrom start (k + n))
+    unfolding allRows first tableIn rowFrom
+    rows-settle zero k =
+        settles-as (record { is = refl; inside = λ h. h }) refl (ap (tableIn file names start) (sym (add-zero k))) (ap (rowFrom start) (sym (add-zero k)))
+    rows-settle (suc n) k =
+        settles-as
+        (then-settles (row-settles file names spans (lowestAt file names start k) (rowFrom start k)) (λ row is. next (rows-settle n (suc k)) row is))
+        (from-on (rowFaults file names spans start) k n) (ap (tableIn file names start) (suc-add k n ∙ sym (add-suc k n))) (ap (rowFrom start) (suc-add k n ∙ sym (add-suc k n)))
+      where
+        next : Settles file (allRows n mostIntervals names spans (lowestAt file names start (suc k)) (set (tableIn file names start k) (rowIn file names (rowFrom start k) .at) (rowIn file names (rowFrom start k) .units)))
+            (afterRow (rowFrom start k)) (first (λ m. rowFaults file names spans start (suc k + m)) n) (tableIn file names start (suc k + n)) (rowFrom start (suc k + n))
+            → (row : Row) → row ≡ rowIn file names (rowFrom start k)
+            → Settles file (allRows n mostIntervals names spans (suc (row .at)) (set (tableIn file names start k) (row .at) (row .units))) (afterRow (rowFrom start k))
+            (first (λ m. rowFaults file names spans start (suc k + m)) n) (tableIn file names start (suc k + n)) (rowFrom start (suc k + n))
+        next rest row is = rw is rest
+
+  all-jobs : (n : ℕ) → Settles file (allJobs n []) headerBytes (first (jobFaults file) n) (jobsIn file n) (jobFrom n)
+  unfolding jobsIn jobFrom
+  all-jobs n =
+      settles-as (jobs-settle n 0) (first-same (λ k. jobFaults file (0 + k)) (jobFaults file) n (λ k. ap (jobFaults file) (zero-add k)))
+      (ap (jobsIn file) (zero-add n)) (ap jobFrom (zero-add n))
+
+  all-rows : (names : List ℕ) (spans start n : ℕ)
+      → Settles file (allRows n mostIntervals names spans 0 (replicate places 0)) start (first (rowFaults file names spans start) n) (tableIn file names start n) (rowFrom start n)
+  unfolding tableIn rowFrom
+  all-rows names spans start n =
+      settles-as (rows-settle names spans start n 0)
+      (first-same (λ k. rowFaults file names spans start (0 + k)) (rowFaults file names spans start) n (λ k. ap (rowFaults file names spans start) (zero-add k)))
+      (ap (tableIn file names start) (zero-add n)) (ap (rowFrom start) (zero-add n))
+
+  -- What the file holds by the layout.
+  abbrev contentsIn : Contents
+  contentsIn = record { plan = filePlan file; table = tableIn file (namesOf (fileJobs file)) (rowsFrom file) (rowsSaid file) }
+
+  file-settles : Settles file planFile 0 (fileFault file) contentsIn (endOf file)
+  unfolding planFile preamble fileFault
+  file-settles =
+      then-settles {B = Contents}
+      (then-settles {B = Preamble} (head-settles file)
+      (λ h _. then-settles (all-jobs (h .count))
+      (λ jobs _. value-settles (checked-settles file 2 (omega arith) (rowsAllowedIn (h .version)) tooManyRows (jobFrom (h .count)))
+      (λ rows. record { plan = planFrom h jobs; names = namesOf jobs; rows = rows }))))
+      (λ f _. then-settles (all-rows (f .names) (intervals (f .plan)) (rowsFrom file) (f .rows))
+      (λ table _. value-settles (ended-settles file (rowFrom (rowsFrom file) (f .rows))) (λ _. record { plan = f .plan; table = table })))
+
+-- For every file: it is read, as the layout says, if it has no fault; otherwise it is refused by the number
+-- and at the offset of its first fault.
+pub read-by-layout : (file : List ℕ) → readFile file ≡ settle (fileFault file) (contentsIn file) (endOf file)
+read-by-layout file = file-settles file .is
+
+-- Where a refused file is wrong: an offset inside the file, or its length if a field would begin there, which
+-- is refused by 2, or by 1 in an empty file.
+pub offset-inside : (file : List ℕ) → Inside file (fileFault file) (endOf file)
+offset-inside file = file-settles file .inside (omega arith)
+
+-- The reader's report is the first fault, for every file and every table that is long enough.
+pub reader-exactly : (file table : List ℕ) → places ≤ length table → reader file table .answer ≡ fileFault file
+reader-exactly file table long =
+    ap (λ (e : ReadEffect). e .answer) (sym (reader-long file table long) ∙ ap (λ s. leaves s table) (read-by-layout file))
+    ∙ by (fileFault file) (offset-inside file)
+  where
+    by : (F : Report) → Inside file F (endOf file) → leaves (settle F (contentsIn file) (endOf file)) table .answer ≡ F
+    by [] i = refl
+    by (number ∷ []) i = absurd i
+    by (number ∷ offset ∷ []) i = refl
+    by (number ∷ offset ∷ more ∷ rest) i = absurd i
