@@ -30,3 +30,4 @@ pub mod Exactly
 pub mod RefusalOrder
 pub mod JudgeExactly
 pub mod ReaderExactly
+pub mod WrongField

@@ -1,7 +1,7 @@
 -- The reader answers the first fault that the bytes have by the layout, with its number and offset, or
 -- reads what the layout says: each number exactly when its ground holds and none before it does.
 use mathlib.Core.Path.{_≡_, refl, sym, _∙_, ap}
-use mathlib.Core.Logic.{_⊎_, inl, inr}
+use mathlib.Core.Logic.{inl, inr}
 use mathlib.Core.Bool.{Bool, true, false, not, cond, _&&_}
 use mathlib.Core.List.{List, [], _∷_, _++_}
 use Prim.Native.Nat.{ℕ, zero, suc, _+_, _*_, _≤_, _<_}
@@ -9,7 +9,7 @@ use native.Mathlib.Nat.{add-zero, add-suc, suc-add, zero-add}
 use native.Mathlib.Omega.{arith}
 use borrow.Author.Tests.{leb-true, eqb-false}
 use lib.Dec.{leb, ltb, eqb}
-use lib.ListN.{length, set, replicate}
+use lib.ListN.{length, drop, set, replicate}
 use Rattle.plan.specs.Refusal.{refusalAt, wrongVersion, wrongExtent, wrongRecordLength, wrongRates, wrongJobCount, wrongNameByte, nameTaken, wrongGrade, wrongJobBounds, tooManyRows, rowWithoutJob, rowWithoutInterval, rowWithoutUnits, rowOutOfOrder}
 use Rattle.plan.specs.Edition.{mostIntervals, places}
 use Rattle.plan.specs.Versions.{newestVersion, countAllowedIn, rowsAllowedIn}
@@ -24,7 +24,7 @@ use Rattle.planfields.specs.Layout.{headerBytes, jobLength, rowLength}
 use Rattle.planfields.specs.Records.{Head, head, jobName, oneJob}
 use Rattle.planfile.specs.Reader.{namesOf, allJobs, position, Row, rowJob, oneRow, allRows, Contents, planFrom, Preamble, preamble, planFile, readFile, ReadEffect, leaves, reader}
 use Rattle.planfile.proofs.WholeFile.{reader-long}
-use Rattle.promises.specs.FileFaults.{valueAt, cutAt, unlessAt, fieldFaults, lengthFaults, headFaults, headIn, nameFrom, gradeFrom, releaseFrom, sizeFrom, deadlineFrom, afterJob, jobFrom, jobIn, jobsIn, jobFaultsAt, jobFaults, intervalFrom, unitsFrom, afterRow, rowFrom, rowIn, rowFaultsAt, lowestAt, rowFaults, tableIn, fileJobs, filePlan, rowCountFrom, rowsFrom, rowsSaid, endOf, fileFault}
+use Rattle.promises.specs.FileFaults.{valueAt, cutAt, unlessAt, fieldFaults, lengthFaults, headFaults, headIn, nameFrom, gradeFrom, releaseFrom, sizeFrom, deadlineFrom, afterJob, jobFrom, jobIn, jobsIn, jobFaultsAt, jobFaults, intervalFrom, unitsFrom, afterRow, rowFrom, rowIn, rowFaultsAt, lowestAt, rowFaults, tableIn, fileJobs, filePlan, rowCountFrom, rowsFrom, rowsSaid, endOf, fileFault, InsideFile}
 
 -- A parser's result by a report: the value and the next offset if the report is empty, otherwise the refusal
 -- that it names.
@@ -33,18 +33,10 @@ settle [] a next = got a next
 settle (number ∷ []) a next = no (refusalAt number 0)
 settle (number ∷ offset ∷ rest) a next = no (refusalAt number offset)
 
--- A report is empty, and then the next offset is inside the file or at its end; or it is a number and an
--- offset inside the file, or at its end for a field that would begin there.
-abbrev Inside : (file : List ℕ) → Report → ℕ → Type 0
-Inside file [] next = next ≤ length file
-Inside file (number ∷ []) next = ⊥
-Inside file (number ∷ offset ∷ []) next = (offset ≤ length file) × (offset ≡ length file → (number ≡ wrongExtent) ⊎ (number ≡ wrongVersion))
-Inside file (number ∷ offset ∷ more ∷ rest) next = ⊥
-
 -- What a parser gives at an offset, by the faults that it finds.
 record Settles {A : Type 0} (file : List ℕ) (read : Parser A) (at : ℕ) (F : Report) (a : A) (next : ℕ) : Type 0 where
   is : read file at ≡ settle F a next
-  inside : at ≤ length file → Inside file F next
+  inside : at ≤ length file → InsideFile file F next
 
 -- A parser, then the one that its value gives: the first report, or else the second.
 then-settles : {A B : Type 0} {file : List ℕ} {read : Parser A} {at : ℕ} {F : Report} {a : A} {next : ℕ} {rest : A → Parser B} {G : A → Report} {b : A → B} {end : A → ℕ}
@@ -58,7 +50,7 @@ then-settles {A} {B} {file} {F = F} {a} {next} {rest} {G} {b} {end} e f =
     by (number ∷ []) e = rw e refl
     by (number ∷ offset ∷ more) e = rw e refl
 
-    within : (F : Report) → Inside file F next → Inside file (orElse F (G a)) (end a)
+    within : (F : Report) → InsideFile file F next → InsideFile file (orElse F (G a)) (end a)
     within [] i = f a refl .inside i
     within (number ∷ []) i = i
     within (number ∷ offset ∷ []) i = i
@@ -93,7 +85,7 @@ module _ (file : List ℕ) where
       by true = refl
       by false = refl
 
-      within : at ≤ length file → (t : Bool) → leb (at + w) (length file) ≡ t → Inside file (fault (not t) (wrongExtent ∷ at ∷ [])) (at + w)
+      within : at ≤ length file → (t : Bool) → leb (at + w) (length file) ≡ t → InsideFile file (fault (not t) (wrongExtent ∷ at ∷ [])) (at + w)
       within h true e = leb-true (at + w) (length file) e
       within h false e = (h, λ _. inl refl)
 
@@ -138,7 +130,7 @@ module _ (file : List ℕ) where
       by true true e = rw e refl
       by true false e = rw e refl
 
-      within : (long : Bool) → leb 1 (length file) ≡ long → (known : Bool) → Inside file (unlessAt (long && known) wrongVersion 0) 1
+      within : (long : Bool) → leb 1 (length file) ≡ long → (known : Bool) → InsideFile file (unlessAt (long && known) wrongVersion 0) 1
       within false e known = (omega arith, λ _. inr refl)
       within true e true = leb-true 1 (length file) e
       within true e false = (omega arith, λ _. inr refl)
@@ -289,22 +281,31 @@ module _ (file : List ℕ) where
 
 -- For every file: it is read, as the layout says, if it has no fault; otherwise it is refused by the number
 -- and at the offset of its first fault.
-pub read-by-layout : (file : List ℕ) → readFile file ≡ settle (fileFault file) (contentsIn file) (endOf file)
+read-by-layout : (file : List ℕ) → readFile file ≡ settle (fileFault file) (contentsIn file) (endOf file)
 read-by-layout file = file-settles file .is
+
+by-layout : (file table : List ℕ) → places ≤ length table → reader file table ≡ leaves (settle (fileFault file) (contentsIn file) (endOf file)) table
+by-layout file table long = sym (reader-long file table long) ∙ ap (λ s. leaves s table) (read-by-layout file)
 
 -- Where a refused file is wrong: an offset inside the file, or its length if a field would begin there, which
 -- is refused by 2, or by 1 in an empty file.
-pub offset-inside : (file : List ℕ) → Inside file (fileFault file) (endOf file)
+pub offset-inside : (file : List ℕ) → InsideFile file (fileFault file) (endOf file)
 offset-inside file = file-settles file .inside (omega arith)
 
 -- The reader's report is the first fault, for every file and every table that is long enough.
 pub reader-exactly : (file table : List ℕ) → places ≤ length table → reader file table .answer ≡ fileFault file
 reader-exactly file table long =
-    ap (λ (e : ReadEffect). e .answer) (sym (reader-long file table long) ∙ ap (λ s. leaves s table) (read-by-layout file))
-    ∙ by (fileFault file) (offset-inside file)
+    ap (λ (e : ReadEffect). e .answer) (by-layout file table long) ∙ by (fileFault file) (offset-inside file)
   where
-    by : (F : Report) → Inside file F (endOf file) → leaves (settle F (contentsIn file) (endOf file)) table .answer ≡ F
+    by : (F : Report) → InsideFile file F (endOf file) → leaves (settle F (contentsIn file) (endOf file)) table .answer ≡ F
     by [] i = refl
     by (number ∷ []) i = absurd i
     by (number ∷ offset ∷ []) i = refl
     by (number ∷ offset ∷ more ∷ rest) i = absurd i
+
+-- A file without a fault is read: the plan and the table are those that the layout has.
+pub reads-the-layout : (file table : List ℕ) → places ≤ length table → fileFault file ≡ []
+    → (reader file table .plan ≡ filePlan file) × (reader file table .table ≡ tableIn file (namesOf (fileJobs file)) (rowsFrom file) (rowsSaid file) ++ drop places table)
+reads-the-layout file table long none =
+    let is = by-layout file table long ∙ ap (λ F. leaves (settle F (contentsIn file) (endOf file)) table) none in
+    (ap (λ (e : ReadEffect). e .plan) is, ap (λ (e : ReadEffect). e .table) is)

@@ -1,9 +1,11 @@
 -- The faults of a plan file, told from its bytes and the layout alone: at which offset each field begins,
 -- and what is wrong with it, in the order in which the reader looks. (proofs/ReaderExactly: the reader
 -- answers the first of them, with its number and offset.)
-use mathlib.Core.Bool.{Bool, true, not, _&&_}
+use mathlib.Core.Path.{_≡_}
+use mathlib.Core.Logic.{_⊎_}
+use mathlib.Core.Bool.{Bool, not, _&&_}
 use mathlib.Core.List.{List, [], _∷_, _++_}
-use Prim.Native.Nat.{ℕ, zero, suc, _+_}
+use Prim.Native.Nat.{ℕ, zero, suc, _+_, _≤_, _<_}
 use lib.Dec.{leb, ltb, eqb}
 use lib.ListN.{length, take, drop, set, replicate}
 use Rattle.plan.specs.Kinds.{Bytes, Number, Offset, Position, Table}
@@ -184,12 +186,81 @@ rowsSaid file = valueAt file rowCountBytes (rowCountFrom file)
 abbrev pub endOf : (file : Bytes) → Offset
 endOf file = rowFrom (rowsFrom file) (rowsSaid file)
 
--- The first fault of a file, front to back: of the fields before the jobs, of the first job that has one,
--- of the row count, of the first row that has one, or that bytes are left. Empty if there is none.
+-- The first fault before the rows: of the fields before the jobs, of the first job that has one, or of the
+-- row count.
+abbrev pub preambleFault : (file : Bytes) → Report
+preambleFault file =
+    orElse (headFaults file)
+    (orElse (first (jobFaults file) (headIn file .count)) (fieldFaults file rowCountBytes (rowsAllowedIn (headIn file .version)) tooManyRows (rowCountFrom file)))
+
+-- The faults of row k, by the names of the file's jobs and the intervals of its plan.
+abbrev pub fileRowFaults : (file : Bytes) (k : ℕ) → Report
+fileRowFaults file k = rowFaults file (namesOf (fileJobs file)) (intervals (filePlan file)) (rowsFrom file) k
+
+-- The first fault of a file, front to back: before the rows, of the first row that has one, or that bytes are
+-- left. Empty if there is none.
 unfoldable pub fileFault : (file : Bytes) → Report
 fileFault file =
-    orElse
-    (orElse (headFaults file)
-    (orElse (first (jobFaults file) (headIn file .count)) (fieldFaults file rowCountBytes (rowsAllowedIn (headIn file .version)) tooManyRows (rowCountFrom file))))
-    (orElse (first (rowFaults file (namesOf (fileJobs file)) (intervals (filePlan file)) (rowsFrom file)) (rowsSaid file))
-    (unlessAt (eqb (endOf file) (length file)) wrongExtent (endOf file)))
+    orElse (preambleFault file) (orElse (first (fileRowFaults file) (rowsSaid file)) (unlessAt (eqb (endOf file) (length file)) wrongExtent (endOf file)))
+
+-- A report is empty, and then `next` is inside the file or at its end; or it is a number and an offset, inside
+-- the file or at its end. At its end there is no byte: the number is then 2, for a field that would begin
+-- there, or 1, for the first byte of an empty file.
+abbrev pub InsideFile : (file : Bytes) (report : Report) (next : Offset) → Type 0
+InsideFile file [] next = next ≤ length file
+InsideFile file (number ∷ []) next = ⊥
+InsideFile file (number ∷ offset ∷ []) next = (offset ≤ length file) × (offset ≡ length file → (number ≡ wrongExtent) ⊎ (number ≡ wrongVersion))
+InsideFile file (number ∷ offset ∷ more ∷ rest) next = ⊥
+
+-- The numbers and offsets that faults of the fields before the jobs have. Here and below every number but 2
+-- tells the field, and 3 is a length byte's; 2 is a field that is cut, or the length field.
+pub data WrongInHead : Number → Offset → Type 0 where
+  head-version : WrongInHead wrongVersion 0
+  head-length-field : WrongInHead wrongExtent 1
+  head-normal-cut : WrongInHead wrongExtent 5
+  head-floor-cut : WrongInHead wrongExtent 7
+  head-rates : WrongInHead wrongRates 5
+  head-count-cut : WrongInHead wrongExtent 9
+  head-count-other : WrongInHead wrongJobCount 9
+
+-- Those of a job that begins at an offset.
+pub data WrongInJob (at : Offset) : Number → Offset → Type 0 where
+  job-length-cut : WrongInJob at wrongExtent at
+  job-length-other : WrongInJob at wrongRecordLength at
+  job-name-cut : WrongInJob at wrongExtent (nameFrom at)
+  job-name-byte : WrongInJob at wrongNameByte (nameFrom at)
+  job-name-taken : WrongInJob at nameTaken (nameFrom at)
+  job-grade-cut : WrongInJob at wrongExtent (gradeFrom at)
+  job-grade-other : WrongInJob at wrongGrade (gradeFrom at)
+  job-release-cut : WrongInJob at wrongExtent (releaseFrom at)
+  job-size-cut : WrongInJob at wrongExtent (sizeFrom at)
+  job-deadline-cut : WrongInJob at wrongExtent (deadlineFrom at)
+  job-bounds : WrongInJob at wrongJobBounds (releaseFrom at)
+
+-- Those of the row count.
+pub data WrongRowCount (at : Offset) : Number → Offset → Type 0 where
+  rows-count-cut : WrongRowCount at wrongExtent at
+  rows-too-many : WrongRowCount at tooManyRows at
+
+-- Those of a row that begins at an offset.
+pub data WrongInRow (at : Offset) : Number → Offset → Type 0 where
+  row-length-cut : WrongInRow at wrongExtent at
+  row-length-other : WrongInRow at wrongRecordLength at
+  row-name-cut : WrongInRow at wrongExtent (nameFrom at)
+  row-name-of-no-job : WrongInRow at rowWithoutJob (nameFrom at)
+  row-interval-cut : WrongInRow at wrongExtent (intervalFrom at)
+  row-interval-other : WrongInRow at rowWithoutInterval (intervalFrom at)
+  row-units-cut : WrongInRow at wrongExtent (unitsFrom at)
+  row-units-none : WrongInRow at rowWithoutUnits (unitsFrom at)
+  row-out-of-order : WrongInRow at rowOutOfOrder at
+
+-- Where a file is wrong: in which record and at which of its fields; nothing before that record is wrong.
+pub data WrongAt (file : Bytes) : Number → Offset → Type 0 where
+  in-head : {number : Number} {offset : Offset} → WrongInHead number offset → WrongAt file number offset
+  in-job : {number : Number} {offset : Offset} (i : ℕ) → i < headIn file .count → headFaults file ≡ [] → ((k : ℕ) → k < i → jobFaults file k ≡ [])
+      → WrongInJob (jobFrom i) number offset → WrongAt file number offset
+  in-row-count : {number : Number} {offset : Offset} → headFaults file ≡ [] → ((k : ℕ) → k < headIn file .count → jobFaults file k ≡ [])
+      → WrongRowCount (rowCountFrom file) number offset → WrongAt file number offset
+  in-row : {number : Number} {offset : Offset} (i : ℕ) → i < rowsSaid file → preambleFault file ≡ [] → ((k : ℕ) → k < i → fileRowFaults file k ≡ [])
+      → WrongInRow (rowFrom (rowsFrom file) i) number offset → WrongAt file number offset
+  left-over : preambleFault file ≡ [] → ((k : ℕ) → k < rowsSaid file → fileRowFaults file k ≡ []) → WrongAt file wrongExtent (endOf file)
