@@ -7,9 +7,10 @@ use mathlib.Core.List.{List, [], _∷_, _++_}
 use Prim.Native.Nat.{ℕ, zero, suc, _+_, _*_, _≤_, _<_}
 use native.Mathlib.Nat.{add-zero, add-suc, suc-add, zero-add}
 use native.Mathlib.Omega.{arith}
-use borrow.Author.Tests.{leb-true, eqb-false}
+use borrow.Author.Tests.{leb-true, eqb-true, eqb-false}
 use lib.Dec.{leb, ltb, eqb}
-use lib.ListN.{length, drop, set, replicate}
+use lib.ListN.{length, take, drop, set, replicate}
+use lib.Seq.{take-take}
 use Rattle.plan.specs.Refusal.{refusalAt, wrongVersion, wrongExtent, wrongRecordLength, wrongRates, wrongJobCount, wrongNameByte, nameTaken, wrongGrade, wrongJobBounds, tooManyRows, rowWithoutJob, rowWithoutInterval, rowWithoutUnits, rowOutOfOrder}
 use Rattle.plan.specs.Edition.{mostIntervals, places}
 use Rattle.plan.specs.Versions.{newestVersion, countAllowedIn, rowsAllowedIn}
@@ -19,12 +20,13 @@ use Rattle.plan.specs.Boundaries.{intervals}
 use Rattle.plan.specs.Table.{place}
 use Rattle.plan.specs.declared.kinds.Job.{Job}
 use Rattle.plan.proofs.Reports.{or-assoc}
+use Rattle.fields.specs.Bytes.{value}
 use Rattle.fields.specs.Parsers.{Parsed, got, no, Parser, onward, test, field, checked, recordLength, refusedAs, isVersion, version, extent, opening, ended}
 use Rattle.planfields.specs.Layout.{headerBytes, jobLength, rowLength}
 use Rattle.planfields.specs.Records.{Head, head, jobName, oneJob}
 use Rattle.planfile.specs.Reader.{namesOf, allJobs, position, Row, rowJob, oneRow, allRows, Contents, planFrom, Preamble, preamble, planFile, readFile, ReadEffect, leaves, reader}
 use Rattle.planfile.proofs.WholeFile.{reader-long}
-use Rattle.promises.specs.FileFaults.{valueAt, cutAt, unlessAt, fieldFaults, lengthFaults, headFaults, headIn, nameFrom, gradeFrom, releaseFrom, sizeFrom, deadlineFrom, afterJob, jobFrom, jobIn, jobsIn, jobFaultsAt, jobFaults, intervalFrom, unitsFrom, afterRow, rowFrom, rowIn, rowFaultsAt, lowestAt, rowFaults, tableIn, fileJobs, filePlan, rowCountFrom, rowsFrom, rowsSaid, endOf, fileFault, InsideFile}
+use Rattle.promises.specs.FileFaults.{valueAt, cutAt, unlessAt, fieldFaults, lengthFaults, headFaults, headIn, nameFrom, gradeFrom, releaseFrom, sizeFrom, deadlineFrom, afterJob, jobFrom, jobIn, jobsIn, jobFaultsAt, jobFaults, intervalFrom, unitsFrom, afterRow, rowFrom, rowIn, rowFaultsAt, lowestAt, rowFaults, tableIn, fileJobs, filePlan, rowCountFrom, rowsFrom, rowsSaid, endOf, fileFault, InsideFile, lastRead}
 
 -- A parser's result by a report: the value and the next offset if the report is empty, otherwise the refusal
 -- that it names.
@@ -33,22 +35,64 @@ settle [] a next = got a next
 settle (number ∷ []) a next = no (refusalAt number 0)
 settle (number ∷ offset ∷ rest) a next = no (refusalAt number offset)
 
--- What a parser gives at an offset, by the faults that it finds.
+-- How far a parser has read.
+abbrev reach : Report → ℕ → ℕ
+reach [] next = next
+reach (number ∷ []) next = lastRead number 0
+reach (number ∷ offset ∷ rest) next = lastRead number offset
+
+-- What a parser gives at an offset, by the faults that it finds; it gives the same in another file of the same
+-- length that agrees as far as it has read.
 record Settles {A : Type 0} (file : List ℕ) (read : Parser A) (at : ℕ) (F : Report) (a : A) (next : ℕ) : Type 0 where
   is : read file at ≡ settle F a next
   inside : at ≤ length file → InsideFile file F next
+  goes : at ≤ reach F next
+  same : (other : List ℕ) → length other ≡ length file → take (reach F next) other ≡ take (reach F next) file → read other at ≡ settle F a next
+
+take-none : (w : ℕ) → take {A = ℕ} w [] ≡ []
+take-none zero = refl
+take-none (suc w) = refl
+
+-- Lists that agree up to n agree up to a lesser m; and a part of them is the same.
+agree-less : (a b : List ℕ) (m n : ℕ) → m ≤ n → take n a ≡ take n b → take m a ≡ take m b
+agree-less a b m n h e = sym (take-take m n a h) ∙ ap (take m) e ∙ take-take m n b h
+
+part-of : (at w : ℕ) (l : List ℕ) → drop at (take (at + w) l) ≡ take w (drop at l)
+part-of zero w l = ap (λ n. take n l) (zero-add w)
+part-of (suc at) w [] = rw (suc-add at w) (sym (take-none w))
+part-of (suc at) w (x ∷ l) = rw (suc-add at w) (part-of at w l)
+
+agree-part : (a b : List ℕ) (at w : ℕ) → take (at + w) a ≡ take (at + w) b → take w (drop at a) ≡ take w (drop at b)
+agree-part a b at w e = sym (part-of at w a) ∙ ap (drop at) e ∙ part-of at w b
 
 -- A parser, then the one that its value gives: the first report, or else the second.
 then-settles : {A B : Type 0} {file : List ℕ} {read : Parser A} {at : ℕ} {F : Report} {a : A} {next : ℕ} {rest : A → Parser B} {G : A → Report} {b : A → B} {end : A → ℕ}
     → Settles file read at F a next → ((x : A) → x ≡ a → Settles file (rest x) next (G x) (b x) (end x))
     → Settles file (λ f n. onward (read f n) rest f) at (orElse F (G a)) (b a) (end a)
 then-settles {A} {B} {file} {F = F} {a} {next} {rest} {G} {b} {end} e f =
-    record { is = by F (e .is); inside = λ h. within F (e .inside h) }
+    record {
+      is = by F file (e .is) (f a refl .is);
+      inside = λ h. within F (e .inside h);
+      goes = further F (e .goes);
+      same = λ other long agree. alike F other long (e .same other long) (f a refl .same other long) agree;
+    }
   where
-    by : (F : Report) {s : Parsed A} → s ≡ settle F a next → onward s rest file ≡ settle (orElse F (G a)) (b a) (end a)
-    by [] e = rw e (f a refl .is)
-    by (number ∷ []) e = rw e refl
-    by (number ∷ offset ∷ more) e = rw e refl
+    by : (F : Report) (file : List ℕ) {s : Parsed A} → s ≡ settle F a next → rest a file next ≡ settle (G a) (b a) (end a) → onward s rest file ≡ settle (orElse F (G a)) (b a) (end a)
+    by [] file e f = rw e f
+    by (number ∷ []) file e f = rw e refl
+    by (number ∷ offset ∷ more) file e f = rw e refl
+
+    further : (F : Report) {at : ℕ} → at ≤ reach F next → at ≤ reach (orElse F (G a)) (end a)
+    further [] h = omega (arith, h, f a refl .goes)
+    further (number ∷ []) h = h
+    further (number ∷ offset ∷ more) h = h
+
+    alike : (F : Report) (other : List ℕ) → length other ≡ length file → {s : Parsed A} → (take (reach F next) other ≡ take (reach F next) file → s ≡ settle F a next)
+        → (take (reach (G a) (end a)) other ≡ take (reach (G a) (end a)) file → rest a other next ≡ settle (G a) (b a) (end a))
+        → take (reach (orElse F (G a)) (end a)) other ≡ take (reach (orElse F (G a)) (end a)) file → onward s rest other ≡ settle (orElse F (G a)) (b a) (end a)
+    alike [] other long e g agree = by [] other (e (agree-less other file next (reach (G a) (end a)) (f a refl .goes) agree)) (g agree)
+    alike (number ∷ []) other long e g agree = rw (e agree) refl
+    alike (number ∷ offset ∷ more) other long e g agree = rw (e agree) refl
 
     within : (F : Report) → InsideFile file F next → InsideFile file (orElse F (G a)) (end a)
     within [] i = f a refl .inside i
@@ -59,17 +103,18 @@ then-settles {A} {B} {file} {F = F} {a} {next} {rest} {G} {b} {end} e f =
 -- A parser, then a value made of its value.
 value-settles : {A B : Type 0} {file : List ℕ} {read : Parser A} {at : ℕ} {F : Report} {a : A} {next : ℕ} → Settles file read at F a next → (f : A → B)
     → Settles file (λ g n. onward (read g n) (λ x _ m. got (f x) m) g) at F (f a) next
-value-settles {A} {B} {file} {F = F} {a} {next} e f = record { is = by F (e .is); inside = e .inside }
+value-settles {A} {B} {file} {F = F} {a} {next} e f =
+    record { is = by F file (e .is); inside = e .inside; goes = e .goes; same = λ other long agree. by F other (e .same other long agree) }
   where
-    by : (F : Report) {s : Parsed A} → s ≡ settle F a next → onward s (λ x _ m. got (f x) m) file ≡ settle F (f a) next
-    by [] e = rw e refl
-    by (number ∷ []) e = rw e refl
-    by (number ∷ offset ∷ more) e = rw e refl
+    by : (F : Report) (file : List ℕ) {s : Parsed A} → s ≡ settle F a next → onward s (λ x _ m. got (f x) m) file ≡ settle F (f a) next
+    by [] file e = rw e refl
+    by (number ∷ []) file e = rw e refl
+    by (number ∷ offset ∷ more) file e = rw e refl
 
 -- A parser that is told where it begins.
 here-settles : {B : Type 0} {file : List ℕ} {rest : ℕ → Parser B} {at : ℕ} {F : ℕ → Report} {b : B} {end : ℕ}
     → ((from : ℕ) → from ≡ at → Settles file (rest from) at (F from) b end) → Settles file (λ f n. rest n f n) at (F at) b end
-here-settles {at = at} e = record { is = e at refl .is; inside = e at refl .inside }
+here-settles {at = at} e = record { is = e at refl .is; inside = e at refl .inside; goes = e at refl .goes; same = e at refl .same }
 
 -- The same with equal reports, values and offsets.
 settles-as : {A : Type 0} {file : List ℕ} {read : Parser A} {at : ℕ} {F G : Report} {a b : A} {m n : ℕ} → Settles file read at F a m → F ≡ G → a ≡ b → m ≡ n
@@ -79,8 +124,27 @@ settles-as s p q r = rw r at (rw q at (rw p at s))
 module _ (file : List ℕ) where
   field-settles : (w at : ℕ) → Settles file (field w) at (cutAt file w at) (valueAt file w at) (at + w)
   unfolding field
-  field-settles w at = record { is = by (leb (at + w) (length file)); inside = λ h. within h (leb (at + w) (length file)) refl }
+  field-settles w at =
+      record {
+        is = by (leb (at + w) (length file));
+        inside = λ h. within h (leb (at + w) (length file)) refl;
+        goes = goes-on (leb (at + w) (length file));
+        same = λ other long agree. rw long (alike (leb (at + w) (length file)) other agree);
+      }
     where
+      goes-on : (t : Bool) → at ≤ reach (fault (not t) (wrongExtent ∷ at ∷ [])) (at + w)
+      goes-on true = omega arith
+      goes-on false = by-place (eqb at 1) refl
+        where
+          by-place : (t : Bool) → eqb at 1 ≡ t → at ≤ cond t 5 at
+          by-place true e = omega (arith, eqb-true at 1 e)
+          by-place false e = omega arith
+
+      alike : (t : Bool) (other : List ℕ) → take (reach (fault (not t) (wrongExtent ∷ at ∷ [])) (at + w)) other ≡ take (reach (fault (not t) (wrongExtent ∷ at ∷ [])) (at + w)) file
+          → cond t (got (valueAt other w at) (at + w)) (no (refusalAt wrongExtent at)) ≡ settle (fault (not t) (wrongExtent ∷ at ∷ [])) (valueAt file w at) (at + w)
+      alike true other agree = ap (λ l. got (value 0 l) (at + w)) (agree-part other file at w agree)
+      alike false other agree = refl
+
       by : (t : Bool) → cond t (got (valueAt file w at) (at + w)) (no (refusalAt wrongExtent at)) ≡ settle (fault (not t) (wrongExtent ∷ at ∷ [])) (valueAt file w at) (at + w)
       by true = refl
       by false = refl
@@ -90,45 +154,55 @@ module _ (file : List ℕ) where
       within h false e = (h, λ _. inl refl)
 
   -- A test on a field that begins before the offset, then a value.
-  passed-settles : {A : Type 0} (ok : Bool) (number from at : ℕ) → from < at → (a : A)
+  passed-settles : {A : Type 0} (ok : Bool) (number from at : ℕ) → from < at → at ≤ lastRead number from → (a : A)
       → Settles file (λ f n. onward (test ok number from f n) (λ _ _ next. got a next) f) at (unlessAt ok number from) a at
-  passed-settles true number from at l a = record { is = refl; inside = λ h. h }
-  passed-settles false number from at l a = record { is = refl; inside = λ h. (omega arith, λ e. absurd (omega (arith, e))) }
+  passed-settles true number from at l r a = record { is = refl; inside = λ h. h; goes = omega arith; same = λ other long agree. refl }
+  passed-settles false number from at l r a =
+      record { is = refl; inside = λ h. (omega arith, λ e. absurd (omega (arith, e))); goes = r; same = λ other long agree. refl }
 
-  test-settles : (ok : Bool) (number from at : ℕ) → from < at → Settles file (test ok number from) at (unlessAt ok number from) tt at
-  test-settles true number from at l = record { is = refl; inside = λ h. h }
-  test-settles false number from at l = record { is = refl; inside = λ h. (omega arith, λ e. absurd (omega (arith, e))) }
+  test-settles : (ok : Bool) (number from at : ℕ) → from < at → at ≤ lastRead number from → Settles file (test ok number from) at (unlessAt ok number from) tt at
+  test-settles true number from at l r = record { is = refl; inside = λ h. h; goes = omega arith; same = λ other long agree. refl }
+  test-settles false number from at l r =
+      record { is = refl; inside = λ h. (omega arith, λ e. absurd (omega (arith, e))); goes = r; same = λ other long agree. refl }
 
-  as-is : {A : Type 0} {read : Parser A} {at : ℕ} {F : Report} {a : A} {next : ℕ} {other : Parser A} → Settles file read at F a next → other file at ≡ read file at
-      → Settles file other at F a next
-  as-is s e = record { is = e ∙ s .is; inside = s .inside }
-
-  checked-settles : (w : ℕ) → 1 ≤ w → (ok : ℕ → Bool) (number at : ℕ) → Settles file (checked w ok number) at (fieldFaults file w ok number at) (valueAt file w at) (at + w)
-  checked-settles w some ok number at =
-      here-settles (λ from is. then-settles (field-settles w at) (λ x _. passed-settles (ok x) number from (at + w) (omega (arith, is)) x))
+  checked-settles : (w : ℕ) → 1 ≤ w → (ok : ℕ → Bool) (number at : ℕ) → at + w ≤ lastRead number at
+      → Settles file (checked w ok number) at (fieldFaults file w ok number at) (valueAt file w at) (at + w)
+  checked-settles w some ok number at r =
+      here-settles (λ from is. then-settles (field-settles w at) (λ x _. passed-settles (ok x) number from (at + w) (omega (arith, is)) (rw is r) x))
 
   length-settles : (long at : ℕ) → Settles file (recordLength long) at (lengthFaults file long at) tt (at + 1)
   unfolding recordLength
   length-settles long at =
-      here-settles (λ from is. then-settles (field-settles 1 at) (λ x _. test-settles (eqb x long) wrongRecordLength from (at + 1) (omega (arith, is))))
+      here-settles (λ from is. then-settles (field-settles 1 at) (λ x _. test-settles (eqb x long) wrongRecordLength from (at + 1) (omega (arith, is)) (omega (arith, is))))
 
   -- The version byte: where there is none, it is refused at 0 too.
   version-settles : Settles file (version newestVersion) 0 (unlessAt (leb 1 (length file) && isVersion newestVersion (valueAt file 1 0)) wrongVersion 0) (valueAt file 1 0) 1
   unfolding version field
   version-settles =
       record {
-        is = by (leb 1 (length file)) (isVersion newestVersion (valueAt file 1 0)) refl;
+        is = by file (leb 1 (length file)) (isVersion newestVersion (valueAt file 1 0)) refl;
         inside = λ h. within (leb 1 (length file)) refl (isVersion newestVersion (valueAt file 1 0));
+        goes = omega arith;
+        same = λ other long agree.
+            rw (long, first-byte other (rw (one-byte (leb 1 (length file) && isVersion newestVersion (valueAt file 1 0))) at agree))
+            (by other (leb 1 (length file)) (isVersion newestVersion (valueAt file 1 0)) refl);
       }
     where
-      by : (long t : Bool) → isVersion newestVersion (valueAt file 1 0) ≡ t
+      one-byte : (t : Bool) → reach (unlessAt t wrongVersion 0) 1 ≡ 1
+      one-byte true = refl
+      one-byte false = refl
+
+      first-byte : (other : List ℕ) → take 1 other ≡ take 1 file → valueAt other 1 0 ≡ valueAt file 1 0
+      first-byte other agree = ap (value 0) (agree-part other file 0 1 agree)
+
+      by : (f : List ℕ) (long t : Bool) → isVersion newestVersion (valueAt file 1 0) ≡ t
           → refusedAs wrongVersion
           (onward (cond long (got (valueAt file 1 0) 1) (no (refusalAt wrongExtent 0)))
-          (λ x rest next. onward (test (isVersion newestVersion x) wrongVersion 0 rest next) (λ _ _ at. got x at) rest) file)
+          (λ x rest next. onward (test (isVersion newestVersion x) wrongVersion 0 rest next) (λ _ _ at. got x at) rest) f)
           ≡ settle (unlessAt (long && isVersion newestVersion (valueAt file 1 0)) wrongVersion 0) (valueAt file 1 0) 1
-      by false t e = refl
-      by true true e = rw e refl
-      by true false e = rw e refl
+      by f false t e = refl
+      by f true true e = rw e refl
+      by f true false e = rw e refl
 
       within : (long : Bool) → leb 1 (length file) ≡ long → (known : Bool) → InsideFile file (unlessAt (long && known) wrongVersion 0) 1
       within false e known = (omega arith, λ _. inr refl)
@@ -141,7 +215,9 @@ module _ (file : List ℕ) where
     where
       compares : (from : ℕ) → from ≡ 1 → (x : ℕ)
           → Settles file (λ f n. test (eqb (n + x) (length f)) wrongExtent from f n) 5 (unlessAt (eqb (5 + x) (length file)) wrongExtent from) tt 5
-      compares from is x = as-is (test-settles (eqb (5 + x) (length file)) wrongExtent from 5 (omega (arith, is))) refl
+      compares from is x =
+          let t = test-settles (eqb (5 + x) (length file)) wrongExtent from 5 (omega (arith, is)) (rw is (omega arith)) in
+          record { is = t .is; inside = t .inside; goes = t .goes; same = λ other long agree. rw long (t .same other long agree) }
 
   head-settles : Settles file (head true) 0 (headFaults file) (headIn file) 10
   unfolding head opening headFaults
@@ -149,8 +225,8 @@ module _ (file : List ℕ) where
       then-settles {B = Head} (then-settles version-settles (λ v _. value-settles extent-settles (λ _. v)))
       (λ v _. here-settles (λ from is. then-settles (field-settles 2 5)
       (λ n _. then-settles (field-settles 2 7)
-      (λ d _. then-settles (test-settles (ratesAllowed n d) wrongRates from 9 (omega (arith, is)))
-      (λ _ _. value-settles (checked-settles 1 (omega arith) (countAllowedIn v) wrongJobCount 9) (λ count. record { version = v; n = n; d = d; count = count }))))))
+      (λ d _. then-settles (test-settles (ratesAllowed n d) wrongRates from 9 (omega (arith, is)) (omega (arith, is)))
+      (λ _ _. value-settles (checked-settles 1 (omega arith) (countAllowedIn v) wrongJobCount 9 (omega arith)) (λ count. record { version = v; n = n; d = d; count = count }))))))
 
   job-settles : (earlier : List ℕ) (at : ℕ) → Settles file (oneJob earlier) at (jobFaultsAt file earlier at) (jobIn file at) (afterJob at)
   unfolding oneJob jobName
@@ -158,13 +234,13 @@ module _ (file : List ℕ) where
       then-settles {B = Job}
       (then-settles (length-settles jobLength at)
       (λ _ _. here-settles (λ from is. then-settles (field-settles 8 (nameFrom at))
-      (λ name _. then-settles (test-settles (nameAllowed name) wrongNameByte from (gradeFrom at) (omega (arith, is)))
-      (λ _ _. passed-settles (isAbsent earlier name) nameTaken from (gradeFrom at) (omega (arith, is)) name)))))
-      (λ name _. then-settles (checked-settles 1 (omega arith) gradeAllowed wrongGrade (gradeFrom at))
+      (λ name _. then-settles (test-settles (nameAllowed name) wrongNameByte from (gradeFrom at) (omega (arith, is)) (omega (arith, is)))
+      (λ _ _. passed-settles (isAbsent earlier name) nameTaken from (gradeFrom at) (omega (arith, is)) (omega (arith, is)) name)))))
+      (λ name _. then-settles (checked-settles 1 (omega arith) gradeAllowed wrongGrade (gradeFrom at) (omega arith))
       (λ grade _. here-settles (λ from is. then-settles (field-settles 4 (releaseFrom at))
       (λ release _. then-settles (field-settles 4 (sizeFrom at))
       (λ size _. then-settles (field-settles 4 (deadlineFrom at))
-      (λ deadline _. passed-settles (windowAllowed release deadline && sizeAllowed size) wrongJobBounds from (afterJob at) (omega (arith, is))
+      (λ deadline _. passed-settles (windowAllowed release deadline && sizeAllowed size) wrongJobBounds from (afterJob at) (omega (arith, is)) (omega (arith, is))
       (record {
         name = record { 0 = name };
         grade = grade;
@@ -181,10 +257,10 @@ module _ (file : List ℕ) where
       (λ from is. then-settles
       (then-settles (length-settles rowLength at)
       (λ _ _. here-settles (λ start here. then-settles (field-settles 8 (nameFrom at))
-      (λ name _. passed-settles (ltb (position names name) (length names)) rowWithoutJob start (intervalFrom at) (omega (arith, here)) (position names name)))))
-      (λ job _. then-settles (checked-settles 2 (omega arith) (λ j. ltb j spans) rowWithoutInterval (intervalFrom at))
-      (λ interval _. then-settles (checked-settles 4 (omega arith) (λ u. not (eqb u 0)) rowWithoutUnits (unitsFrom at))
-      (λ units _. passed-settles (leb low (place mostIntervals job interval)) rowOutOfOrder from (afterRow at) (omega (arith, is))
+      (λ name _. passed-settles (ltb (position names name) (length names)) rowWithoutJob start (intervalFrom at) (omega (arith, here)) (omega (arith, here)) (position names name)))))
+      (λ job _. then-settles (checked-settles 2 (omega arith) (λ j. ltb j spans) rowWithoutInterval (intervalFrom at) (omega arith))
+      (λ interval _. then-settles (checked-settles 4 (omega arith) (λ u. not (eqb u 0)) rowWithoutUnits (unitsFrom at) (omega arith))
+      (λ units _. passed-settles (leb low (place mostIntervals job interval)) rowOutOfOrder from (afterRow at) (omega (arith, is)) (omega (arith, is))
       (record { at = place mostIntervals job interval; units = units })))))
 
   ended-settles : (at : ℕ) → Settles file ended at (unlessAt (eqb at (length file)) wrongExtent at) tt at
@@ -192,8 +268,18 @@ module _ (file : List ℕ) where
   ended-settles at = by (eqb at (length file)) refl
     where
       by : (t : Bool) → eqb at (length file) ≡ t → Settles file (λ f n. test (eqb n (length f)) wrongExtent n f n) at (unlessAt t wrongExtent at) tt at
-      by true e = record { is = rw e refl; inside = λ h. h }
-      by false e = record { is = rw e refl; inside = λ h. (h, λ s. absurd (eqb-false at (length file) e s)) }
+      by true e = record { is = rw e refl; inside = λ h. h; goes = omega arith; same = λ other long agree. rw (long, e) refl }
+      by false e =
+          record {
+            is = rw e refl;
+            inside = λ h. (h, λ s. absurd (eqb-false at (length file) e s));
+            goes = at-place (eqb at 1) refl;
+            same = λ other long agree. rw (long, e) refl;
+          }
+        where
+          at-place : (t : Bool) → eqb at 1 ≡ t → at ≤ cond t 5 at
+          at-place true e = omega (arith, eqb-true at 1 e)
+          at-place false e = omega arith
 
 -- The first of several reports is that of the first, or else the first of the others.
 or-done : (F : Report) → orElse F [] ≡ F
@@ -220,7 +306,7 @@ module _ (file : List ℕ) where
       → Settles file (allJobs n (jobsIn file i)) (jobFrom i) (first (λ k. jobFaults file (i + k)) n) (jobsIn file (i + n)) (jobFrom (i + n))
   unfolding allJobs first jobsIn jobFrom
   jobs-settle zero i =
-      settles-as (record { is = refl; inside = λ h. h }) refl (ap (jobsIn file) (sym (add-zero i))) (ap jobFrom (sym (add-zero i)))
+      settles-as (record { is = refl; inside = λ h. h; goes = omega arith; same = λ other long agree. refl }) refl (ap (jobsIn file) (sym (add-zero i))) (ap jobFrom (sym (add-zero i)))
   jobs-settle (suc n) i =
       settles-as
       (then-settles (job-settles file (namesOf (jobsIn file i)) (jobFrom i)) (λ job is. next (jobs-settle n (suc i)) job is))
@@ -237,7 +323,7 @@ module _ (file : List ℕ) where
         (first (λ m. rowFaults file names spans start (k + m)) n) (tableIn file names start (k + n)) (rowFrom start (k + n))
     unfolding allRows first tableIn rowFrom
     rows-settle zero k =
-        settles-as (record { is = refl; inside = λ h. h }) refl (ap (tableIn file names start) (sym (add-zero k))) (ap (rowFrom start) (sym (add-zero k)))
+        settles-as (record { is = refl; inside = λ h. h; goes = omega arith; same = λ other long agree. refl }) refl (ap (tableIn file names start) (sym (add-zero k))) (ap (rowFrom start) (sym (add-zero k)))
     rows-settle (suc n) k =
         settles-as
         (then-settles (row-settles file names spans (lowestAt file names start k) (rowFrom start k)) (λ row is. next (rows-settle n (suc k)) row is))
@@ -274,7 +360,7 @@ module _ (file : List ℕ) where
       then-settles {B = Contents}
       (then-settles {B = Preamble} (head-settles file)
       (λ h _. then-settles (all-jobs (h .count))
-      (λ jobs _. value-settles (checked-settles file 2 (omega arith) (rowsAllowedIn (h .version)) tooManyRows (jobFrom (h .count)))
+      (λ jobs _. value-settles (checked-settles file 2 (omega arith) (rowsAllowedIn (h .version)) tooManyRows (jobFrom (h .count)) (omega arith))
       (λ rows. record { plan = planFrom h jobs; names = namesOf jobs; rows = rows }))))
       (λ f _. then-settles (all-rows (f .names) (intervals (f .plan)) (rowsFrom file) (f .rows))
       (λ table _. value-settles (ended-settles file (rowFrom (rowsFrom file) (f .rows))) (λ _. record { plan = f .plan; table = table })))
@@ -309,3 +395,14 @@ pub reads-the-layout : (file table : List ℕ) → places ≤ length table → f
 reads-the-layout file table long none =
     let is = by-layout file table long ∙ ap (λ F. leaves (settle F (contentsIn file) (endOf file)) table) none in
     (ap (λ (e : ReadEffect). e .plan) is, ap (λ (e : ReadEffect). e .table) is)
+
+-- The bytes after the last field that was read do not matter: another file of the same length that agrees up
+-- to there is refused alike.
+pub later-bytes-do-not-matter : (file other table : List ℕ) → places ≤ length table → length other ≡ length file → {number offset : ℕ}
+    → reader file table .answer ≡ number ∷ offset ∷ [] → take (lastRead number offset) other ≡ take (lastRead number offset) file
+    → reader other table .answer ≡ number ∷ offset ∷ []
+later-bytes-do-not-matter file other table long length-is {number} {offset} e agree =
+    let is : fileFault file ≡ number ∷ offset ∷ [] = sym (reader-exactly file table long) ∙ e in
+    let there : readFile other ≡ settle (fileFault file) (contentsIn file) (endOf file)
+    = file-settles file .same other length-is (rw is agree) in
+    ap (λ (x : ReadEffect). x .answer) (sym (reader-long other table long) ∙ ap (λ s. leaves s table) (there ∙ ap (λ F. settle F (contentsIn file) (endOf file)) is))

@@ -3,11 +3,12 @@
 -- answers the first of them, with its number and offset.)
 use mathlib.Core.Path.{_≡_}
 use mathlib.Core.Logic.{_⊎_}
-use mathlib.Core.Bool.{Bool, not, _&&_}
+use mathlib.Core.Bool.{Bool, not, cond, _&&_, _||_}
 use mathlib.Core.List.{List, [], _∷_, _++_}
 use Prim.Native.Nat.{ℕ, zero, suc, _+_, _≤_, _<_}
 use lib.Dec.{leb, ltb, eqb}
 use lib.ListN.{length, take, drop, set, replicate}
+use Rattle.base.specs.Sum.{on}
 use Rattle.plan.specs.Kinds.{Bytes, Number, Offset, Position, Table}
 use Rattle.plan.specs.Edition.{mostIntervals, nameBytes, places}
 use Rattle.plan.specs.Versions.{newestVersion, countAllowedIn, rowsAllowedIn}
@@ -211,6 +212,17 @@ InsideFile file [] next = next ≤ length file
 InsideFile file (number ∷ []) next = ⊥
 InsideFile file (number ∷ offset ∷ []) next = (offset ≤ length file) × (offset ≡ length file → (number ≡ wrongExtent) ⊎ (number ≡ wrongVersion))
 InsideFile file (number ∷ offset ∷ more ∷ rest) next = ⊥
+
+-- Where the last field ends that is read before a refusal: for 2 the field in hand is not read, except the
+-- length field; for the others it is read, and for 4, 9 and 14 the fields after it that are tested with it.
+abbrev pub lastRead : (number : Number) (offset : Offset) → Offset
+lastRead number offset =
+    cond (eqb number wrongExtent) (cond (eqb offset 1) 5 offset)
+    (offset
+    + (on (eqb number wrongVersion) 1 + on (eqb number wrongRecordLength) 1 + on (eqb number wrongRates) 4 + on (eqb number wrongJobCount) 1
+    + on (eqb number wrongNameByte || eqb number nameTaken) nameBytes + on (eqb number wrongGrade) 1 + on (eqb number wrongJobBounds) 12
+    + on (eqb number tooManyRows) rowCountBytes + on (eqb number rowWithoutJob) nameBytes + on (eqb number rowWithoutInterval) 2
+    + on (eqb number rowWithoutUnits) 4 + on (eqb number rowOutOfOrder) (1 + rowLength)))
 
 -- The numbers and offsets that faults of the fields before the jobs have. Here and below every number but 2
 -- tells the field, and 3 is a length byte's; 2 is a field that is cut, or the length field.
