@@ -20,6 +20,7 @@ use Rattle.plan.specs.declared.kinds.Plan.{Plan}
 use Rattle.base.proofs.Below.{every-ext, every-all}
 use Rattle.fields.specs.Parsers.{got}
 use Rattle.planfields.specs.Records.{oneJob}
+use Rattle.plan.proofs.VersionLimits.{count-in-hand}
 use Rattle.planfile.specs.Reader.{namesOf, allJobs, planFrom, Contents, readFile}
 use Rattle.planwriter.specs.Writing.{written}
 use Rattle.fields.proofs.ByteLaws.{Octets}
@@ -86,7 +87,7 @@ module _ (file : List ℕ) (octets : Octets file) {held : Contents} (r : FileRea
   rules-read =
       rw (
         r .headed .rates,
-        r .headed .some,
+        count-in-hand (r .h .version) (r .h .count) (r .headed .some),
         every-all (λ i. nameAllowed (name p i)) (counted p) (λ k h. each k h .allowed),
         every-all (λ i. every (λ k. not (sameName (name p k) (name p i))) i) (counted p) (λ k h. differ k h),
         every-all (λ i. gradeAllowed (jobOf p i .grade)) (counted p) (λ k h. each k h .graded),
