@@ -10,10 +10,11 @@ use crate::run::{outcome, start, step, Outcome, Run};
 pub fn runplan(input: &[u8]) -> Vec<u8> {
     let (file, speeds) = input.split_at(file_length(input));
     let mut table = vec![0; TABLE_PLACES];
-    let (answer, plan) = reader(file, &mut table);
-    if answer != DONE {
-        return refused(answer);
+    let answer = reader(file, &mut table);
+    if answer.number != DONE {
+        return refused(answer.number);
     }
+    let plan = answer.plan;
     let mut run = match start(&plan, &table) {
         Ok(run) => run,
         Err(refusal) => return refused(refusal.number),

@@ -1,4 +1,5 @@
-//! The reader of plan files: it takes the fields as they come and answers with the first that is wrong.
+//! The reader of plan files: it takes the fields as they come and answers with the first that is wrong
+//! and where it stands.
 
 use crate::edition::{
     HEAD_BYTES, JOB_LENGTH, MOST_ROWS, NAME_BYTES, ROW_LENGTH, TABLE_PLACES, VERSION,
@@ -8,6 +9,29 @@ use crate::plan::{
     times_and_size_hold, Job, Plan,
 };
 use crate::refusal;
+
+/// What the reader hands back.
+#[derive(Clone, Debug, PartialEq, Eq)]
+pub struct Answer {
+    /// 0 or the refusal number.
+    pub number: u8,
+    /// Where the field begins that a refusal 1 to 14 is told of. No other answer has one.
+    pub offset: Option<usize>,
+    /// All zeros with a refusal.
+    pub plan: Plan,
+}
+
+/// The first fault of a file: its number, and where the field begins that it is told of.
+/// For bytes after the last row this is the first of them.
+#[derive(Clone, Copy, Debug, PartialEq, Eq)]
+pub struct Fault {
+    pub number: u8,
+    pub offset: usize,
+}
+
+fn fault<T>(number: u8, offset: usize) -> Result<T, Fault> {
+    Err(Fault { number, offset })
+}
 
 /// A file with the place of its next unread byte.
 struct Bytes<'a> {
@@ -20,10 +44,10 @@ impl<'a> Bytes<'a> {
         self.file.len() - self.next
     }
 
-    /// The next field of so many bytes, or the refusal of a field cut short.
-    fn field(&mut self, length: usize) -> Result<&'a [u8], u8> {
+    /// The next field of so many bytes, or the fault of a field cut short, which would begin here.
+    fn field(&mut self, length: usize) -> Result<&'a [u8], Fault> {
         if self.left() < length {
-            return Err(refusal::CUT_OR_LENGTH);
+            return fault(refusal::CUT_OR_LENGTH, self.next);
         }
         let field = &self.file[self.next..self.next + length];
         self.next += length;
@@ -31,26 +55,26 @@ impl<'a> Bytes<'a> {
     }
 
     /// The next field of so many bytes as a number, highest byte first.
-    fn number(&mut self, length: usize) -> Result<u64, u8> {
+    fn number(&mut self, length: usize) -> Result<u64, Fault> {
         let field = self.field(length)?;
         Ok(field
             .iter()
             .fold(0, |number, &byte| number * 256 + u64::from(byte)))
     }
 
-    fn byte(&mut self) -> Result<u8, u8> {
+    fn byte(&mut self) -> Result<u8, Fault> {
         Ok(self.number(1)? as u8)
     }
 
-    fn rate(&mut self) -> Result<u16, u8> {
+    fn rate(&mut self) -> Result<u16, Fault> {
         Ok(self.number(2)? as u16)
     }
 
-    fn time(&mut self) -> Result<u32, u8> {
+    fn time(&mut self) -> Result<u32, Fault> {
         Ok(self.number(4)? as u32)
     }
 
-    fn name(&mut self) -> Result<[u8; NAME_BYTES], u8> {
+    fn name(&mut self) -> Result<[u8; NAME_BYTES], Fault> {
         let mut name = [0; NAME_BYTES];
         name.copy_from_slice(self.field(NAME_BYTES)?);
         Ok(name)
@@ -72,10 +96,14 @@ pub struct Contents {
     rows: Vec<Row>,
 }
 
-/// Reads a file into a plan and the lent table; the answer is 0 or the refusal number.
-pub fn reader(file: &[u8], table: &mut [u32]) -> (u8, Plan) {
+/// Reads a file into a plan and the lent table.
+pub fn reader(file: &[u8], table: &mut [u32]) -> Answer {
     if table.len() < TABLE_PLACES {
-        return (refusal::TOO_SHORT, Plan::zeros());
+        return Answer {
+            number: refusal::TOO_SHORT,
+            offset: None,
+            plan: Plan::zeros(),
+        };
     }
     for place in table[..TABLE_PLACES].iter_mut() {
         *place = 0;
@@ -85,14 +113,22 @@ pub fn reader(file: &[u8], table: &mut [u32]) -> (u8, Plan) {
             for row in &contents.rows {
                 table[place_of(row.job, row.interval)] = row.units;
             }
-            (refusal::DONE, contents.plan)
+            Answer {
+                number: refusal::DONE,
+                offset: None,
+                plan: contents.plan,
+            }
         }
-        Err(number) => (number, Plan::zeros()),
+        Err(fault) => Answer {
+            number: fault.number,
+            offset: Some(fault.offset),
+            plan: Plan::zeros(),
+        },
     }
 }
 
-/// The contents of a file, or the number of its first fault. Touches no table.
-pub fn contents(file: &[u8]) -> Result<Contents, u8> {
+/// The contents of a file, or its first fault. Touches no table.
+pub fn contents(file: &[u8]) -> Result<Contents, Fault> {
     let mut bytes = Bytes { file, next: 0 };
     let mut plan = Plan::zeros();
     read_head(&mut bytes)?;
@@ -101,7 +137,7 @@ pub fn contents(file: &[u8]) -> Result<Contents, u8> {
     let names_at = read_jobs(&mut bytes, &mut plan)?;
     let rows = read_rows(&mut bytes, plan.counted())?;
     if bytes.left() > 0 {
-        return Err(refusal::CUT_OR_LENGTH);
+        return fault(refusal::CUT_OR_LENGTH, bytes.next);
     }
     Ok(Contents {
         plan,
@@ -110,38 +146,41 @@ pub fn contents(file: &[u8]) -> Result<Contents, u8> {
     })
 }
 
-fn read_head(bytes: &mut Bytes) -> Result<(), u8> {
+fn read_head(bytes: &mut Bytes) -> Result<(), Fault> {
     // A missing version byte has a number of its own, unlike every other missing field.
     if bytes.file.first() != Some(&VERSION) {
-        return Err(refusal::VERSION);
+        return fault(refusal::VERSION, 0);
     }
     bytes.next = 1;
+    let length_at = bytes.next;
     let length = bytes.number(HEAD_BYTES - 1)?;
     if length != bytes.left() as u64 {
-        return Err(refusal::CUT_OR_LENGTH);
+        return fault(refusal::CUT_OR_LENGTH, length_at);
     }
     Ok(())
 }
 
-fn read_rates(bytes: &mut Bytes, plan: &mut Plan) -> Result<(), u8> {
+fn read_rates(bytes: &mut Bytes, plan: &mut Plan) -> Result<(), Fault> {
+    let n_at = bytes.next;
     plan.n = bytes.rate()?;
     plan.d = bytes.rate()?;
     if !rates_hold(plan.n, plan.d) {
-        return Err(refusal::RATES);
+        return fault(refusal::RATES, n_at);
     }
     Ok(())
 }
 
-fn read_job_count(bytes: &mut Bytes, plan: &mut Plan) -> Result<(), u8> {
+fn read_job_count(bytes: &mut Bytes, plan: &mut Plan) -> Result<(), Fault> {
+    let count_at = bytes.next;
     plan.count = bytes.number(1)?;
     if !count_holds(plan.count) {
-        return Err(refusal::JOB_COUNT);
+        return fault(refusal::JOB_COUNT, count_at);
     }
     Ok(())
 }
 
 /// Reads all jobs; hands back where their names begin.
-fn read_jobs(bytes: &mut Bytes, plan: &mut Plan) -> Result<Vec<usize>, u8> {
+fn read_jobs(bytes: &mut Bytes, plan: &mut Plan) -> Result<Vec<usize>, Fault> {
     let mut names_at = Vec::new();
     for position in 0..plan.counted().len() {
         // The name follows the job's length byte.
@@ -151,43 +190,55 @@ fn read_jobs(bytes: &mut Bytes, plan: &mut Plan) -> Result<Vec<usize>, u8> {
     Ok(names_at)
 }
 
-fn read_job(bytes: &mut Bytes, earlier: &[Job]) -> Result<Job, u8> {
+fn read_job(bytes: &mut Bytes, earlier: &[Job]) -> Result<Job, Fault> {
     let mut job = Job::zeros();
-    if bytes.byte()? != JOB_LENGTH {
-        return Err(refusal::LENGTH_BYTE);
-    }
+    read_length_byte(bytes, JOB_LENGTH)?;
+    let name_at = bytes.next;
     job.name = bytes.name()?;
     if !name_bytes_hold(&job.name) {
-        return Err(refusal::NAME_BYTE);
+        return fault(refusal::NAME_BYTE, name_at);
     }
     if !name_is_new(&job.name, earlier) {
-        return Err(refusal::NAME_TWICE);
+        return fault(refusal::NAME_TWICE, name_at);
     }
+    let grade_at = bytes.next;
     job.grade = bytes.byte()?;
     if !grade_holds(job.grade) {
-        return Err(refusal::GRADE);
+        return fault(refusal::GRADE, grade_at);
     }
+    let release_at = bytes.next;
     job.release = bytes.time()?;
     job.size = bytes.number(4)?;
     job.deadline = bytes.time()?;
     if !times_and_size_hold(&job) {
-        return Err(refusal::TIMES_OR_SIZE);
+        return fault(refusal::TIMES_OR_SIZE, release_at);
     }
     Ok(job)
 }
 
-fn read_rows(bytes: &mut Bytes, jobs: &[Job]) -> Result<Vec<Row>, u8> {
+/// Reads the length byte of a job or a row, which has only one right value.
+fn read_length_byte(bytes: &mut Bytes, right: u8) -> Result<(), Fault> {
+    let at = bytes.next;
+    if bytes.byte()? != right {
+        return fault(refusal::LENGTH_BYTE, at);
+    }
+    Ok(())
+}
+
+fn read_rows(bytes: &mut Bytes, jobs: &[Job]) -> Result<Vec<Row>, Fault> {
+    let count_at = bytes.next;
     let count = bytes.number(2)?;
     if count > MOST_ROWS {
-        return Err(refusal::ROW_COUNT);
+        return fault(refusal::ROW_COUNT, count_at);
     }
     let intervals = intervals(jobs).len();
     let mut rows: Vec<Row> = Vec::new();
     for _ in 0..count {
+        let row_at = bytes.next;
         let row = read_row(bytes, jobs, intervals)?;
         if let Some(before) = rows.last() {
             if (row.job, row.interval) <= (before.job, before.interval) {
-                return Err(refusal::ROW_ORDER);
+                return fault(refusal::ROW_ORDER, row_at);
             }
         }
         rows.push(row);
@@ -196,22 +247,23 @@ fn read_rows(bytes: &mut Bytes, jobs: &[Job]) -> Result<Vec<Row>, u8> {
 }
 
 /// Reads one row; its order among the others is not looked at here.
-fn read_row(bytes: &mut Bytes, jobs: &[Job], intervals: usize) -> Result<Row, u8> {
-    if bytes.byte()? != ROW_LENGTH {
-        return Err(refusal::LENGTH_BYTE);
-    }
+fn read_row(bytes: &mut Bytes, jobs: &[Job], intervals: usize) -> Result<Row, Fault> {
+    read_length_byte(bytes, ROW_LENGTH)?;
+    let name_at = bytes.next;
     let name = bytes.name()?;
     let job = match jobs.iter().position(|job| job.name == name) {
         Some(position) => position,
-        None => return Err(refusal::NO_SUCH_JOB),
+        None => return fault(refusal::NO_SUCH_JOB, name_at),
     };
+    let interval_at = bytes.next;
     let interval = bytes.number(2)? as usize;
     if interval >= intervals {
-        return Err(refusal::NO_SUCH_INTERVAL);
+        return fault(refusal::NO_SUCH_INTERVAL, interval_at);
     }
+    let units_at = bytes.next;
     let units = bytes.number(4)? as u32;
     if units == 0 {
-        return Err(refusal::NO_UNITS);
+        return fault(refusal::NO_UNITS, units_at);
     }
     Ok(Row {
         job,

@@ -53,9 +53,9 @@ pub fn sealed(file: Vec<u8>) -> Vec<u8> {
     replaced(file, 1, &length.to_be_bytes())
 }
 
-/// The reader's answer, table and plan apart.
+/// The number that the reader answers, table and plan apart.
 pub fn answer(file: &[u8]) -> u8 {
-    reader(file, &mut table()).0
+    reader(file, &mut table()).number
 }
 
 /// A table of zeros, exactly as long as needed.

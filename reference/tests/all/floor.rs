@@ -17,9 +17,9 @@ fn plans() -> Vec<(Plan, Vec<u32>)> {
     let drawn = (0..DRAWN).map(|number| file(SEED, number));
     for input in fixed_files().into_iter().chain(drawn) {
         let mut table = vec![0; 2_016];
-        let (answer, plan) = reader(&input.file, &mut table);
-        if answer == DONE {
-            plans.push((plan, table));
+        let answer = reader(&input.file, &mut table);
+        if answer.number == DONE {
+            plans.push((answer.plan, table));
         }
     }
     let drawn = (0..DRAWN).map(|number| hand(SEED, number));

@@ -23,8 +23,8 @@ fn files() -> Vec<FileInput> {
 /// The plan and table of a file that the reader takes.
 fn read(file: &[u8]) -> Option<(Plan, Vec<u32>)> {
     let mut table = vec![0; TABLE_PLACES];
-    let (answer, plan) = reader(file, &mut table);
-    (answer == DONE).then_some((plan, table))
+    let answer = reader(file, &mut table);
+    (answer.number == DONE).then_some((answer.plan, table))
 }
 
 fn read_plans() -> Vec<(Plan, Vec<u32>)> {

@@ -68,14 +68,14 @@ fn largest_file() -> Vec<u8> {
 #[test]
 fn plan_e_is_read_into_records_and_table() {
     let mut table = vec![7; 2_016];
-    let (answer, plan) = reader(&e_file(), &mut table);
-    assert_eq!((answer, plan), (DONE, e_plan()));
+    let answer = reader(&e_file(), &mut table);
+    assert_eq!((answer.number, answer.plan), (DONE, e_plan()));
     assert_eq!(table, e_table());
 }
 
 #[test]
 fn records_from_the_count_on_are_zero() {
-    let (_, plan) = reader(&e_file(), &mut table());
+    let plan = reader(&e_file(), &mut table()).plan;
     assert!(plan.jobs[2..].iter().all(|job| *job == Job::zeros()));
 }
 
@@ -91,8 +91,8 @@ fn places_beyond_the_table_stay() {
 #[test]
 fn refusal_leaves_zeros_in_table_and_plan() {
     let mut table = vec![7; 2_016];
-    let (answer, plan) = reader(&e_with(ROW_3 + 11, &[0, 0, 0, 0]), &mut table);
-    assert_eq!((answer, plan), (NO_UNITS, Plan::zeros()));
+    let answer = reader(&e_with(ROW_3 + 11, &[0, 0, 0, 0]), &mut table);
+    assert_eq!((answer.number, answer.plan), (NO_UNITS, Plan::zeros()));
     assert!(table.iter().all(|&units| units == 0));
 }
 
@@ -100,7 +100,8 @@ fn refusal_leaves_zeros_in_table_and_plan() {
 fn short_table_is_refused_before_all_else_and_stays() {
     for file in [e_file(), Vec::new()] {
         let mut table = vec![7; 2_015];
-        assert_eq!(reader(&file, &mut table), (TOO_SHORT, Plan::zeros()));
+        let answer = reader(&file, &mut table);
+        assert_eq!((answer.number, answer.plan), (TOO_SHORT, Plan::zeros()));
         assert!(table.iter().all(|&units| units == 7));
     }
 }
@@ -306,10 +307,10 @@ fn faults_of_one_row_come_in_the_order_of_its_fields() {
 #[test]
 fn row_outside_its_window_is_read() {
     let mut table = table();
-    let (answer, _) = reader(&e_with(ROW_0 + 9, &[0, 0]), &mut table);
-    assert_eq!(answer, DONE);
-    let (answer, _) = reader(&e_with(ROW_1 + 9, &[0, 2]), &mut table);
-    assert_eq!((answer, table[2]), (DONE, 4));
+    let answer = reader(&e_with(ROW_0 + 9, &[0, 0]), &mut table);
+    assert_eq!(answer.number, DONE);
+    let answer = reader(&e_with(ROW_1 + 9, &[0, 2]), &mut table);
+    assert_eq!((answer.number, table[2]), (DONE, 4));
 }
 
 #[test]
@@ -327,7 +328,7 @@ fn largest_file_is_read() {
     let file = largest_file();
     let mut table = table();
     assert_eq!(file.len(), 30_956);
-    assert_eq!(reader(&file, &mut table).0, DONE);
+    assert_eq!(reader(&file, &mut table).number, DONE);
     assert!(table.iter().all(|&units| units == 1));
 }
 

@@ -111,8 +111,8 @@ fn written_file_reads_back_as_the_same_plan() {
     let table = table_of(&[&[2, 3, u32::MAX], &[7, 0, 4]]);
     let (answer, output) = written(&e_plan(), &table, 300);
     let mut read = vec![9; 2_016];
-    let (number, plan) = reader(&output[..answer.unwrap()], &mut read);
-    assert_eq!((number, plan, read), (DONE, e_plan(), table));
+    let back = reader(&output[..answer.unwrap()], &mut read);
+    assert_eq!((back.number, back.plan, read), (DONE, e_plan(), table));
 }
 
 #[test]
