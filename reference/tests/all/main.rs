@@ -8,6 +8,7 @@ mod generated;
 mod judge;
 mod lookup;
 mod outcome;
+mod places;
 mod program;
 mod reader;
 mod slack;
