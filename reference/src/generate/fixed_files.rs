@@ -8,6 +8,7 @@ use super::draft::{
     AMPLE, ANY, DEADLINE_IN, EVERYWHERE, GRADE_IN, INTERVAL_IN, JOB_COUNT_AT, LENGTH_AT, NAME_IN,
     RATES_AT, RELEASE_IN, SIZE_IN, UNITS_IN,
 };
+use super::fixed_places::fixed_places;
 use super::input::{FileInput, Lent};
 use super::prng::{Prng, Purpose};
 use crate::edition::{
@@ -37,6 +38,7 @@ pub fn fixed_files() -> Vec<FileInput> {
         widest_files(),
         short_buffers(),
         damages(),
+        wrong_places(),
     ];
     parts.concat()
 }
@@ -350,7 +352,7 @@ fn every_width() -> Vec<FileInput> {
 }
 
 /// The plan with the most jobs and intervals, one unit in every place.
-fn full_draft() -> Draft {
+pub fn full_draft() -> Draft {
     let jobs: Vec<Job> = widest_windows()
         .iter()
         .enumerate()
@@ -445,4 +447,10 @@ fn damages() -> Vec<FileInput> {
         }
     }
     inputs
+}
+
+/// Faults at many places.
+fn wrong_places() -> Vec<FileInput> {
+    let of_place = |file| of_file(file, &[2]);
+    fixed_places().into_iter().map(of_place).collect()
 }

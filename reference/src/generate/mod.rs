@@ -4,8 +4,10 @@ mod accepted;
 mod bad_inputs;
 mod damaged;
 mod draft;
+mod fields;
 mod fixed_files;
 mod fixed_hands;
+mod fixed_places;
 mod hand;
 mod input;
 mod nights;
@@ -109,15 +111,20 @@ fn refused_file(prng: &mut Prng, limits: &Limits) -> FileInput {
     run_of(prng, limits, &draft)
 }
 
-/// A file with one fault or two of the reader's numbers.
+/// A file with one fault or two of the reader's numbers, or one that ends in a field.
 fn damaged_file(prng: &mut Prng, limits: &Limits) -> Vec<u8> {
     let number = |prng: &mut Prng| prng.between(u64::from(VERSION), u64::from(ROW_ORDER)) as u8;
-    if prng.once_in(3) {
-        let numbers = (number(prng), number(prng));
-        let places = (prng.pick(&EVERYWHERE), prng.pick(&EVERYWHERE));
-        return damaged::damaged_twice(prng, limits, numbers, places);
-    }
-    let number = number(prng);
     let place = prng.pick(&EVERYWHERE);
-    damaged::damaged(prng, limits, number, place)
+    match prng.below(6) {
+        0 => damaged::cut_in_field(prng, limits, place),
+        1 | 2 => {
+            let numbers = (number(prng), number(prng));
+            let places = (place, prng.pick(&EVERYWHERE));
+            damaged::damaged_twice(prng, limits, numbers, places)
+        }
+        _ => {
+            let number = number(prng);
+            damaged::damaged(prng, limits, number, place)
+        }
+    }
 }
