@@ -5,6 +5,7 @@ mod cases;
 mod common;
 mod floor;
 mod generated;
+mod generated_places;
 mod judge;
 mod lookup;
 mod outcome;
