@@ -1,5 +1,5 @@
-/* What gateway.h says at the edges: buffers of length 0 that are NULL, speeds above 16 bits, answers in words. It prints each sentence that
- * does not hold; the exit status is then 1. */
+/* What gateway.h says at the edges: buffers of length 0 that are NULL, offsets of files that end early, speeds above 16 bits, answers in
+ * words. It prints each sentence that does not hold; the exit status is then 1. */
 #include <stdio.h>
 
 #include "gateway.h"
@@ -41,10 +41,35 @@ static void make_plan(void)
 
 static void reading_of_nothing(void)
 {
-    too_short(gateway_read(NULL, 0, NULL, 0, table, GATEWAY_TABLE_PLACES), "read: no plan");
-    too_short(gateway_read(NULL, 0, plan, GATEWAY_PLAN_WORDS, NULL, 0), "read: no table");
-    expect(gateway_read(NULL, 0, plan, GATEWAY_PLAN_WORDS, table, GATEWAY_TABLE_PLACES) == GATEWAY_WRONG_VERSION, "read: an empty file is refused by 1");
+    size_t offset = 1;
+    too_short(gateway_read(NULL, 0, NULL, 0, table, GATEWAY_TABLE_PLACES, &offset), "read: no plan");
+    expect(offset == 1, "read: too few words for a plan leave the offset");
+    too_short(gateway_read(NULL, 0, plan, GATEWAY_PLAN_WORDS, NULL, 0, &offset), "read: no table");
+    expect(offset == 0, "read: a table that is too short has no offset");
+    offset = 1;
+    expect(gateway_read(NULL, 0, plan, GATEWAY_PLAN_WORDS, table, GATEWAY_TABLE_PLACES, &offset) == GATEWAY_WRONG_VERSION, "read: an empty file is refused by 1");
+    expect(offset == 0, "read: an empty file is wrong at its beginning");
     expect(gateway_name(NULL, 0, 0) == 0, "name: an empty file shows none");
+}
+
+/* A version byte alone, and a file whose version and length are right and all else is missing: the field that is not there begins at the end. */
+static void reading_of_cut_files(void)
+{
+    static const uint8_t cut[] = { 1, 0, 0, 0, 0 };
+    size_t offset = 0;
+    expect(gateway_read(cut, 1, plan, GATEWAY_PLAN_WORDS, table, GATEWAY_TABLE_PLACES, &offset) == GATEWAY_WRONG_EXTENT, "read: a version alone is refused by 2");
+    expect(offset == 1, "read: a version alone is wrong at its length");
+    expect(gateway_read(cut, sizeof cut, plan, GATEWAY_PLAN_WORDS, table, GATEWAY_TABLE_PLACES, &offset) == GATEWAY_WRONG_EXTENT, "read: no rates are refused by 2");
+    expect(offset == sizeof cut, "read: rates that are missing would begin at the end");
+}
+
+/* The file of the plan is read: nothing is wrong in it. */
+static void reading_of_a_file(void)
+{
+    size_t offset = 1, written = 0;
+    expect(gateway_write(plan, GATEWAY_PLAN_WORDS, table, GATEWAY_TABLE_PLACES, out, GATEWAY_LARGEST_FILE, &written) == GATEWAY_DONE, "write: the plan has a file");
+    expect(gateway_read(out, written, plan, GATEWAY_PLAN_WORDS, table, GATEWAY_TABLE_PLACES, &offset) == GATEWAY_DONE, "read: the file is read");
+    expect(offset == 0, "read: a file that is read has no offset");
 }
 
 static void writing_of_nothing(void)
@@ -94,7 +119,9 @@ static void speeds_and_words(void)
 int main(void)
 {
     reading_of_nothing();
+    reading_of_cut_files();
     make_plan();
+    reading_of_a_file();
     expect(gateway_start(plan, GATEWAY_PLAN_WORDS, table, GATEWAY_TABLE_PLACES, run, GATEWAY_RUN_WORDS, location, GATEWAY_LOCATION_WORDS) == GATEWAY_DONE,
         "start: the plan is accepted");
     writing_of_nothing();

@@ -8,7 +8,7 @@
  * number's pointer is valid. A call keeps no pointer and has no state of its own, so calls on different memory may run at the same time.
  *
  * A buffer of length 0 may be NULL: nothing is read or written through it. An empty file is refused by 1, and any other empty buffer is too
- * short (22; gateway_name answers 0). A single number's pointer (written, slack) is never NULL.
+ * short (22; gateway_name answers 0). A single number's pointer (offset, written, slack) is never NULL.
  *
  * A name that begins GATEWAY_INDEX_ is an index into a buffer and never the value there: run[GATEWAY_INDEX_CLOCK] is the clock. */
 #ifndef GATEWAY_H
@@ -98,10 +98,17 @@ enum gateway_result {
 };
 
 /* Reads a plan file.
- * In: the file's bytes. Out: plan and table. Answers 0 or 1 to 14 or 22.
- * 22 (plan under GATEWAY_PLAN_WORDS): nothing is touched. 22 (table under GATEWAY_TABLE_PLACES): the plan's words are all 0, the table stays.
- * 1 to 14: the plan's words and the table's places are all 0. Words and places beyond are not touched, ever. */
-uint32_t gateway_read(const uint8_t *file, size_t file_length, uint64_t *plan, size_t plan_length, uint32_t *table, size_t table_length);
+ * In: the file's bytes. Out: plan and table, and *offset, which says where a refused file is wrong. Answers 0 or 1 to 14 or 22.
+ * 0: *offset is 0.
+ * 1 to 14: the plan's words and the table's places are all 0. *offset is where the field in hand begins, counted from the file's first byte:
+ *   1 the version, so 0; 2 the field that is cut (the file's length if none of it is there), or 1 for a length field that is wrong, or the
+ *   first byte after the last row; 3 the length byte of the job or row; 4 the normal rate, so 5; 5 the job count, so 9; 6 and 7 the job's
+ *   name; 8 its grade; 9 its release, be it release, size or deadline that is wrong; 10 the row count; 11 the row's name; 12 its interval;
+ *   13 its units; 14 the row's length byte. It is never more than file_length.
+ * 22 (plan under GATEWAY_PLAN_WORDS): nothing is touched, *offset neither.
+ * 22 (table under GATEWAY_TABLE_PLACES): the plan's words are all 0, *offset is 0, the table stays.
+ * Words and places beyond are not touched, ever. */
+uint32_t gateway_read(const uint8_t *file, size_t file_length, uint64_t *plan, size_t plan_length, uint32_t *table, size_t table_length, size_t *offset);
 
 /* Writes the plan file of a sound plan, accepted or not.
  * In: plan and table. Out: the file's bytes in out, and their number in *written. Answers 0, 21 or 22.

@@ -1,4 +1,5 @@
-/* A small host in C: reads a plan file and then speeds from standard input, runs the plan slot by slot, and prints what runplan prints.
+/* A small host in C: reads a plan file and then speeds from standard input, runs the plan slot by slot, and prints what runplan prints. Where
+ * a refused file is wrong it says on standard error.
  * With --check it reads a plan file alone, and says what the plan asks, whether it is accepted, how much slack it has, whether it is written
  * again as the same file, and how each transfer of an accepted plan ends at the floor. Then the exit status is 0 for an accepted plan and 1
  * for any other. With --refusals it prints what each refusal says. */
@@ -16,6 +17,7 @@ static uint32_t table[GATEWAY_TABLE_PLACES];
 static uint32_t run[GATEWAY_RUN_WORDS];
 static uint32_t grants[GATEWAY_MOST_JOBS];
 static uint64_t location[GATEWAY_LOCATION_WORDS];
+static size_t offset;
 
 /* The file ends where its length field says, or at the largest file's length if that is earlier. */
 static size_t read_file(void)
@@ -75,8 +77,10 @@ static int night(void)
     uint8_t two[2];
     size_t got;
     size_t length = read_file();
-    uint32_t refused = gateway_read(file, length, plan, GATEWAY_PLAN_WORDS, table, GATEWAY_TABLE_PLACES);
-    if (refused == GATEWAY_DONE)
+    uint32_t refused = gateway_read(file, length, plan, GATEWAY_PLAN_WORDS, table, GATEWAY_TABLE_PLACES, &offset);
+    if (refused != GATEWAY_DONE)
+        fprintf(stderr, "the file is wrong at byte %u\n", (unsigned)offset);
+    else
         refused = gateway_start(plan, GATEWAY_PLAN_WORDS, table, GATEWAY_TABLE_PLACES, run, GATEWAY_RUN_WORDS, location, GATEWAY_LOCATION_WORDS);
     if (refused != GATEWAY_DONE) {
         printf("refused %u\n", (unsigned)refused);
@@ -154,9 +158,9 @@ static void print_floor_night(size_t file_length)
 static int check(void)
 {
     size_t length = read_file();
-    uint32_t refused = gateway_read(file, length, plan, GATEWAY_PLAN_WORDS, table, GATEWAY_TABLE_PLACES);
+    uint32_t refused = gateway_read(file, length, plan, GATEWAY_PLAN_WORDS, table, GATEWAY_TABLE_PLACES, &offset);
     if (refused != GATEWAY_DONE) {
-        print_verdict(refused);
+        printf("refused %u: %s (byte %u)\n", (unsigned)refused, gateway_words(refused), (unsigned)offset);
         return 1;
     }
     print_plan(length);

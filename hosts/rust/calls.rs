@@ -13,7 +13,7 @@ pub const LOCATION_WORDS: usize = 2;
 
 #[link(name = "gateway", kind = "static")]
 extern "C" {
-    pub fn gateway_read(file: *const u8, file_length: usize, plan: *mut u64, plan_length: usize, table: *mut u32, table_length: usize) -> u32;
+    pub fn gateway_read(file: *const u8, file_length: usize, plan: *mut u64, plan_length: usize, table: *mut u32, table_length: usize, offset: *mut usize) -> u32;
     pub fn gateway_write(plan: *const u64, plan_length: usize, table: *const u32, table_length: usize, out: *mut u8, out_length: usize, written: *mut usize) -> u32;
     pub fn gateway_name(file: *const u8, file_length: usize, position: usize) -> usize;
     pub fn gateway_judge(plan: *const u64, plan_length: usize, table: *const u32, table_length: usize, location: *mut u64, location_length: usize) -> u32;

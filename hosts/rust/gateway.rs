@@ -1,7 +1,7 @@
 //! A safe wrapper over `libgateway.a`, without dependencies: plan files, judging and slots.
 //!
-//! A [`Plan`] and a [`Run`] own the memory that the library works on. Every refusal is a [`Refusal`] with its number, its location and its words.
-//! Both can be stored and sent as the words that the library keeps them in.
+//! A [`Plan`] and a [`Run`] own the memory that the library works on. Every refusal is a [`Refusal`] with its number, its location or its offset
+//! in the file, and its words. Plans and runs can be stored and sent as the words that the library keeps them in.
 
 /// The bare calls, for a host that lends memory of its own.
 pub mod calls;
@@ -92,7 +92,7 @@ pub mod refusal {
     }
 }
 
-/// What a refusal names beside its number.
+/// What a refusal of a plan in hand names beside its number.
 #[derive(Clone, Copy, Debug, PartialEq, Eq)]
 pub enum Location {
     Nowhere,
@@ -102,11 +102,12 @@ pub enum Location {
     IntervalAndDeadline(usize, u32),
 }
 
-/// A refusal: its number, and the location that it names.
+/// A refusal: its number, the location that it names, and the offset at which a plan file is wrong.
 #[derive(Clone, Copy, Debug, PartialEq, Eq)]
 pub struct Refusal {
     number: u8,
     location: Location,
+    offset: Option<usize>,
 }
 
 impl Refusal {
@@ -119,11 +120,18 @@ impl Refusal {
             refusal::BELOW_FLOOR_RULE => Location::IntervalAndDeadline(location[0] as usize, location[1] as u32),
             _ => Location::Nowhere,
         };
-        Refusal { number, location }
+        Refusal { number, location, offset: None }
     }
 
     fn nowhere(number: u8) -> Refusal {
-        Refusal { number, location: Location::Nowhere }
+        Refusal { number, location: Location::Nowhere, offset: None }
+    }
+
+    /// The reader's refusal; its numbers from 1 to 14 come with an offset.
+    fn of_file(number: u32, offset: usize) -> Refusal {
+        let number = number as u8;
+        let has_offset = (refusal::WRONG_VERSION..=refusal::ROW_OUT_OF_ORDER).contains(&number);
+        Refusal { number, location: Location::Nowhere, offset: has_offset.then_some(offset) }
     }
 
     pub fn number(&self) -> u8 {
@@ -132,6 +140,12 @@ impl Refusal {
 
     pub fn location(&self) -> Location {
         self.location
+    }
+
+    /// Where a plan file is wrong, counted from its first byte: the first byte of the field in hand, as `gateway.h` says it for each number.
+    /// Every refusal from 1 to 14 of [`Plan::read`] has it, and no other.
+    pub fn offset(&self) -> Option<usize> {
+        self.offset
     }
 
     /// What the number says.
@@ -143,6 +157,9 @@ impl Refusal {
 impl fmt::Display for Refusal {
     fn fmt(&self, f: &mut fmt::Formatter<'_>) -> fmt::Result {
         write!(f, "refused {}: {}", self.number, self.words())?;
+        if let Some(offset) = self.offset {
+            return write!(f, " (byte {offset})");
+        }
         match self.location {
             Location::Nowhere => Ok(()),
             Location::JobAndInterval(job, interval) => write!(f, " (job {job}, interval {interval})"),
@@ -280,12 +297,14 @@ impl Plan {
         &self.table
     }
 
-    /// Reads a plan file.
+    /// Reads a plan file. A refusal has its [`offset`](Refusal::offset).
     pub fn read(file: &[u8]) -> Result<Plan, Refusal> {
         let mut plan = Plan { words: [0; PLAN_WORDS], table: [0; TABLE_PLACES] };
-        // SAFETY: each pointer is valid for the length beside it, and the two that are written are separate fields.
-        let number = unsafe { gateway_read(file.as_ptr(), file.len(), plan.words.as_mut_ptr(), PLAN_WORDS, plan.table.as_mut_ptr(), TABLE_PLACES) };
-        done(number).map(|()| plan)
+        let mut offset = 0;
+        // SAFETY: each pointer is valid for the length beside it; the two parts of the plan are separate fields, and offset is fresh.
+        let number =
+            unsafe { gateway_read(file.as_ptr(), file.len(), plan.words.as_mut_ptr(), PLAN_WORDS, plan.table.as_mut_ptr(), TABLE_PLACES, &mut offset) };
+        if number == DONE { Ok(plan) } else { Err(Refusal::of_file(number, offset)) }
     }
 
     /// The plan file.

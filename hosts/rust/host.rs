@@ -1,4 +1,5 @@
 //! A small host in Rust: reads a plan file and then speeds from standard input, runs the plan slot by slot, and prints what runplan prints.
+//! Where a refused file is wrong it says on standard error.
 //! With `--check` it reads a plan file alone, and says what the plan asks, whether it is accepted, how much slack it has, whether it is
 //! written again as the same file, and how each transfer of an accepted plan ends at the floor. Then the exit status is 0 for an accepted
 //! plan and 1 for any other. With `--refusals` it prints what each refusal says.
@@ -53,7 +54,12 @@ fn outcome_line(file: &[u8], run: &Run, plan: &Plan, job: usize) -> String {
 fn night(file: &[u8], speeds: &[u8], out: &mut impl Write) -> io::Result<()> {
     let (plan, mut run) = match open(file) {
         Ok(opened) => opened,
-        Err(refusal) => return writeln!(out, "refused {}", refusal.number()),
+        Err(refusal) => {
+            if let Some(offset) = refusal.offset() {
+                eprintln!("the file is wrong at byte {offset}");
+            }
+            return writeln!(out, "refused {}", refusal.number());
+        }
     };
     writeln!(out, "slot speed mode grants")?;
     let pairs = speeds.chunks_exact(2);

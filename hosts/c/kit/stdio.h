@@ -6,6 +6,7 @@ typedef struct _IO_FILE FILE;
 extern FILE *stdin;
 extern FILE *stdout;
 extern FILE *stderr;
+int fprintf(FILE *to, const char *format, ...);
 int fputs(const char *text, FILE *to);
 size_t fread(void *to, size_t size, size_t count, FILE *from);
 size_t fwrite(const void *from, size_t size, size_t count, FILE *to);

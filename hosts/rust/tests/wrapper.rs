@@ -141,3 +141,34 @@ fn a_refusal_says_what_and_where() {
     let refusal = plan.judge().unwrap_err();
     assert_eq!(refusal.to_string(), "refused 18: the floor cannot carry what is essential in time (interval 2, deadline 10)");
 }
+
+/// The release of plan E's second job begins at byte 42: the head has 10 bytes, a job 22, and its length byte, name and grade come before.
+#[test]
+fn a_refused_file_says_at_which_byte() {
+    let file = plan_e().write().unwrap();
+    let refused = |at: usize, byte: u8| {
+        let mut wrong = file.clone();
+        wrong[at] = byte;
+        Plan::read(&wrong).unwrap_err()
+    };
+    let of_deadline = refused(53, 1);
+    assert_eq!((of_deadline.number(), of_deadline.offset()), (refusal::WRONG_JOB_BOUNDS, Some(42)));
+    assert_eq!(of_deadline.to_string(), "refused 9: a release, a size or a deadline does not keep to its bounds (byte 42)");
+    assert_eq!(refused(0, 2).offset(), Some(0));
+    assert_eq!(refused(32, 20).offset(), Some(32));
+    let empty = Plan::read(&[]).unwrap_err();
+    assert_eq!((empty.number(), empty.offset()), (refusal::WRONG_VERSION, Some(0)));
+    let cut = Plan::read(&file[..1]).unwrap_err();
+    assert_eq!((cut.number(), cut.offset()), (refusal::WRONG_EXTENT, Some(1)));
+}
+
+#[test]
+fn a_plan_in_hand_is_refused_at_no_byte() {
+    let mut plan = plan_e();
+    plan.allot(1, 2, 3);
+    assert_eq!(plan.judge().unwrap_err().offset(), None);
+    assert_eq!(Plan::from_words(&[], &[]).unwrap_err().offset(), None);
+    // The same number as the reader's, but no file.
+    let too_many = Plan::new(2, 1, &[jobs()[0]; MOST_JOBS + 1]).unwrap_err();
+    assert_eq!((too_many.number(), too_many.offset()), (refusal::WRONG_JOB_COUNT, None));
+}
