@@ -25,9 +25,15 @@ pub enum Part {
     Number,
     /// A word of one of the buffers, which are counted from 0 in the order of the call's pointers.
     Word(usize, Spot),
-    /// What the wrapper makes of the answer.
-    Wrapped,
+    /// The offset, where the reader answers this number.
+    Offset(u32),
+    /// A word of what the wrapper makes of the answer.
+    Wrapped(usize),
 }
+
+/// Which of the reader's buffers is the offset, and which word of the wrapper's list.
+const OFFSET_BUFFER: usize = 3;
+pub const WRAPPED_OFFSET: usize = 2;
 
 /// For the self-test: a part of one call's answers that is changed before it is compared.
 #[derive(Clone, Copy)]
@@ -57,6 +63,9 @@ impl Both {
         match self.spoilt_part(call) {
             Some(Part::Number) => got += 1,
             Some(Part::Word(k, spot)) => buffers[k].spoil(spot),
+            Some(Part::Offset(number)) if number == counted => {
+                buffers[OFFSET_BUFFER].spoil(Spot::First)
+            }
             _ => (),
         }
         if self.tells {
@@ -83,8 +92,8 @@ impl Both {
         mut wrapped: Vec<u64>,
         bare: Vec<u64>,
     ) -> Result<(), Difference> {
-        if self.spoilt_part(call) == Some(Part::Wrapped) {
-            wrapped[0] += 1;
+        if let Some(Part::Wrapped(word)) = self.spoilt_part(call) {
+            wrapped[word] += 1;
         }
         if wrapped == bare {
             return Ok(());

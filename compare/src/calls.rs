@@ -14,7 +14,13 @@ use crate::tally::{Call, NAME_SHOWN, NO_NAME};
 // two buffers overlap.
 impl Both {
     pub fn read(&mut self, file: &mut Buffer<u8>, memory: &mut Memory) -> Result<u32, Difference> {
-        let Memory { plan, table, .. } = memory;
+        memory.offset.renew();
+        let Memory {
+            plan,
+            table,
+            offset,
+            ..
+        } = memory;
         let got = unsafe {
             gateway_read(
                 file.archive(),
@@ -23,10 +29,12 @@ impl Both {
                 plan.lent(),
                 table.archive_mut(),
                 table.lent(),
+                offset.archive_mut(),
             )
         };
-        let expected = model::read(file.model(), plan.model_mut(), table.model_mut());
-        self.end(Call::Read, got, expected, &mut [file, plan, table])
+        let wrong_at = &mut offset.model_mut()[0];
+        let expected = model::read(file.model(), plan.model_mut(), table.model_mut(), wrong_at);
+        self.end(Call::Read, got, expected, &mut [file, plan, table, offset])
     }
 
     /// Where the name begins, or 0.

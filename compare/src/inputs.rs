@@ -3,6 +3,7 @@
 use reference::edition::{LARGEST_FILE, MOST_JOBS, TABLE_PLACES};
 use reference::generate::{file, fixed_files, fixed_hands, hand};
 use reference::generate::{FileInput, HandInput, Lent, Prng, Purpose};
+use reference::reader::reader;
 use reference::refusal::{DONE, TOO_SHORT};
 
 use crate::both::{Both, Difference};
@@ -36,6 +37,13 @@ impl Fixed {
             files: fixed_files(),
             hands: fixed_hands(),
         }
+    }
+
+    /// The first input whose file, with the table lent to it, is read as this number.
+    pub fn first_read_as(&self, number: u8) -> Option<u64> {
+        let read = |input: &FileInput| reader(&input.file, &mut vec![0; input.lent.table]).number;
+        let at = self.files.iter().position(|input| read(input) == number)?;
+        Some(at as u64)
     }
 
     /// The longer of the two lists counts.

@@ -14,6 +14,7 @@ pub struct Memory {
     pub location: Buffer<u64>,
     pub out: Buffer<u8>,
     pub written: Buffer<usize>,
+    pub offset: Buffer<usize>,
     pub slack: Buffer<i64>,
     /// The length of the plan's file, once it has been written; 0 before.
     pub exact: usize,
@@ -31,6 +32,7 @@ impl Memory {
             location: Buffer::known("location", LOCATION_WORDS + spare()),
             out: Buffer::known("out", lent.output),
             written: Buffer::known("written", 1),
+            offset: Buffer::known("offset", 1),
             slack: Buffer::known("slack", 1),
             exact: 0,
         }

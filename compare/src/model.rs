@@ -19,13 +19,14 @@ pub const DISCARDED: u32 = 258;
 pub const MISSED: u32 = 259;
 pub const OPEN: u32 = 260;
 
-pub fn read(file: &[u8], plan: &mut [u64], table: &mut [u32]) -> u32 {
+pub fn read(file: &[u8], plan: &mut [u64], table: &mut [u32], offset: &mut usize) -> u32 {
     if plan.len() < PLAN_WORDS {
         return TOO_SHORT.into();
     }
-    let (number, read) = reader(file, table);
-    plan[..PLAN_WORDS].copy_from_slice(&words_of_plan(&read));
-    number.into()
+    let answer = reader(file, table);
+    plan[..PLAN_WORDS].copy_from_slice(&words_of_plan(&answer.plan));
+    *offset = answer.offset.unwrap_or(0);
+    answer.number.into()
 }
 
 pub fn name(file: &[u8], position: usize) -> usize {

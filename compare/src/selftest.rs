@@ -1,28 +1,30 @@
 //! Shows that the comparison sees wrong answers: words of each call's answers are changed on purpose,
 //! one at a time, and each has to be noticed.
 
-use crate::both::{Both, Part, Spoil};
+use reference::refusal::{DONE, ROW_ORDER, TOO_SHORT, VERSION};
+
+use crate::both::{Both, Part, Spoil, WRAPPED_OFFSET};
 use crate::buffer::SPOTS;
 use crate::inputs::{Fixed, Source};
 use crate::tally::{Call, CALLS};
 
 /// Inputs in which every call is made and done.
-const INPUTS: u64 = 3;
+const INPUTS: [u64; 3] = [0, 1, 2];
 
 /// How many pointers the call takes.
 fn pointers(call: Call) -> usize {
     match call {
         Call::Name => 1,
         Call::Outcome => 2,
-        Call::Read | Call::Judge => 3,
-        Call::Write | Call::Slack | Call::Start | Call::Step => 4,
+        Call::Judge => 3,
+        Call::Read | Call::Write | Call::Slack | Call::Start | Call::Step => 4,
     }
 }
 
 /// The number, the wrapper's answer, and of each buffer the first and last word and the words of the
 /// border next to them.
 fn parts(call: Call) -> Vec<Part> {
-    let mut parts = vec![Part::Number, Part::Wrapped];
+    let mut parts = vec![Part::Number, Part::Wrapped(0)];
     for pointer in 0..pointers(call) {
         parts.extend(SPOTS.map(|spot| Part::Word(pointer, spot)));
     }
@@ -31,17 +33,22 @@ fn parts(call: Call) -> Vec<Part> {
 
 /// How many changed words were noticed, or one that was not.
 pub fn self_test() -> Result<String, String> {
-    let fixed = Source::Fixed(Fixed::new());
-    if let Some(seen) = first_seen(&fixed, None) {
+    let fixed = Fixed::new();
+    let reads = reads(&fixed)?;
+    let fixed = Source::Fixed(fixed);
+    if let Some(seen) = first_seen(&fixed, &INPUTS, None) {
         return Err(format!("a difference where nothing was changed: {}", seen));
     }
     let mut noticed = 0;
     for call in CALLS {
         for part in parts(call) {
-            match first_seen(&fixed, Some(Spoil { call, part })) {
-                Some(seen) if seen == call.to_string() => noticed += 1,
-                other => return Err(format!("{:?} of {} was changed: {:?}", part, call, other)),
-            }
+            noticed += notice(&fixed, &INPUTS, Spoil { call, part })?;
+        }
+    }
+    let call = Call::Read;
+    for (number, input) in reads {
+        for part in [Part::Offset(number), Part::Wrapped(WRAPPED_OFFSET)] {
+            noticed += notice(&fixed, &[input], Spoil { call, part })?;
         }
     }
     Ok(format!(
@@ -50,13 +57,35 @@ pub fn self_test() -> Result<String, String> {
     ))
 }
 
+/// For each number that the reader answers an input that brings it.
+fn reads(fixed: &Fixed) -> Result<Vec<(u32, u64)>, String> {
+    let numbers = [DONE, TOO_SHORT].into_iter().chain(VERSION..=ROW_ORDER);
+    let input_of = |number: u8| {
+        let input = fixed.first_read_as(number);
+        let input = input.ok_or_else(|| format!("no fixed input is read as {}", number))?;
+        Ok((number.into(), input))
+    };
+    numbers.map(input_of).collect()
+}
+
+/// 1 for a changed word that is noticed in its own call.
+fn notice(source: &Source, inputs: &[u64], spoil: Spoil) -> Result<u32, String> {
+    match first_seen(source, inputs, Some(spoil)) {
+        Some(seen) if seen == spoil.call.to_string() => Ok(1),
+        other => Err(format!(
+            "{:?} of {} was changed: {:?}",
+            spoil.part, spoil.call, other
+        )),
+    }
+}
+
 /// The call in which the first difference was seen.
-fn first_seen(source: &Source, spoil: Option<Spoil>) -> Option<String> {
+fn first_seen(source: &Source, inputs: &[u64], spoil: Option<Spoil>) -> Option<String> {
     let mut both = Both {
         spoil,
         ..Both::default()
     };
-    let differs = |number| source.compare(&mut both, number).err();
-    let difference = (0..INPUTS).find_map(differs)?;
+    let differs = |&number| source.compare(&mut both, number).err();
+    let difference = inputs.iter().find_map(differs)?;
     Some(difference.call.to_string())
 }

@@ -15,9 +15,12 @@ pub fn show_file(input: &FileInput) {
         println!("  {:5}  {}", line * BYTES_ON_A_LINE, hex.join(" "));
     }
     let mut table = vec![0; TABLE_PLACES];
-    let (number, plan) = reader(&input.file, &mut table);
-    println!("the reader answers {}", number);
-    show_plan(&plan);
+    let answer = reader(&input.file, &mut table);
+    match answer.offset {
+        Some(offset) => println!("the reader answers {} at byte {}", answer.number, offset),
+        None => println!("the reader answers {}", answer.number),
+    }
+    show_plan(&answer.plan);
     show_table(&table);
     show_rest(&input.lent, &input.speeds);
 }

@@ -44,6 +44,11 @@ fn refusal_words(refusal: &Refusal) -> Vec<u64> {
     vec![refusal.number().into(), first, second]
 }
 
+/// Whether there is an offset, and which.
+fn offset_words(offset: Option<usize>) -> Vec<u64> {
+    vec![offset.is_some().into(), offset.unwrap_or(0) as u64]
+}
+
 fn place_words(number: u32, memory: &Memory) -> Vec<u64> {
     let location = &memory.location.contents()[..LOCATION_WORDS];
     [&[number.into()], location].concat()
@@ -110,7 +115,10 @@ pub fn read(
         return Ok(None);
     }
     let result = Plan::read(file.contents());
-    let (mut wrapped, mut bare) = (vec![number_of(&result)], vec![number.into()]);
+    let told = result.as_ref().err().and_then(Refusal::offset);
+    let left = (!is_done(number)).then(|| memory.offset.contents()[0]);
+    let mut wrapped = [vec![number_of(&result)], offset_words(told)].concat();
+    let mut bare = [vec![number.into()], offset_words(left)].concat();
     if let (Ok(plan), true) = (&result, is_done(number)) {
         wrapped.push(plan.job_count() as u64);
         bare.push(memory.plan.contents()[JOB_COUNT]);

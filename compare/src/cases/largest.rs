@@ -66,6 +66,9 @@ fn longer(cases: &mut Cases, mut bytes: Vec<u8>) -> Result<(), String> {
     bytes.push(14);
     bytes[4] += 1;
     let mut file = Buffer::of("file", &bytes, bytes.len());
-    let got = cases.both.read(&mut file, &mut memory());
-    cases.expect("largest file and a byte, read", got, 2)
+    let memory = &mut memory();
+    let got = cases.both.read(&mut file, memory);
+    cases.expect("largest file and a byte, read", got, 2)?;
+    let offset = memory.offset.contents()[0];
+    cases.expect("largest file and a byte, offset", Ok(offset), LARGEST_FILE)
 }

@@ -23,6 +23,7 @@ pub const END: usize = 116;
 /// Where the fields begin in a job and in a row, counted from the length byte.
 pub const NAME_IN: usize = 1;
 pub const GRADE_IN: usize = 9;
+pub const RELEASE_IN: usize = 10;
 pub const SIZE_IN: usize = 14;
 pub const DEADLINE_IN: usize = 18;
 pub const INTERVAL_IN: usize = 9;
@@ -53,6 +54,13 @@ pub type Job = (&'static [u8; 8], u64, u64, u64, u64);
 pub fn with(at: usize, bytes: &[u8]) -> Vec<u8> {
     let mut file = FILE.to_vec();
     file[at..at + bytes.len()].copy_from_slice(bytes);
+    file
+}
+
+/// The beginning of the file, with a length field that agrees.
+pub fn cut_at(length: usize) -> Vec<u8> {
+    let mut file = FILE[..length].to_vec();
+    file[LENGTH + 3] = (length - RATES) as u8;
     file
 }
 
