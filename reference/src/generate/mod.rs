@@ -16,6 +16,7 @@ mod refused;
 mod speeds;
 
 use crate::edition::TABLE_PLACES;
+use crate::reader::contents;
 use crate::refusal::{ROW_ORDER, VERSION};
 use draft::{Draft, Limits, ANY, EVERYWHERE, SMALL};
 use refused::PLACED;
@@ -29,6 +30,9 @@ pub use prng::{Prng, Purpose};
 
 /// One input in this many is drawn without limits, all others are small.
 const CYCLE: u64 = 10;
+
+/// The shares of wrong files are counted among so many.
+const WRONG_CHOICES: u64 = 28;
 
 /// The limits that the number of an input sets for it.
 fn limits_of(number: u64) -> &'static Limits {
@@ -49,9 +53,20 @@ pub fn file(seed: u64, number: u64) -> FileInput {
             run_of(prng, limits, &draft)
         }
         54..=71 => refused_file(prng, limits),
-        72..=91 => of_file(limits, damaged_file(prng, limits)),
-        92..=94 => of_file(limits, damaged::random_bytes(prng)),
-        _ => of_file(limits, damaged::sprinkled(prng, limits)),
+        choice => of_file(limits, wrong_file(prng, limits, choice - 72)),
+    }
+}
+
+/// A plan file that the reader refuses, drawn from the seed and its own number alone.
+pub fn damaged_input(seed: u64, number: u64) -> FileInput {
+    let prng = &mut Prng::new(seed, Purpose::Damaged, number);
+    let limits = limits_of(number);
+    loop {
+        let choice = prng.below(WRONG_CHOICES);
+        let file = wrong_file(prng, limits, choice);
+        if contents(&file).is_err() {
+            return of_file(limits, file);
+        }
     }
 }
 
@@ -109,6 +124,15 @@ fn refused_draft(prng: &mut Prng, limits: &Limits) -> Draft {
 fn refused_file(prng: &mut Prng, limits: &Limits) -> FileInput {
     let draft = refused_draft(prng, limits);
     run_of(prng, limits, &draft)
+}
+
+/// A damaged file, random bytes, or a file with a few random bytes, which may still be read.
+fn wrong_file(prng: &mut Prng, limits: &Limits, choice: u64) -> Vec<u8> {
+    match choice {
+        0..=19 => damaged_file(prng, limits),
+        20..=22 => damaged::random_bytes(prng),
+        _ => damaged::sprinkled(prng, limits),
+    }
 }
 
 /// A file with one fault or two of the reader's numbers, or one that ends in a field.

@@ -8,6 +8,7 @@ pub enum Purpose {
     Hand,
     Night,
     Lending,
+    Damaged,
 }
 
 /// The state of one source.

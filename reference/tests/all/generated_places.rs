@@ -3,7 +3,7 @@
 use std::collections::{BTreeMap, BTreeSet};
 
 use crate::common::table;
-use reference::generate::{file, fixed_files};
+use reference::generate::{damaged_input, file, fixed_files, FileInput};
 use reference::reader::reader;
 use Which::{First, Last, Middle, Only};
 
@@ -71,8 +71,12 @@ struct Refused {
 /// All that are refused for what stands in them.
 fn refused_files() -> Vec<Refused> {
     let drawn = (0..DRAWN).map(|number| file(SEED, number));
+    refused_of(fixed_files().into_iter().chain(drawn))
+}
+
+fn refused_of(inputs: impl Iterator<Item = FileInput>) -> Vec<Refused> {
     let mut refused = Vec::new();
-    for input in fixed_files().into_iter().chain(drawn) {
+    for input in inputs {
         let answer = reader(&input.file, &mut table());
         assert_eq!(answer.number == 0, answer.offset.is_none());
         if let Some(offset) = answer.offset {
@@ -141,10 +145,9 @@ fn field_after_head(file: &[u8], offset: usize) -> (&'static str, Which) {
     (kind, which((offset - rows_at - 2) / 15, rows))
 }
 
-#[test]
-fn each_number_comes_at_all_its_places_and_at_no_other() {
+fn assert_all_places(files: Vec<Refused>) {
     let mut found = BTreeMap::new();
-    for refused in refused_files() {
+    for refused in files {
         let (kind, which) = field(&refused.file, refused.offset);
         *found.entry((refused.number, kind, which)).or_insert(0) += 1;
     }
@@ -155,6 +158,18 @@ fn each_number_comes_at_all_its_places_and_at_no_other() {
     let places: BTreeSet<_> = found.keys().copied().collect();
     assert_eq!(places, expected);
     assert!(found.values().all(|&count| count >= LEAST), "{:?}", found);
+}
+
+#[test]
+fn each_number_comes_at_all_its_places_and_at_no_other() {
+    assert_all_places(refused_files());
+}
+
+#[test]
+fn damaged_inputs_are_all_refused_and_at_all_places() {
+    let refused = refused_of((0..DRAWN).map(|number| damaged_input(SEED, number)));
+    assert_eq!(refused.len() as u64, DRAWN);
+    assert_all_places(refused);
 }
 
 #[test]
