@@ -1,7 +1,7 @@
 //! All calls on one input: on a plan file with speeds, and on a plan in hand with a run and speeds.
 
 use reference::edition::{LARGEST_FILE, MOST_JOBS, TABLE_PLACES};
-use reference::generate::{file, fixed_files, fixed_hands, hand};
+use reference::generate::{damaged_input, file, fixed_files, fixed_hands, hand};
 use reference::generate::{FileInput, HandInput, Lent, Prng, Purpose};
 use reference::reader::reader;
 use reference::refusal::{DONE, TOO_SHORT};
@@ -52,10 +52,31 @@ impl Fixed {
     }
 }
 
+/// What is drawn from a seed: inputs of every call, or files that the reader refuses.
+#[derive(Clone, Copy)]
+pub enum Kind {
+    Every,
+    Damaged,
+}
+
+/// So many inputs of a kind, of each of these seeds.
+pub struct Drawn {
+    pub kind: Kind,
+    pub count: u64,
+    pub seeds: Vec<u64>,
+}
+
+impl Drawn {
+    pub fn sources(&self) -> impl Iterator<Item = Source> + '_ {
+        let source = |&seed| Source::Drawn(self.kind, seed);
+        self.seeds.iter().map(source)
+    }
+}
+
 /// Where inputs come from.
 pub enum Source {
     Fixed(Fixed),
-    Seed(u64),
+    Drawn(Kind, u64),
 }
 
 impl Source {
@@ -63,7 +84,8 @@ impl Source {
     pub fn name(&self) -> String {
         match self {
             Source::Fixed(_) => "fixed".to_string(),
-            Source::Seed(seed) => format!("seed {}", seed),
+            Source::Drawn(Kind::Every, seed) => format!("seed {}", seed),
+            Source::Drawn(Kind::Damaged, seed) => format!("damaged files of seed {}", seed),
         }
     }
 
@@ -74,7 +96,10 @@ impl Source {
                 let at = number as usize;
                 (files.get(at).cloned(), hands.get(at).cloned())
             }
-            Source::Seed(seed) => (Some(file(*seed, number)), Some(hand(*seed, number))),
+            Source::Drawn(Kind::Every, seed) => {
+                (Some(file(*seed, number)), Some(hand(*seed, number)))
+            }
+            Source::Drawn(Kind::Damaged, seed) => (Some(damaged_input(*seed, number)), None),
         }
     }
 
@@ -82,7 +107,7 @@ impl Source {
     pub fn compare(&self, both: &mut Both, number: u64) -> Result<(), Difference> {
         let seed = match self {
             Source::Fixed(_) => 0,
-            Source::Seed(seed) => *seed,
+            Source::Drawn(_, seed) => *seed,
         };
         let prng = &mut Prng::new(seed, Purpose::Lending, number);
         let (file, hand) = self.parts(number);

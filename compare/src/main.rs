@@ -24,16 +24,17 @@ mod wrapper;
 
 use std::process::exit;
 
-use inputs::{Fixed, Source};
+use inputs::{Drawn, Fixed, Kind, Source};
 use run::Share;
 
 const HELP: &str = "\
-usage: compare COUNT [SEED..]                COUNT inputs of each call for each seed
-       compare --share K OF COUNT [SEED..]   share K (from 0) of OF shares of that; prints counts
-       compare --sum COUNT [SEED..]          adds up the counts of all shares from standard input
-       compare --input SEED NUMBER           one input again, every call told
-       compare --input fixed NUMBER          the same of a fixed input
-       compare --self-test                   changes answers on purpose; each must be noticed";
+usage: compare COUNT [SEED..]             COUNT inputs of each call for each seed
+       compare --damaged COUNT [SEED..]   COUNT files that the reader refuses, for each seed
+       compare --share K OF WORDS..       share K (from 0) of OF shares of either; prints counts
+       compare --sum WORDS..              adds up the counts of all shares from standard input
+       compare --input SEED NUMBER        one input again, every call told
+       compare --input damaged SEED NUMBER, compare --input fixed NUMBER   the same of these
+       compare --self-test                changes answers on purpose; each must be noticed";
 
 const DEFAULT_SEED: u64 = 1;
 
@@ -56,22 +57,38 @@ fn answer(words: &[&str]) -> Result<String, String> {
         ["--input", "fixed", number] => {
             run::once_more(&Source::Fixed(Fixed::new()), number_of(number))
         }
-        ["--input", seed, number] => {
-            run::once_more(&Source::Seed(number_of(seed)), number_of(number))
-        }
-        ["--share", share, of, count, seeds @ ..] => {
+        ["--input", "damaged", seed, number] => once_more(Kind::Damaged, seed, number),
+        ["--input", seed, number] => once_more(Kind::Every, seed, number),
+        ["--share", share, of, words @ ..] => {
             let share = share_of(number_of(share), number_of(of));
-            run::work(share, number_of(count), &seeds_of(seeds)).map(|report| report.lines())
+            run::work(share, &drawn_of(words)).map(|report| report.lines())
         }
-        ["--sum", count, seeds @ ..] => {
-            let (count, seeds) = (number_of(count), seeds_of(seeds));
-            run::sum()?.end(count, &seeds)
+        ["--sum", words @ ..] => {
+            let drawn = drawn_of(words);
+            run::sum()?.end(&drawn)
         }
-        [count, seeds @ ..] => {
-            let (count, seeds) = (number_of(count), seeds_of(seeds));
-            run::work(share_of(0, 1), count, &seeds)?.end(count, &seeds)
+        words => {
+            let drawn = drawn_of(words);
+            run::work(share_of(0, 1), &drawn)?.end(&drawn)
         }
+    }
+}
+
+fn once_more(kind: Kind, seed: &str, number: &str) -> Result<String, String> {
+    run::once_more(&Source::Drawn(kind, number_of(seed)), number_of(number))
+}
+
+/// What is drawn: the kind, the count and the seeds.
+fn drawn_of(words: &[&str]) -> Drawn {
+    let (kind, count, seeds) = match words {
+        ["--damaged", count, seeds @ ..] => (Kind::Damaged, count, seeds),
+        [count, seeds @ ..] => (Kind::Every, count, seeds),
         [] => wrong_use(),
+    };
+    Drawn {
+        kind,
+        count: number_of(count),
+        seeds: seeds_of(seeds),
     }
 }
 

@@ -2,7 +2,8 @@
 
 use std::fmt::Write;
 
-use crate::tally::{Tally, CALLS};
+use crate::inputs::{Drawn, Kind};
+use crate::tally::{all_answers, refused_reads, Tally, CALLS};
 
 /// A run of this many inputs has to bring every number that a call can answer.
 const ENOUGH_FOR_ALL: u64 = 20_000;
@@ -55,31 +56,36 @@ impl Report {
     }
 
     /// The table and the last line, or why the run shows too little.
-    pub fn end(&self, count: u64, seeds: &[u64]) -> Result<String, String> {
-        let total = count * seeds.len() as u64;
-        for call in CALLS {
-            if self.tally.inputs(call) < total {
-                return Err(format!("fewer than {} inputs of {}", total, call));
-            }
+    pub fn end(&self, drawn: &Drawn) -> Result<String, String> {
+        let total = drawn.count * drawn.seeds.len() as u64;
+        let (answers, inputs) = match drawn.kind {
+            Kind::Every => (all_answers(), format!("inputs of each of {} calls", CALLS.len())),
+            Kind::Damaged => (refused_reads(), "damaged files".to_string()),
+        };
+        if let Some((call, _)) = answers.iter().find(|(call, _)| self.tally.inputs(*call) < total) {
+            return Err(format!("fewer than {} inputs of {}", total, call));
         }
-        let missing = self.tally.missing();
+        let missing = self.tally.missing(&answers);
         if total >= ENOUGH_FOR_ALL && !missing.is_empty() {
             return Err(format!("these answers never came: {}", missing.join(", ")));
         }
-        let names: Vec<String> = seeds.iter().map(u64::to_string).collect();
-        let kind = if seeds.len() == 1 {
-            "seed"
-        } else {
-            "each of the seeds"
-        };
         Ok(format!(
-            "{}{}compare: {} inputs of each of {} calls, {} {}, no difference",
+            "{}{}compare: {} {}, {}, no difference",
             self.tally,
             self.others(),
-            count,
-            CALLS.len(),
-            kind,
-            names.join(" ")
+            drawn.count,
+            inputs,
+            seeds_told(&drawn.seeds)
         ))
     }
+}
+
+fn seeds_told(seeds: &[u64]) -> String {
+    let names: Vec<String> = seeds.iter().map(u64::to_string).collect();
+    let which = if seeds.len() == 1 {
+        "seed"
+    } else {
+        "each of the seeds"
+    };
+    format!("{} {}", which, names.join(" "))
 }

@@ -5,7 +5,7 @@ use std::ops::Range;
 
 use crate::both::Both;
 use crate::cases;
-use crate::inputs::{Fixed, Source};
+use crate::inputs::{Drawn, Fixed, Source};
 use crate::report::Report;
 use crate::show::{show_file, show_hand};
 
@@ -27,7 +27,7 @@ impl Share {
 }
 
 /// The cases, all of them in the first share, then the fixed inputs, then those of each seed.
-pub fn work(share: Share, count: u64, seeds: &[u64]) -> Result<Report, String> {
+pub fn work(share: Share, drawn: &Drawn) -> Result<Report, String> {
     let mut report = Report::default();
     if share.number == 0 {
         report.cases = cases::all()?;
@@ -40,8 +40,8 @@ pub fn work(share: Share, count: u64, seeds: &[u64]) -> Result<Report, String> {
         compare(&fixed, &mut Both::default(), number)?;
     }
     let mut both = Both::default();
-    for source in seeds.iter().map(|&seed| Source::Seed(seed)) {
-        for number in share.stretch(count) {
+    for source in drawn.sources() {
+        for number in share.stretch(drawn.count) {
             compare(&source, &mut both, number)?;
             if (number + 1) % INPUTS_TO_A_LINE == 0 {
                 eprintln!(

@@ -82,6 +82,20 @@ fn numbers(call: Call) -> Vec<u32> {
     }
 }
 
+/// Every call with every number that it can answer.
+pub fn all_answers() -> Vec<(Call, u32)> {
+    let of_call = |call| numbers(call).into_iter().map(move |number| (call, number));
+    CALLS.into_iter().flat_map(of_call).collect()
+}
+
+/// What the two calls on files can answer if the reader refuses the file.
+pub fn refused_reads() -> Vec<(Call, u32)> {
+    let mut answers = all_answers();
+    let shown = [(Call::Read, DONE.into()), (Call::Name, NAME_SHOWN)];
+    answers.retain(|answer| matches!(answer.0, Call::Read | Call::Name) && !shown.contains(answer));
+    answers
+}
+
 /// A number as people read it.
 fn shown(call: Call, number: u32) -> String {
     match (call, number) {
@@ -123,25 +137,19 @@ impl Tally {
         own.map(|(_, number, count)| (number, count))
     }
 
-    /// The answers that never came.
-    pub fn missing(&self) -> Vec<String> {
-        let mut missing = Vec::new();
-        for call in CALLS {
-            for number in numbers(call) {
-                if !self.counts.contains_key(&(call, number)) {
-                    missing.push(format!("{} {}", call, shown(call, number)));
-                }
-            }
-        }
-        missing
+    /// Those of these answers that never came.
+    pub fn missing(&self, answers: &[(Call, u32)]) -> Vec<String> {
+        let never_came = |answer: &&(Call, u32)| !self.counts.contains_key(answer);
+        let told = |&(call, number): &(Call, u32)| format!("{} {}", call, shown(call, number));
+        answers.iter().filter(never_came).map(told).collect()
     }
 }
 
-/// One line for each call: its inputs, then each number with how often it came.
+/// One line for each call that was made: its inputs, then each number with how often it came.
 impl fmt::Display for Tally {
     fn fmt(&self, f: &mut fmt::Formatter<'_>) -> fmt::Result {
         writeln!(f, "call      inputs  answers, each with how often it came")?;
-        for call in CALLS {
+        for call in CALLS.into_iter().filter(|&call| self.inputs(call) > 0) {
             write!(f, "{:<7} {:>8}", call, self.inputs(call))?;
             for (number, count) in self.of(call) {
                 write!(f, "  {}: {}", shown(call, number), count)?;
