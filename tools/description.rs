@@ -3,6 +3,7 @@
 //! Nothing is judged here, so that refused plans can be written too. Only what has no bytes is an error.
 
 pub mod encoding;
+pub mod filefault;
 
 use std::num::{IntErrorKind, ParseIntError};
 use std::str::FromStr;
@@ -52,11 +53,15 @@ pub struct Interval {
 impl Description {
     /// The intervals, in the order of time.
     pub fn intervals(&self) -> Vec<Interval> {
-        let mut boundaries: Vec<u32> = self.jobs.iter().flat_map(|job| [job.release, job.deadline]).collect();
-        boundaries.sort_unstable();
-        boundaries.dedup();
-        boundaries.windows(2).map(|pair| Interval { from: pair[0], to: pair[1] }).collect()
+        intervals_of(self.jobs.iter().flat_map(|job| [job.release, job.deadline]).collect())
     }
+}
+
+// The intervals between releases and deadlines.
+fn intervals_of(mut boundaries: Vec<u32>) -> Vec<Interval> {
+    boundaries.sort_unstable();
+    boundaries.dedup();
+    boundaries.windows(2).map(|pair| Interval { from: pair[0], to: pair[1] }).collect()
 }
 
 fn number<T: FromStr<Err = ParseIntError>>(field: &str, word: &str) -> Result<T, String> {
@@ -183,11 +188,15 @@ pub fn parse(text: &str) -> Result<Description, String> {
 /// Reads a description from a file.
 pub fn load(path: &str) -> Result<Description, String> {
     let bytes = std::fs::read(path).map_err(|fault| format!("{path}: {fault}"))?;
+    parse_bytes(&bytes).map_err(|fault| format!("{path}: {fault}"))
+}
+
+/// Reads a description from the bytes of a text.
+pub fn parse_bytes(bytes: &[u8]) -> Result<Description, String> {
     if bytes.starts_with(&[0xff, 0xfe]) || bytes.starts_with(&[0xfe, 0xff]) {
-        return Err(format!("{path}: line 1: the text begins with a byte order mark of UTF-16: save it as UTF-8 without one"));
+        return Err("line 1: the text begins with a byte order mark of UTF-16: save it as UTF-8 without one".to_string());
     }
-    let text = String::from_utf8(bytes).map_err(|_| format!("{path}: not a text in UTF-8"))?;
-    parse(&text).map_err(|fault| format!("{path}: {fault}"))
+    parse(std::str::from_utf8(bytes).map_err(|_| "not a text in UTF-8")?)
 }
 
 #[cfg(test)]

@@ -2,27 +2,22 @@
 
 use crate::{Description, Job, Row, NAME_BYTES};
 
-const VERSION: u8 = 1;
-const JOB_LENGTH: u8 = 21;
-const ROW_LENGTH: u8 = 14;
-const LO: u8 = 0;
-const HI: u8 = 1;
+pub(crate) const VERSION: u8 = 1;
+pub(crate) const JOB_LENGTH: u8 = 21;
+pub(crate) const ROW_LENGTH: u8 = 14;
+pub(crate) const LO: u8 = 0;
+pub(crate) const HI: u8 = 1;
 // The bytes that a word of a description can hold.
-const LEAST_NAME_BYTE: u8 = 0x21;
-const MOST_NAME_BYTE: u8 = 0x7e;
+pub(crate) const LEAST_NAME_BYTE: u8 = 0x21;
+pub(crate) const MOST_NAME_BYTE: u8 = 0x7e;
 
 /// The plan file.
 pub fn plan_bytes(d: &Description) -> Vec<u8> {
-    part_bytes(d, &d.jobs, &d.rows)
-}
-
-/// The plan file of these jobs and rows alone.
-pub fn part_bytes(d: &Description, jobs: &[Job], rows: &[Row]) -> Vec<u8> {
     let mut body = Vec::new();
     body.extend(d.normal.to_be_bytes());
     body.extend(d.floor.to_be_bytes());
-    body.push(jobs.len() as u8);
-    for job in jobs {
+    body.push(d.jobs.len() as u8);
+    for job in &d.jobs {
         body.push(JOB_LENGTH);
         body.extend(job.name.bytes());
         body.push(if job.hi { HI } else { LO });
@@ -30,8 +25,8 @@ pub fn part_bytes(d: &Description, jobs: &[Job], rows: &[Row]) -> Vec<u8> {
             body.extend(number.to_be_bytes());
         }
     }
-    body.extend((rows.len() as u16).to_be_bytes());
-    for row in rows {
+    body.extend((d.rows.len() as u16).to_be_bytes());
+    for row in &d.rows {
         body.push(ROW_LENGTH);
         body.extend(row.name.bytes());
         body.extend(row.interval.to_be_bytes());

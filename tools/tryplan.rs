@@ -1,15 +1,18 @@
-//! Runs a described plan over the archive: the verdict in words with its place, the slack figure, the intervals, and the night as `runplan`
-//! prints it.
+//! Runs a described plan or a plan file over the archive: the verdict in words with its place, the slack figure, the intervals, and the night
+//! as `runplan` prints it.
 
-use description::encoding::{job_line, part_bytes, plan_bytes, row_line};
+use description::encoding::{job_line, plan_bytes, read, row_line};
+use description::filefault::{field, sentence, what, Record};
 use description::{Description, Interval};
-use gateway::{refusal, Location, Outcome, Plan, Refusal, Run};
+use gateway::{Location, Outcome, Plan, Refusal, Run};
 use std::collections::BTreeMap;
 use std::fmt::Write as _;
 use std::io::Write as _;
 use std::process::exit;
 
-const USAGE: &str = "usage: try-plan DESCRIPTION";
+const USAGE: &str = "usage: try-plan DESCRIPTION
+       try-plan PLANFILE [SPEEDS]";
+const PLAN_ENDING: &str = ".plan";
 
 // What the exit status says.
 const RAN: i32 = 0;
@@ -115,25 +118,47 @@ impl Taken<'_> {
     }
 }
 
-// The reader names no place. So it is asked about ever more of the plan: the job or the row that first brings the refusal is the one.
-fn line_words(d: &Description, number: u8) -> Option<String> {
-    match number {
-        refusal::WRONG_RATES => return Some(format!("rates {} {}", d.normal, d.floor)),
-        refusal::WRONG_JOB_COUNT => return Some(format!("jobs: {}", d.jobs.len())),
-        refusal::TOO_MANY_ROWS => return Some(format!("rows: {}", d.rows.len())),
-        _ => {}
-    }
-    let brings = |file: Vec<u8>| matches!(Plan::read(&file), Err(refusal) if refusal.number() == number);
-    if let Some(at) = (0..d.jobs.len()).find(|&at| brings(part_bytes(d, &d.jobs[..=at], &[]))) {
-        return Some(format!("line {}: {}", d.job_lines[at], job_line(&d.jobs[at])));
-    }
-    let at = (0..d.rows.len()).find(|&at| brings(part_bytes(d, &d.jobs, &d.rows[..=at])))?;
-    Some(format!("line {}: {}", d.row_lines[at], row_line(&d.rows[at])))
+/// What was tried, as far as the reader: a plan that it took, or what is said of one that it refused.
+enum Reading {
+    Taken(Description, Plan),
+    Refused(String),
 }
 
 fn verdict(refusal: &Refusal, place: Option<String>) -> String {
     let words = format!("refused {}: {}\n", refusal.number(), refusal.words());
     words + &place.map_or(String::new(), |place| format!("  {place}\n"))
+}
+
+// The line of a text that the reader refuses, and what is wrong in it. The offset is one in the bytes that the text stands for.
+fn line_words(d: &Description, file: &[u8], number: u8, offset: usize) -> String {
+    let wrong = what(file, number, offset);
+    match field(file, offset).record {
+        Record::Job(job) => format!("line {}: {}\n  {wrong}", d.job_lines[job], job_line(&d.jobs[job])),
+        Record::Row(row) => format!("line {}: {}\n  {wrong}", d.row_lines[row], row_line(&d.rows[row])),
+        Record::Head | Record::End => wrong,
+    }
+}
+
+fn read_text(text: &[u8]) -> Result<Reading, String> {
+    let d = description::parse_bytes(text)?;
+    let file = plan_bytes(&d);
+    Ok(match Plan::read(&file) {
+        Ok(plan) => Reading::Taken(d, plan),
+        Err(refusal) => Reading::Refused(verdict(&refusal, refusal.offset().map(|offset| line_words(&d, &file, refusal.number(), offset)))),
+    })
+}
+
+fn read_file(file: &[u8], speeds: &[u8]) -> Result<Reading, String> {
+    Ok(match Plan::read(file) {
+        Ok(plan) => Reading::Taken(read(file, speeds)?, plan),
+        Err(refusal) => Reading::Refused(verdict(&refusal, refusal.offset().map(|offset| sentence(file, refusal.number(), offset)))),
+    })
+}
+
+// A text begins with a sign, a space or the end of a line; all other control bytes begin none.
+fn is_plan_file(path: &str, bytes: &[u8]) -> bool {
+    let begins_text = |byte: &u8| !byte.is_ascii_control() || byte.is_ascii_whitespace();
+    path.ends_with(PLAN_ENDING) || !bytes.first().map_or(true, begins_text)
 }
 
 fn slot_line(d: &Description, plan: &Plan, run: &mut Run, speed: u16) -> Result<String, Refusal> {
@@ -181,12 +206,8 @@ fn night(d: &Description, plan: &Plan, mut run: Run) -> Result<(String, BTreeMap
     Ok((printed, refused))
 }
 
-// What is printed, what is said of refused speeds, and the exit status.
-fn tried(d: &Description) -> (String, String, i32) {
-    let plan = match Plan::read(&plan_bytes(d)) {
-        Ok(plan) => plan,
-        Err(refusal) => return (verdict(&refusal, line_words(d, refusal.number())), String::new(), REFUSED),
-    };
+// What is printed of a plan that the reader took, what is said of refused speeds, and the exit status.
+fn tried(d: &Description, plan: Plan) -> (String, String, i32) {
     let taken = Taken { d, intervals: d.intervals(), plan };
     let slack = taken.slack_words().map_or(String::new(), |words| format!("{words}\n"));
     let figures = format!("{slack}\n{}", taken.interval_table());
@@ -203,20 +224,40 @@ fn tried(d: &Description) -> (String, String, i32) {
     }
 }
 
+fn load(path: &str) -> Result<Vec<u8>, String> {
+    std::fs::read(path).map_err(|fault| format!("{path}: {fault}"))
+}
+
+fn reading(path: &str, speeds: Option<&str>) -> Result<Reading, String> {
+    let bytes = load(path)?;
+    let read = match (is_plan_file(path, &bytes), speeds) {
+        (true, Some(speeds)) => read_file(&bytes, &load(speeds)?),
+        (true, None) => read_file(&bytes, &[]),
+        (false, Some(_)) => Err("a text has its speeds in it, and no second file is read".to_string()),
+        (false, None) => read_text(&bytes),
+    };
+    read.map_err(|fault| format!("{path}: {fault}"))
+}
+
+fn wrong_use(fault: &str) -> ! {
+    eprintln!("{fault}");
+    exit(WRONG_USE)
+}
+
 fn main() {
     let arguments: Vec<String> = std::env::args().skip(1).collect();
-    if arguments.len() != 1 {
-        eprintln!("{USAGE}");
-        exit(WRONG_USE);
-    }
-    let d = description::load(&arguments[0]).unwrap_or_else(|fault| {
-        eprintln!("try-plan: {fault}");
-        exit(WRONG_USE)
-    });
-    let (printed, said, status) = tried(&d);
+    let read = match &arguments[..] {
+        [path] => reading(path, None),
+        [path, speeds] => reading(path, Some(speeds)),
+        _ => wrong_use(USAGE),
+    };
+    let (printed, said, status) = match read {
+        Ok(Reading::Taken(d, plan)) => tried(&d, plan),
+        Ok(Reading::Refused(words)) => (words, String::new(), REFUSED),
+        Err(fault) => wrong_use(&format!("try-plan: {fault}")),
+    };
     if let Err(fault) = std::io::stdout().write_all(printed.as_bytes()) {
-        eprintln!("try-plan: {fault}");
-        exit(WRONG_USE);
+        wrong_use(&format!("try-plan: {fault}"));
     }
     eprint!("{said}");
     exit(status);
