@@ -6,6 +6,7 @@ use reference::generate::{damaged_input, fixed_files};
 use reference::reader::reader;
 
 const PLAN_E: &[u8] = include_bytes!("../examples/plan-e.plan");
+const PAGE: &str = include_str!("../examples/README.md");
 const SEED: u64 = 1;
 const DRAWN: u64 = 20_000;
 
@@ -97,6 +98,31 @@ fn wrong_rows() {
     let back = "row 3, length byte, byte 101: the row is for job 0, interval 2, and the row before it for job 1, interval 1: \
                 rows must rise by job, then by interval";
     assert_eq!(said(&with(102, b"M")), back);
+}
+
+// The page on the examples has one sentence for each number, and three for 2, of plan E.
+#[test]
+fn the_page_has_these_sentences() {
+    let files = [
+        with(0, &[2]),
+        PLAN_E[..100].to_vec(),
+        cut(48),
+        with(54, &[0, 2]),
+        with(10, &[20]),
+        with(7, &[0, 2]),
+        with(9, &[33]),
+        with(17, b" "),
+        with(33, b"M"),
+        with(41, &[2]),
+        with(24, &[0; 4]),
+        with(54, &[7, 225]),
+        with(57, b"MIRROR-A"),
+        with(110, &[0, 3]),
+        with(82, &[0; 4]),
+        with(102, b"M"),
+    ];
+    let rows: Vec<String> = files.iter().filter_map(|file| refusal(file).map(|(number, _)| format!("| {number} | {} |", said(file)))).collect();
+    assert!(PAGE.contains(&rows.join("\n")), "the page does not have\n{}", rows.join("\n"));
 }
 
 // The field that each number speaks of; 2 may be told of any.
