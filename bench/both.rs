@@ -69,10 +69,10 @@ impl Both {
         Both { plan: plan_words(&plain.plan), run: run_words(&plain.run), plain }
     }
 
-    fn read(&self, plan: &mut [u64; PLAN_WORDS], table: &mut [u32]) -> u32 {
+    fn read(&self, plan: &mut [u64; PLAN_WORDS], table: &mut [u32], offset: &mut usize) -> u32 {
         let file = &self.plain.file;
         // SAFETY: here and below each pointer is valid for the length beside it, and what is written overlaps nothing else.
-        unsafe { gateway_read(file.as_ptr(), file.len(), plan.as_mut_ptr(), PLAN_WORDS, table.as_mut_ptr(), table.len()) }
+        unsafe { gateway_read(file.as_ptr(), file.len(), plan.as_mut_ptr(), PLAN_WORDS, table.as_mut_ptr(), table.len(), offset) }
     }
 
     fn write(&self, table: &[u32], out: &mut [u8], written: &mut usize) -> u32 {
@@ -182,15 +182,16 @@ fn measure(how: How, both: &Both, judged: bool) {
 
 fn measure_read(how: How, both: &Both) {
     let plain = &both.plain;
-    let (mut plan, mut table, mut other) = ([1; PLAN_WORDS], vec![1; PLACES], vec![1; PLACES]);
-    assert_eq!(both.read(&mut plan, &mut table), 0);
+    let (mut plan, mut table, mut offset, mut other) = ([1; PLAN_WORDS], vec![1; PLACES], 1, vec![1; PLACES]);
+    assert_eq!(both.read(&mut plan, &mut table, &mut offset), 0);
+    assert_eq!(offset, 0);
     assert_eq!(read(&plain.file, &mut other).map(|plan| plan_words(&plan)), Ok(plan));
     assert!(table == other && table == plain.table && plan == both.plan);
     section(how, "read", "plain", || {
         black_box(&read(black_box(&plain.file), black_box(&mut other)));
     });
     section(how, "read", "ours", || {
-        black_box(black_box(both).read(black_box(&mut plan), black_box(&mut table)));
+        black_box(black_box(both).read(black_box(&mut plan), black_box(&mut table), black_box(&mut offset)));
     });
 }
 
@@ -365,7 +366,7 @@ fn stacks_of(both: &mut Both, speed: u64) -> [(u64, usize); 8] {
     let mut plan = both.plan;
     let mut table = both.plain.table.clone();
     let mut out = vec![0_u8; LARGEST_FILE];
-    let (mut written, mut least) = (0_usize, 0_i64);
+    let (mut written, mut least, mut offset) = (0_usize, 0_i64, 0_usize);
     let mut location = [0_u64; LOCATION_WORDS];
     let mut grants = [0_u32; MOST_JOBS];
     let mut fresh = both.run;
@@ -387,6 +388,7 @@ fn stacks_of(both: &mut Both, speed: u64) -> [(u64, usize); 8] {
     let outcome = stack_of(gateway_outcome as *const (), &[&in_hand[..2], &run, &[0]].concat());
     let name = stack_of(gateway_name as *const (), &[file, file_length, 0]);
     // The reader last, since it writes plan and table.
-    let read = stack_of(gateway_read as *const (), &[file, file_length, words, plan_length, cells, places]);
+    let offset = &mut offset as *mut usize as u64;
+    let read = stack_of(gateway_read as *const (), &[file, file_length, words, plan_length, cells, places, offset]);
     [read, write, name, judge, slack, start, step, outcome]
 }

@@ -6,7 +6,7 @@ use bench::inputs::{Input as Measured, Shape, LARGEST_FILE};
 use bench::{Fault, Job, Plan, Run, Slack, Verdict, MOST_JOBS, PLACES};
 use reference::generate::{file, fixed_files, fixed_hands, hand, FileInput, HandInput, Lent};
 use reference::judge::judge;
-use reference::reader::reader;
+use reference::reader::{reader, Answer};
 use reference::refusal::{self, Refusal};
 use reference::run::{start, step};
 use reference::slack::{slack_figure, SlackFigure};
@@ -121,7 +121,7 @@ fn compare_steps(
 fn compare_file(input: &FileInput) {
     let (mut our_table, mut table) = (marked(input.lent.table), marked(input.lent.table));
     let answer = bench::read(&input.file, &mut our_table);
-    let (number, plan) = reader(&input.file, &mut table);
+    let Answer { number, plan, .. } = reader(&input.file, &mut table);
     assert!(our_table == table);
     if number != refusal::DONE {
         assert_eq!(answer, Err(number));
@@ -174,7 +174,7 @@ fn compare_measured(input: &Measured, is_accepted: bool) {
         speeds: vec![input.plan.n; 700],
     });
     let mut table = marked(PLACES);
-    let (number, plan) = reader(&input.file, &mut table);
+    let Answer { number, plan, .. } = reader(&input.file, &mut table);
     assert_eq!(number, refusal::DONE);
     assert_eq!(plan_of(&plan), input.plan);
     assert_eq!(table, input.table);
