@@ -52,7 +52,7 @@ const INTERVAL_IN: usize = 9;
 const JOB_BYTES: usize = 1 + JOB_LENGTH as usize;
 const ROW_BYTES: usize = 1 + ROW_LENGTH as usize;
 
-/// A plan file whose fields may be wrong. What stands past its end counts as 0.
+/// A plan file whose fields may be wrong. Of a field that is cut, the bytes that are there count.
 struct File<'a>(&'a [u8]);
 
 impl File<'_> {
@@ -76,10 +76,10 @@ impl File<'_> {
         self.0.iter().skip(at).take(length).copied()
     }
 
-    // The name that stands here; bytes that no name may have are escaped.
+    // The name that stands here; a byte that no text shows is written as its number.
     fn name(&self, at: usize) -> String {
-        let escaped: String = self.bytes(at, NAME_BYTES).flat_map(std::ascii::escape_default).map(char::from).collect();
-        format!("`{escaped}`")
+        let shown: String = self.bytes(at, NAME_BYTES).map(shown_byte).collect();
+        format!("`{shown}`")
     }
 
     // The first job that has the name that stands here.
@@ -102,6 +102,13 @@ impl File<'_> {
         add_fields(&mut fields, Record::Head, &ROW_COUNT);
         (0..self.rows()).for_each(|row| add_fields(&mut fields, Record::Row(row), &ROW));
         fields
+    }
+}
+
+fn shown_byte(byte: u8) -> String {
+    match byte {
+        b' '..=b'~' => char::from(byte).to_string(),
+        _ => format!("\\x{byte:02X}"),
     }
 }
 
@@ -174,7 +181,7 @@ fn extent_words(file: &File, field: Field) -> String {
     }
     if there >= field.length {
         let (said, follow) = (file.number(field.at, field.length), there - field.length);
-        return format!("the length is {}, and {} follow it", grouped(said), bytes(follow));
+        return format!("the length is {}, and after it the file has {}", grouped(said), bytes(follow));
     }
     let counted = match field.record {
         Record::Job(_) => format!(", and the job count is {}", file.jobs()),

@@ -56,8 +56,9 @@ fn wrong_heads() {
 #[test]
 fn wrong_extents() {
     assert_eq!(said(&PLAN_E[..3]), "length, byte 1: the file ends after 2 of its 4 bytes");
-    assert_eq!(said(&PLAN_E[..100]), "length, byte 1: the length is 111, and 95 bytes follow it");
-    assert_eq!(said(&[PLAN_E, &[0, 2]].concat()), "length, byte 1: the length is 111, and 113 bytes follow it");
+    assert_eq!(said(&PLAN_E[..100]), "length, byte 1: the length is 111, and after it the file has 95 bytes");
+    assert_eq!(said(&[PLAN_E, &[0, 2]].concat()), "length, byte 1: the length is 111, and after it the file has 113 bytes");
+    assert_eq!(said(&[1, 0, 0, 0, 0, 7]), "length, byte 1: the length is 0, and after it the file has 1 byte");
     assert_eq!(said(&cut(5)), "normal rate, byte 5: the file ends before it");
     assert_eq!(said(&cut(32)), "job 1, length byte, byte 32: the file ends before it, and the job count is 2");
     assert_eq!(said(&cut(48)), "job 1, size, byte 46: the file ends after 2 of its 4 bytes, and the job count is 2");
@@ -72,7 +73,7 @@ fn wrong_extents() {
 fn wrong_jobs() {
     assert_eq!(said(&with(10, &[20])), "job 0, length byte, byte 10: the length byte is 20, and a job has 21");
     assert_eq!(said(&with(17, b" ")), "job 0, name, byte 11: the name is `Mirror A`, with 0x20: the bytes of a name are from 0x21 to 0x7E");
-    let two = "job 1, name, byte 33: the name is `\\x00irror-\\xc3`, with 0x00 and 0xC3: the bytes of a name are from 0x21 to 0x7E";
+    let two = "job 1, name, byte 33: the name is `\\x00irror-\\xC3`, with 0x00 and 0xC3: the bytes of a name are from 0x21 to 0x7E";
     assert_eq!(said(&with(33, b"\0irror-\xc3")), two);
     assert_eq!(said(&with(33, b"M")), "job 1, name, byte 33: the name is `Mirror-A`, and job 0 has it already");
     assert_eq!(said(&with(41, &[2])), "job 1, grade, byte 41: the grade is 2, and must be 0 (LO) or 1 (HI)");
