@@ -101,7 +101,8 @@ opening newest compared = do
   extent compared
   done v
 
--- The end of the file: the offset must be the file's length; otherwise it is the first byte that is left.
+-- The end of the file: the offset must be the file's length; otherwise it is refused at the offset, which is
+-- the first byte that is left if it is inside the file.
 unfoldable pub ended : Parser (Unit {0})
 ended = do
   from ← here

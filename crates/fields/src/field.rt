@@ -1,5 +1,6 @@
 // Reading one field of 1, 2, 4 or 8 bytes, highest byte first.
-// Every byte of a file is read through `read_field`.
+// Every field of a file is read through `read_field`; `planfile::extent`, which is asked before there is a whole
+// file, looks at the bytes of the length field by itself.
 use plan::refusal::DONE;
 use plan::refusal::Refusal;
 use plan::refusal::WRONG_EXTENT;

@@ -12,7 +12,8 @@ use planfile::reader::read;
 use planwriter::writer::write;
 ghost use Rattle.gateway.specs.Answers.{HostReads, HostWrites, HostShows};
 
-// Reads a plan file into the lent plan and table, and returns in `offset` where a refused file is wrong;
+// Reads a plan file into the lent plan and table, and returns in `offset` where a refused file is wrong, or 0
+// if it was read or the table is too short;
 // 22 with nothing changed if the plan is too short.
 #[no_mangle]
 pub extern "C" fn gateway_read(

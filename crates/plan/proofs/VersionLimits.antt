@@ -1,4 +1,4 @@
--- Whatever a plan file of a version may hold fits into a plan in hand; what is written fits its version.
+-- As many jobs as a file of a version may have fit into a plan in hand; what is written fits its version.
 use mathlib.Core.Path.{_≡_}
 use mathlib.Core.Bool.{true}
 use Prim.Native.Nat.{ℕ, _*_, _-_, _≤_}

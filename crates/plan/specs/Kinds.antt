@@ -23,7 +23,7 @@ Position = ℕ
 abbrev pub Interval : Type 0
 Interval = ℕ
 
--- The index of a byte in a file.
+-- An index into a file's bytes, or the file's length.
 abbrev pub Offset : Type 0
 Offset = ℕ
 

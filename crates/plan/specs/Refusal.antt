@@ -1,6 +1,7 @@
 -- A refusal, and the refusal numbers, by name.
 use Prim.Native.Nat.{ℕ}
 use Rattle.plan.specs.Kinds.{Number, Offset}
+use Rattle.plan.specs.Report.{doneNumber}
 use Rattle.plan.specs.declared.refusal.Refusal as code
 
 -- A refusal as every reading step hands it on: its `number`, and the `offset` of the first byte of the
@@ -14,9 +15,9 @@ refusalAt number offset = record { number = number; offset = offset }
 
 -- What stands where nothing is refused: no refusal has this number.
 abbrev pub noRefusal : Refusal
-noRefusal = refusalAt 0 0
+noRefusal = refusalAt doneNumber 0
 
--- There is no first byte, or it is not the version.
+-- There is no first byte, or it is no version of plan files.
 abbrev pub wrongVersion : ℕ
 wrongVersion = 1
 

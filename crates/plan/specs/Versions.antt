@@ -1,5 +1,5 @@
 -- What a plan file of a version may hold. The room of a plan in hand (`mostJobs`, `mostIntervals`, `places`)
--- is apart from it, and is enough for every version (proofs/VersionLimits).
+-- is apart from it; it has a record for every job of a file (`count-fits`, proofs/VersionLimits).
 use mathlib.Core.Bool.{Bool, _&&_}
 use Prim.Native.Nat.{ℕ}
 use lib.Dec.{leb}

@@ -3,6 +3,8 @@
 pub struct Edition();
 
 impl Edition {
+    pub const LEAST_JOBS: usize = 1;
+
     pub const MOST_JOBS: usize = 32;
 
     pub const MOST_BOUNDARIES: usize = 2 * Self::MOST_JOBS;

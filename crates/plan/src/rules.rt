@@ -1,4 +1,4 @@
-// Rules 4 to 9, each on single values and over a plan in hand, and rules 5 to 9 over a list of jobs.
+// Rules 4 to 9 on single values, rules 6 to 9 over a plan in hand, and rules 5 to 9 over a list of jobs.
 use crate::edition::Edition;
 use crate::kinds::HI;
 use crate::kinds::JobList;

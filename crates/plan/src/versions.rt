@@ -8,7 +8,7 @@ ghost use Rattle.plan.specs.Versions.{countAllowedIn, rowsAllowedIn, ver
 pub fn count_allowed_in(version: u8, count: u64) -> bool
     ensures { λ r. ⌜ r ≡ countAllowedIn version count ⌝ }
 {
-    (1 <= count) & (count <= Edition::MOST_JOBS as u64)
+    (Edition::LEAST_JOBS as u64 <= count) & (count <= Edition::MOST_JOBS as u64)
 }
 
 // Rule 10 for a file of a version.

@@ -111,9 +111,9 @@ pub fn read_job(file: &[u8], at: usize, earlier: &[u64]) -> JobRead
     let Field::Value(size, after_size) = sized else {
         return JobRead::Refused(field_refusal(sized));
     };
-    let dead = read_four(file, after_size);
-    let Field::Value(deadline, next) = dead else {
-        return JobRead::Refused(field_refusal(dead));
+    let deadline_read = read_four(file, after_size);
+    let Field::Value(deadline, next) = deadline_read else {
+        return JobRead::Refused(field_refusal(deadline_read));
     };
     let job = Job {
         name: Name(name),

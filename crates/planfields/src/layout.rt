@@ -5,10 +5,10 @@ pub struct Layout();
 
 impl Layout {
     // The version byte and the length field, which counts the bytes after these two.
-    pub const OPENING_BYTES: usize = 5;
+    pub const OPENING_BYTES: usize = 1 + 4;
 
     // The opening, both rates and the job count.
-    pub const HEADER_BYTES: usize = Self::OPENING_BYTES + 5;
+    pub const HEADER_BYTES: usize = Self::OPENING_BYTES + 2 + 2 + 1;
 
     // The values of the length bytes of a job and of a row:
     // the number of bytes after the length byte.

@@ -1,5 +1,5 @@
 -- Laws of the written file, and what soundness gives the writer.
-use mathlib.Core.Path.{_≡_, refl}
+use mathlib.Core.Path.{_≡_, refl, ap}
 use mathlib.Core.Bool.{true, false}
 use mathlib.Core.List.{List, _++_}
 use Prim.Native.Nat.{ℕ, _+_, _*_, _≤_, _<_, _^_}
@@ -9,17 +9,21 @@ use lib.ListN.{length, take, length-append}
 use lib.Seq.{sets, length-take-le}
 use Rattle.plan.specs.Edition.{mostJobs, mostIntervals, places}
 use Rattle.planfields.specs.Layout.{jobLength, rowLength}
-use Rattle.plan.specs.Versions.{versionFor}
+use Rattle.plan.specs.Versions.{rowsAllowedIn, versionFor}
 use Rattle.plan.specs.Refusal.{unsound, bufferTooShort}
 use Rattle.plan.specs.Rules.{counted, names, size}
+use Rattle.plan.specs.Boundaries.{intervals}
 use Rattle.plan.specs.Table.{sound}
 use Rattle.plan.specs.declared.kinds.Plan.{Plan}
 use Rattle.fields.specs.Bytes.{bytes}
 use Rattle.planwriter.specs.Writing.{WriteEffect, wrote, withheld, jobsBytes, rowsBytes, rowCount, body, written, writer}
-use Rattle.plan.proofs.Soundness.{sound-parts, sound-bounded}
+use Rattle.plan.proofs.Soundness.{rules-parts, sound-parts, sound-bounded}
+use Rattle.plan.proofs.BoundaryOrder.{boundaries-few}
+use Rattle.plan.proofs.VersionLimits.{rows-written}
 use Rattle.planwriter.specs.inner.Writable.{Writable}
 use Rattle.fields.proofs.ByteLaws.{length-bytes}
 use Rattle.planwriter.proofs.JobAndRowBytes.{jobs-long, rows-long, count-few}
+use Rattle.planwriter.proofs.JobRows.{count-within}
 use Rattle.base.proofs.Stores.{sets-whole}
 
 pub counted-is : (p : Plan) → p .count ≤ mostJobs → counted p ≡ p .count
@@ -34,6 +38,17 @@ writable p table e long =
       exact = length-take-le places table long;
       clear = sound-parts p table e .clear;
     }
+
+-- A sound plan has at most a row for each job and interval, and so no more rows than its version allows.
+pub rows-allowed : (p : Plan) (table : List ℕ) → sound p table ≡ true → places ≤ length table → rowsAllowedIn (versionFor (p .count)) (rowCount (take places table)) ≡ true
+rows-allowed p table e long =
+    let own = take places table in
+    let few = sound-bounded p table e .few in
+    let many = counted-is p few in
+    let parts = sound-parts p table e in
+    let within = count-within own (counted p) (intervals p) (parts .clear) (omega (arith, boundaries-few p (counted p), many, few)) (omega (arith, length-take-le places table long, many, few)) in
+    rows-written (p .count) (intervals p) (rowCount own) (rules-parts p (parts .rules) .count) (omega (arith, boundaries-few p (counted p), many))
+    (omega (arith, within, ap (λ k. k * intervals p) many))
 
 -- The body as a concatenation, and the lengths of body and file.
 pub body-of : (p : Plan) (table : List ℕ) {rows : ℕ} {ns : List ℕ} → p .count ≤ mostJobs → rows ≡ rowCount table → ns ≡ names p

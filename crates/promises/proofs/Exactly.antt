@@ -29,7 +29,7 @@ use Rattle.dispatch.specs.declared.Run.{Run}
 use Rattle.dispatch.specs.Dues.{carriedOf}
 use Rattle.dispatch.specs.Step as step
 use Rattle.dispatch.specs.Step.{Ending, slotSound, slotFault, stepped, outcome}
-use Rattle.promises.specs.Grounds.{Rule4, Rule5, Rule6, Rule7, Rule8, Rule9, NoStray, SoundPlan, SoundRun, fileLength, WriterDecided, table-short, plan-unsound, output-short, file-written, StepDecided, run-unsound, buffer-short, at-end, too-fast, slot-done, Asked, OutcomeDecided, not-asked, all-carried, dropped, late, waiting}
+use Rattle.promises.specs.Grounds.{Rule4, Rule5, Rule6, Rule7, Rule8, Rule9, NoStray, SoundPlan, SoundRun, writtenLength, WriterDecided, table-short, plan-unsound, output-short, file-written, StepDecided, run-unsound, buffer-short, at-end, too-fast, slot-done, Asked, OutcomeDecided, not-asked, all-carried, dropped, late, waiting}
 use Rattle.promises.proofs.Progress.{answer-is-fault}
 
 -- A conjunction of tests decides the conjunction of what they decide.
@@ -248,9 +248,9 @@ module _ (p : Plan) (table out : List ℕ) where
   only-written a (plan-unsound long lack) =
       rw (le-ltb (length table) places long, fails (sound p table) (sound-exactly p table) lack) refl
   only-written a (output-short long f l) =
-      rw (le-ltb (length table) places long, sound-exactly p table .1 f, lt-ltb (length out) (fileLength p table) l) refl
+      rw (le-ltb (length table) places long, sound-exactly p table .1 f, lt-ltb (length out) (writtenLength p table) l) refl
   only-written a (file-written long f l) =
-      rw (le-ltb (length table) places long, sound-exactly p table .1 f, le-ltb (length out) (fileLength p table) l) refl
+      rw (le-ltb (length table) places long, sound-exactly p table .1 f, le-ltb (length out) (writtenLength p table) l) refl
 
   some-written : (a : writing.Answer) × WriterDecided p table out a
   some-written =
@@ -259,9 +259,9 @@ module _ (p : Plan) (table out : List ℕ) where
       (λ long. if-true (sound p table)
       (λ e.
       let f = sound-exactly p table .0 e in
-      if-less (length out) (fileLength p table)
+      if-less (length out) (writtenLength p table)
       (λ l. (writing.refused bufferTooShort, output-short long f l))
-      (λ l. (wrote (fileLength p table), file-written long f l)))
+      (λ l. (wrote (writtenLength p table), file-written long f l)))
       (λ e. (writing.refused unsound, plan-unsound long (lacks (sound p table) (sound-exactly p table) e))))
 
   -- The writer gives each answer exactly when `WriterDecided` says so.

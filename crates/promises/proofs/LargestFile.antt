@@ -4,9 +4,12 @@ use mathlib.Core.Bool.{Bool, true, false, not, cond}
 use mathlib.Core.List.{List, [], _∷_, _++_}
 use Prim.Native.Nat.{ℕ, zero, suc, _+_, _≤_, _<_}
 use native.Mathlib.Omega.{arith}
+use borrow.Author.Tests.{leb-true, ltb-false}
 use lib.Dec.{ltb, lit≤}
-use lib.ListN.{length, getD, take, drop, replicate, length-take}
+use lib.ListN.{length, getD, take, drop, replicate}
+use lib.Seq.{take-all}
 use Rattle.plan.specs.Edition.{mostJobs, places}
+use Rattle.plan.specs.Versions.{mostRowsIn, versionFor}
 use Rattle.base.specs.Below
 use Rattle.plan.specs.Refusal.{unsound, bufferTooShort}
 use Rattle.plan.specs.Rules.{hi, nameAllowed, namesHold, namesDiffer, gradesHold, boundsHold, rulesHold}
@@ -16,9 +19,8 @@ use Rattle.plan.specs.declared.kinds.Job.{Job}
 use Rattle.plan.specs.declared.kinds.Plan.{Plan}
 use Rattle.planfile.specs.Reader.{reader}
 use Rattle.planwriter.specs.Writing.{wrote, withheld, rowCount, written, writer}
-use Rattle.planwriter.proofs.JobAndRowBytes.{count-few}
 use Rattle.plan.proofs.Soundness.{sound-bounded}
-use Rattle.planwriter.proofs.WrittenFile.{body-long, written-long}
+use Rattle.planwriter.proofs.WrittenFile.{rows-allowed, body-long, written-long}
 use Rattle.roundtrip.proofs.WriteAfterRead.{write-after-read}
 use Rattle.roundtrip.proofs.ReadSound.{read-proper}
 use Rattle.planfields.specs.Layout.{largestFile}
@@ -30,10 +32,12 @@ pub largest-file-is : largestFile ≡ 30_956
 largest-file-is = refl
 
 -- The file of a sound plan is at most the largest file.
-file-fits : (p : Plan) (table own : List ℕ) → sound p table ≡ true → length own ≤ places → length (written p own) ≤ largestFile
-file-fits p table own e short =
+file-fits : (p : Plan) (table : List ℕ) → sound p table ≡ true → places ≤ length table → length (written p (take places table)) ≤ largestFile
+file-fits p table e long =
+    let own = take places table in
     let few = sound-bounded p table e .few in
-    omega (arith, written-long p own, body-long p own few, few, count-few own)
+    let rows = leb-true (rowCount own) (mostRowsIn (versionFor (p .count))) (rows-allowed p table e long) in
+    omega (arith, written-long p own, body-long p own few, few, rows)
 
 -- So is every file that the reader takes.
 pub taken-file-fits : (file table : List ℕ) → ((k : ℕ) → getD file k 0 < 256) → reader file table .answer ≡ [] → length file ≤ largestFile
@@ -43,28 +47,29 @@ taken-file-fits file table octets e =
     omega (
       arith,
       ap length (write-after-read file octets (t .2)),
-      file-fits (t .0 .plan) (t .0 .table) (t .0 .table) (proper .is) (omega (arith, proper .exact)),
+      ap (λ l. length (written (t .0 .plan) l)) (take-all places (t .0 .table) (omega (arith, proper .exact))),
+      file-fits (t .0 .plan) (t .0 .table) (proper .is) (omega (arith, proper .exact)),
     )
 
 -- And every file that the writer writes.
 pub written-file-fits : (p : Plan) (table out : List ℕ) (n : ℕ) → writer p table out .answer ≡ wrote n → n ≤ largestFile
 unfolding writer
-written-file-fits p table out n e = by (ltb (length table) places) (sound p table) refl (ltb (length out) (length file)) e
+written-file-fits p table out n e = by (ltb (length table) places) refl (sound p table) refl (ltb (length out) (length file)) e
   where
     file : List ℕ
     file = written p (take places table)
 
-    by : (a b : Bool) → sound p table ≡ b → (c : Bool)
+    by : (a : Bool) → ltb (length table) places ≡ a → (b : Bool) → sound p table ≡ b → (c : Bool)
         → cond a (withheld bufferTooShort out)
         (cond (not b) (withheld unsound out)
         (cond c (withheld bufferTooShort out) (record { answer = wrote (length file); out = file ++ drop (length file) out })))
         .answer ≡ wrote n → n ≤ largestFile
-    by true b s c e = absurd (let z : _≡_ {A = ℕ} 0 1 = cc in omega arith)
-    by false false s c e = absurd (let z : _≡_ {A = ℕ} 0 1 = cc in omega arith)
-    by false true s true e = absurd (let z : _≡_ {A = ℕ} 0 1 = cc in omega arith)
-    by false true s false e =
+    by true l b s c e = absurd (let z : _≡_ {A = ℕ} 0 1 = cc in omega arith)
+    by false l false s c e = absurd (let z : _≡_ {A = ℕ} 0 1 = cc in omega arith)
+    by false l true s true e = absurd (let z : _≡_ {A = ℕ} 0 1 = cc in omega arith)
+    by false l true s false e =
         let is : length file ≡ n = cc in
-        omega (arith, file-fits p table (take places table) s (omega (arith, length-take places table)))
+        omega (arith, file-fits p table s (ltb-false (length table) places l))
 
 -- `job----!`; the names of the plan below count on from it.
 abbrev firstName : ℕ

@@ -3,7 +3,7 @@
 use mathlib.Core.Path.{_≡_, refl, sym, _∙_, ap, ap₂}
 use mathlib.Core.Bool.{Bool, true, false}
 use mathlib.Core.List.{List, [], _∷_, _++_, map}
-use Prim.Native.Nat.{ℕ, _+_, _≤_, _<_}
+use Prim.Native.Nat.{ℕ, suc, _+_, _≤_, _<_}
 use borrow.Author.Tests.{lt-ltb}
 use lib.IntN.{pos}
 use lib.ListN.{length, replicate}
@@ -86,7 +86,9 @@ abbrev headCases : List FileCase
 headCases =
     -- No first byte is 1, and a wrong one is 1 although the length field is missing.
     gives [] wrongVersion 0
-    ∷ gives (2 ∷ []) wrongVersion 0
+    ∷ gives (suc newestVersion ∷ []) wrongVersion 0
+    -- A length field that is missing is 2.
+    ∷ gives (bytes 1 newestVersion) wrongExtent 1
     -- A wrong length field is 2 although the rates are wrong.
     ∷ gives (bytes 1 newestVersion ++ bytes 4 9 ++ bytes 2 2 ++ bytes 2 2) wrongExtent 1
     -- n is out of bounds, but d is cut.
@@ -104,6 +106,8 @@ jobCases =
     -- A wrong length byte is 3 although the name is cut, or has a byte that it may not have.
     gives (whole (oneHead ++ bytes 1 (jobLength + 1) ++ bytes 1 0)) wrongRecordLength 10
     ∷ gives (whole (oneHead ++ jobFields (jobLength + 1) spacedMirror lo 0 6 5)) wrongRecordLength 10
+    -- A job that would begin at the end of the file is 2 there.
+    ∷ gives (whole oneHead) wrongExtent 10
     -- A name that is cut is 2 although its first byte is wrong.
     ∷ gives (whole (oneHead ++ bytes 1 jobLength ++ bytes 1 0x20)) wrongExtent 11
     -- A wrong name is 6, and a name that is taken is 7, although the grade is wrong. (Both cannot

@@ -4,11 +4,13 @@ use mathlib.Core.Logic.{_⊎_, inl, inr, ⊎-elim}
 use mathlib.Core.Bool.{Bool, true, false, not, _&&_}
 use mathlib.Core.List.{List, [], _∷_}
 use Prim.Native.Nat.{ℕ, zero, suc, _+_, _*_, _≤_, _<_}
+use native.Mathlib.Nat.{eq-or-lt-of-le}
 use native.Mathlib.Omega.{arith}
+use borrow.Author.Tests.{eqb-false}
 use lib.Dec.{leb, ltb, eqb}
 use lib.ListN.{length}
 use Rattle.plan.specs.Refusal.{wrongExtent, tooManyRows}
-use Rattle.plan.specs.Edition.{places}
+use Rattle.plan.specs.Edition.{nameBytes, places}
 use Rattle.plan.specs.Versions.{newestVersion, countAllowedIn, rowsAllowedIn}
 use Rattle.plan.specs.Report.{Report, orElse, first}
 use Rattle.plan.specs.Rules.{ratesAllowed, nameAllowed, isAbsent, gradeAllowed, windowAllowed, sizeAllowed}
@@ -16,15 +18,15 @@ use Rattle.plan.specs.Boundaries.{intervals}
 use Rattle.base.proofs.Logic.{below-or-last}
 use Rattle.plan.proofs.Reports.{or-none, or-empty}
 use Rattle.fields.specs.Parsers.{isVersion}
-use Rattle.planfields.specs.Layout.{headerBytes, jobLength, rowLength, rowCountBytes}
+use Rattle.planfields.specs.Layout.{openingBytes, headerBytes, jobLength, rowLength, rowCountBytes}
 use Rattle.planfile.specs.Reader.{namesOf, position, reader}
-use Rattle.promises.specs.FileFaults.{valueAt, cutAt, unlessAt, fieldFaults, headFaults, headIn, nameFrom, jobFrom, jobIn, jobsIn, jobFaultsAt, jobFaults, intervalFrom, unitsFrom, rowFrom, rowIn, rowFaultsAt, lowestAt, fileJobs, filePlan, rowCountFrom, rowsFrom, rowsSaid, endOf, preambleFault, fileRowFaults, fileFault, WrongInHead, WrongInJob, WrongRowCount, WrongInRow, WrongAt}
+use Rattle.promises.specs.FileFaults.{lengthFrom, valueAt, cutAt, unlessAt, fieldFaults, headFaults, headIn, nameFrom, jobFrom, jobAt, jobsIn, jobFaultsAt, jobFaults, intervalFrom, unitsFrom, rowFrom, rowIn, rowFaultsAt, lowestAt, fileJobs, filePlan, rowCountFrom, rowsFrom, rowsSaid, endOf, preambleFault, fileRowFaults, fileFault, WrongInHead, WrongInJob, WrongRowCount, WrongInRow, WrongAt}
 use Rattle.promises.specs.FileFaults.{head-version, head-length-field, head-normal-cut, head-floor-cut, head-rates, head-count-cut, head-count-other}
 use Rattle.promises.specs.FileFaults.{job-length-cut, job-length-other, job-name-cut, job-name-byte, job-name-taken, job-grade-cut, job-grade-other, job-release-cut, job-size-cut, job-deadline-cut, job-bounds}
 use Rattle.promises.specs.FileFaults.{rows-count-cut, rows-too-many}
 use Rattle.promises.specs.FileFaults.{row-length-cut, row-length-other, row-name-cut, row-name-of-no-job, row-interval-cut, row-interval-other, row-units-cut, row-units-none, row-out-of-order}
 use Rattle.promises.specs.FileFaults.{in-head, in-job, in-row-count, in-row, left-over}
-use Rattle.promises.proofs.ReaderExactly.{reader-exactly}
+use Rattle.promises.proofs.ReaderExactly.{offset-inside, reader-exactly}
 
 -- A report is empty, or a number and an offset of which P holds.
 abbrev Each : (P : ℕ → ℕ → Type 0) → Report → Type 0
@@ -62,15 +64,15 @@ module _ (file : List ℕ) where
       let P = WrongInHead in
       let h = headIn file in
       (unless P (leb 1 (length file) && isVersion newestVersion (h .version)) head-version or cut P 4 head-length-field
-      or unless P (eqb (5 + valueAt file 4 1) (length file)) head-length-field)
+      or unless P (eqb (openingBytes + valueAt file 4 lengthFrom) (length file)) head-length-field)
       or cut P 2 head-normal-cut or cut P 2 head-floor-cut or unless P (ratesAllowed (h .n) (h .d)) head-rates
       or cut P 1 head-count-cut or unless P (countAllowedIn (h .version) (h .count)) head-count-other
 
   in-the-job : (earlier : List ℕ) (at : ℕ) → Told (WrongInJob at) (jobFaultsAt file earlier at)
   in-the-job earlier at =
       let P = WrongInJob at in
-      let j = jobIn file at in
-      ((cut P 1 job-length-cut or unless P (eqb (valueAt file 1 at) jobLength) job-length-other) or cut P 8 job-name-cut
+      let j = jobAt file at in
+      ((cut P 1 job-length-cut or unless P (eqb (valueAt file 1 at) jobLength) job-length-other) or cut P nameBytes job-name-cut
       or unless P (nameAllowed (j .name .0)) job-name-byte or unless P (isAbsent earlier (j .name .0)) job-name-taken)
       or (cut P 1 job-grade-cut or unless P (gradeAllowed (j .grade)) job-grade-other)
       or cut P 4 job-release-cut or cut P 4 job-size-cut or cut P 4 job-deadline-cut
@@ -82,8 +84,8 @@ module _ (file : List ℕ) where
   in-the-row : (names : List ℕ) (spans low at : ℕ) → Told (WrongInRow at) (rowFaultsAt file names spans low at)
   in-the-row names spans low at =
       let P = WrongInRow at in
-      ((cut P 1 row-length-cut or unless P (eqb (valueAt file 1 at) rowLength) row-length-other) or cut P 8 row-name-cut
-      or unless P (ltb (position names (valueAt file 8 (nameFrom at))) (length names)) row-name-of-no-job)
+      ((cut P 1 row-length-cut or unless P (eqb (valueAt file 1 at) rowLength) row-length-other) or cut P nameBytes row-name-cut
+      or unless P (ltb (position names (valueAt file nameBytes (nameFrom at))) (length names)) row-name-of-no-job)
       or (cut P 2 row-interval-cut or unless P (ltb (valueAt file 2 (intervalFrom at)) spans) row-interval-other)
       or (cut P 4 row-units-cut or unless P (not (eqb (valueAt file 4 (unitsFrom at)) 0)) row-units-none)
       or unless P (leb low (rowIn file names at .at)) row-out-of-order
@@ -126,26 +128,39 @@ fault-at-a-field file e =
     ⊎-elim (λ early. before-rows early) (λ late. ⊎-elim
     (λ in-rows.
     let s = first-said (fileRowFaults file) (rowsSaid file) in-rows in
-    in-row (s .at) (s .below) (late .0) (s .before) (said (in-the-row file (namesOf (fileJobs file)) (intervals (filePlan file)) (lowestAt file (namesOf (fileJobs file)) (rowsFrom file) (s .at)) (rowFrom (rowsFrom file) (s .at))) (s .is)))
-    (λ rest. leftover (rest .1) (left-over (late .0) (none-before (fileRowFaults file) (rowsSaid file) (rest .0))))
+    in-row (s .at) (s .below) (late .0) (s .before) (s .is) (said (in-the-row file (namesOf (fileJobs file)) (intervals (filePlan file)) (lowestAt file (namesOf (fileJobs file)) (rowsFrom file) (s .at)) (rowFrom (rowsFrom file) (s .at))) (s .is)))
+    (λ rest. leftover (late .0) (none-before (fileRowFaults file) (rowsSaid file) (rest .0)) (within e) (rest .1))
     (or-said (first (fileRowFaults file) (rowsSaid file)) _ (late .1)))
     (or-said (preambleFault file) _ e)
   where
     before-rows : {number offset : ℕ} → preambleFault file ≡ number ∷ offset ∷ [] → WrongAt file number offset
     before-rows e =
-        ⊎-elim (λ in-front. in-head (said (in-the-head file) in-front)) (λ late. ⊎-elim
+        ⊎-elim (λ in-front. in-head in-front (said (in-the-head file) in-front)) (λ late. ⊎-elim
         (λ in-jobs.
         let s = first-said (jobFaults file) (headIn file .count) in-jobs in
-        in-job (s .at) (s .below) (late .0) (s .before) (said (in-the-job file (namesOf (jobsIn file (s .at))) (jobFrom (s .at))) (s .is)))
-        (λ rest. in-row-count (late .0) (none-before (jobFaults file) (headIn file .count) (rest .0)) (said (in-the-row-count file (rowCountFrom file) (rowsAllowedIn (headIn file .version))) (rest .1)))
+        in-job (s .at) (s .below) (late .0) (s .before) (s .is) (said (in-the-job file (namesOf (jobsIn file (s .at))) (jobFrom (s .at))) (s .is)))
+        (λ rest. in-row-count (late .0) (none-before (jobFaults file) (headIn file .count) (rest .0)) (rest .1) (said (in-the-row-count file (rowCountFrom file) (rowsAllowedIn (headIn file .version))) (rest .1)))
         (or-said (first (jobFaults file) (headIn file .count)) _ (late .1)))
         (or-said (headFaults file) _ e)
 
-    leftover : {number offset : ℕ} → unlessAt (eqb (endOf file) (length file)) wrongExtent (endOf file) ≡ number ∷ offset ∷ [] → WrongAt file wrongExtent (endOf file) → WrongAt file number offset
-    leftover e w = said (unless (WrongAt file) (eqb (endOf file) (length file)) w) e
+    within : {number offset : ℕ} → fileFault file ≡ number ∷ offset ∷ [] → offset ≤ length file
+    within e = (rw e at (offset-inside file)) .0
 
--- For every refused file the number and the offset name a field of the layout, and no record before it is
--- wrong.
+    leftover : preambleFault file ≡ [] → ((k : ℕ) → k < rowsSaid file → fileRowFaults file k ≡ []) → {number offset : ℕ} → offset ≤ length file
+        → unlessAt (eqb (endOf file) (length file)) wrongExtent (endOf file) ≡ number ∷ offset ∷ [] → WrongAt file number offset
+    leftover early rows h is = by (eqb (endOf file) (length file)) refl h is
+      where
+        by : (t : Bool) → eqb (endOf file) (length file) ≡ t → {number offset : ℕ} → offset ≤ length file → unlessAt t wrongExtent (endOf file) ≡ number ∷ offset ∷ []
+            → WrongAt file number offset
+        by true e h is = absurd (let z : _≡_ {A = ℕ} 0 1 = cc in omega arith)
+        by false e {offset = offset} h is =
+            let there : endOf file ≡ offset = cc in
+            let left : endOf file < length file
+            = ⊎-elim (λ end. absurd (eqb-false (endOf file) (length file) e end)) (λ l. l) (eq-or-lt-of-le {n = endOf file} {m = length file} (omega (arith, there, h))) in
+            said (unless (WrongAt file) false (left-over early rows left)) is
+
+-- For every refused file the number and the offset name a field of the layout; it is the first fault of its
+-- record, and no record before it has one.
 pub wrong-at-a-field : (file table : List ℕ) → places ≤ length table → {number offset : ℕ} → reader file table .answer ≡ number ∷ offset ∷ [] → WrongAt file number offset
 wrong-at-a-field file table long e = fault-at-a-field file (sym (reader-exactly file table long) ∙ e)
 

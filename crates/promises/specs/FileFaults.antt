@@ -21,7 +21,7 @@ use Rattle.plan.specs.declared.kinds.Job.{Job}
 use Rattle.plan.specs.declared.kinds.Plan.{Plan}
 use Rattle.fields.specs.Bytes.{value}
 use Rattle.fields.specs.Parsers.{isVersion}
-use Rattle.planfields.specs.Layout.{headerBytes, jobLength, rowLength, rowCountBytes}
+use Rattle.planfields.specs.Layout.{openingBytes, headerBytes, jobLength, rowLength, rowCountBytes}
 use Rattle.planfields.specs.Records.{Head}
 use Rattle.planfile.specs.Reader.{namesOf, position, planFrom, Row}
 
@@ -29,11 +29,11 @@ use Rattle.planfile.specs.Reader.{namesOf, position, planFrom, Row}
 abbrev pub valueAt : (file : Bytes) (w : ℕ) (at : Offset) → ℕ
 valueAt file w at = value 0 (take w (drop at file))
 
--- The bytes end inside the w bytes at an offset.
+-- 2 at the offset if the file ends before the w bytes there do; otherwise empty.
 abbrev pub cutAt : (file : Bytes) (w : ℕ) (at : Offset) → Report
 cutAt file w at = fault (not (leb (at + w) (length file))) (wrongExtent ∷ at ∷ [])
 
--- A test fails that the number stands for; the field in hand begins at the offset.
+-- Empty if the test passes; otherwise the number, at the offset.
 abbrev pub unlessAt : (ok : Bool) (number : Number) (at : Offset) → Report
 unlessAt ok number at = fault (not ok) (number ∷ at ∷ [])
 
@@ -45,6 +45,19 @@ fieldFaults file w ok number at = orElse (cutAt file w at) (unlessAt (ok (valueA
 abbrev pub lengthFaults : (file : Bytes) (long : ℕ) (at : Offset) → Report
 lengthFaults file long at = fieldFaults file 1 (λ x. eqb x long) wrongRecordLength at
 
+-- Where the length field, both rates and the job count begin.
+abbrev pub lengthFrom : Offset
+lengthFrom = 1
+
+abbrev pub normalFrom : Offset
+normalFrom = openingBytes
+
+abbrev pub floorFrom : Offset
+floorFrom = normalFrom + 2
+
+abbrev pub countFrom : Offset
+countFrom = floorFrom + 2
+
 -- The faults of the fields before the jobs. There is no first byte, or it is no version; the length field
 -- is cut or is not the number of bytes after it; a rate is cut, or the rates are not allowed; the job
 -- count is cut or not allowed.
@@ -52,13 +65,13 @@ unfoldable pub headFaults : (file : Bytes) → Report
 headFaults file =
     orElse
     (orElse (unlessAt (leb 1 (length file) && isVersion newestVersion (valueAt file 1 0)) wrongVersion 0)
-    (orElse (cutAt file 4 1) (unlessAt (eqb (5 + valueAt file 4 1) (length file)) wrongExtent 1)))
-    (orElse (cutAt file 2 5) (orElse (cutAt file 2 7) (orElse (unlessAt (ratesAllowed (valueAt file 2 5) (valueAt file 2 7)) wrongRates 5)
-    (fieldFaults file 1 (countAllowedIn (valueAt file 1 0)) wrongJobCount 9))))
+    (orElse (cutAt file 4 lengthFrom) (unlessAt (eqb (openingBytes + valueAt file 4 lengthFrom) (length file)) wrongExtent lengthFrom)))
+    (orElse (cutAt file 2 normalFrom) (orElse (cutAt file 2 floorFrom) (orElse (unlessAt (ratesAllowed (valueAt file 2 normalFrom) (valueAt file 2 floorFrom)) wrongRates normalFrom)
+    (fieldFaults file 1 (countAllowedIn (valueAt file 1 0)) wrongJobCount countFrom))))
 
 -- The fields before the jobs, where the layout has them.
 abbrev pub headIn : (file : Bytes) → Head
-headIn file = record { version = valueAt file 1 0; n = valueAt file 2 5; d = valueAt file 2 7; count = valueAt file 1 9 }
+headIn file = record { version = valueAt file 1 0; n = valueAt file 2 normalFrom; d = valueAt file 2 floorFrom; count = valueAt file 1 countFrom }
 
 -- Where a job's name, grade, release, size and deadline begin, and what follows the job, if the job begins
 -- at `at`: each field begins where the one before it ends.
@@ -86,8 +99,8 @@ jobFrom zero = headerBytes
 jobFrom (suc i) = afterJob (jobFrom i)
 
 -- The job that begins at an offset, whatever its fields hold.
-abbrev pub jobIn : (file : Bytes) (at : Offset) → Job
-jobIn file at =
+abbrev pub jobAt : (file : Bytes) (at : Offset) → Job
+jobAt file at =
     record {
       name = record { 0 = valueAt file nameBytes (nameFrom at) };
       grade = valueAt file 1 (gradeFrom at);
@@ -99,13 +112,13 @@ jobIn file at =
 -- The first n jobs.
 unfoldable pub jobsIn : (file : Bytes) (n : ℕ) → List Job
 jobsIn file zero = []
-jobsIn file (suc n) = jobsIn file n ++ (jobIn file (jobFrom n) ∷ [])
+jobsIn file (suc n) = jobsIn file n ++ (jobAt file (jobFrom n) ∷ [])
 
 -- The faults of a job that begins at an offset, after jobs with these names: its length byte; its name, cut,
 -- not allowed, or taken; its grade; its release, size or deadline, cut, or not allowed together.
 abbrev pub jobFaultsAt : (file : Bytes) (earlier : List ℕ) (at : Offset) → Report
 jobFaultsAt file earlier at =
-    let j = jobIn file at in
+    let j = jobAt file at in
     orElse
     (orElse (lengthFaults file jobLength at) (orElse (cutAt file nameBytes (nameFrom at))
     (orElse (unlessAt (nameAllowed (j .name .0)) wrongNameByte (nameFrom at)) (unlessAt (isAbsent earlier (j .name .0)) nameTaken (nameFrom at)))))
@@ -187,12 +200,14 @@ rowsSaid file = valueAt file rowCountBytes (rowCountFrom file)
 abbrev pub endOf : (file : Bytes) → Offset
 endOf file = rowFrom (rowsFrom file) (rowsSaid file)
 
+-- The faults of the row count.
+abbrev pub rowCountFaults : (file : Bytes) → Report
+rowCountFaults file = fieldFaults file rowCountBytes (rowsAllowedIn (headIn file .version)) tooManyRows (rowCountFrom file)
+
 -- The first fault before the rows: of the fields before the jobs, of the first job that has one, or of the
 -- row count.
 abbrev pub preambleFault : (file : Bytes) → Report
-preambleFault file =
-    orElse (headFaults file)
-    (orElse (first (jobFaults file) (headIn file .count)) (fieldFaults file rowCountBytes (rowsAllowedIn (headIn file .version)) tooManyRows (rowCountFrom file)))
+preambleFault file = orElse (headFaults file) (orElse (first (jobFaults file) (headIn file .count)) (rowCountFaults file))
 
 -- The faults of row k, by the names of the file's jobs and the intervals of its plan.
 abbrev pub fileRowFaults : (file : Bytes) (k : ℕ) → Report
@@ -204,36 +219,36 @@ unfoldable pub fileFault : (file : Bytes) → Report
 fileFault file =
     orElse (preambleFault file) (orElse (first (fileRowFaults file) (rowsSaid file)) (unlessAt (eqb (endOf file) (length file)) wrongExtent (endOf file)))
 
--- A report is empty, and then `next` is inside the file or at its end; or it is a number and an offset, inside
--- the file or at its end. At its end there is no byte: the number is then 2, for a field that would begin
--- there, or 1, for the first byte of an empty file.
-abbrev pub InsideFile : (file : Bytes) (report : Report) (next : Offset) → Type 0
-InsideFile file [] next = next ≤ length file
-InsideFile file (number ∷ []) next = ⊥
-InsideFile file (number ∷ offset ∷ []) next = (offset ≤ length file) × (offset ≡ length file → (number ≡ wrongExtent) ⊎ (number ≡ wrongVersion))
-InsideFile file (number ∷ offset ∷ more ∷ rest) next = ⊥
+-- A report names an offset that is at most the file's length. It is the length, where there is no byte, only
+-- with 2, for a field that would begin there, and with 1, in an empty file.
+abbrev pub InsideFile : (file : Bytes) (report : Report) → Type 0
+InsideFile file [] = Unit {0}
+InsideFile file (number ∷ []) = ⊥
+InsideFile file (number ∷ offset ∷ []) = (offset ≤ length file) × (offset ≡ length file → (number ≡ wrongExtent) ⊎ ((number ≡ wrongVersion) × (offset ≡ 0)))
+InsideFile file (number ∷ offset ∷ more ∷ rest) = ⊥
 
--- Where the last field ends that is read before a refusal: for 2 the field in hand is not read, except the
--- length field; for the others it is read, and for 4, 9 and 14 the fields after it that are tested with it.
-abbrev pub lastRead : (number : Number) (offset : Offset) → Offset
-lastRead number offset =
-    cond (eqb number wrongExtent) (cond (eqb offset 1) 5 offset)
+-- Where the last field ends that is read before a refusal: for 2 the field in hand is not read, except a
+-- length field that is there whole; for the others it is read, and for 4, 9 and 14 the fields after it that
+-- are tested with it.
+abbrev pub lastRead : (file : Bytes) (number : Number) (offset : Offset) → Offset
+lastRead file number offset =
+    cond (eqb number wrongExtent) (cond (eqb offset lengthFrom && leb openingBytes (length file)) openingBytes offset)
     (offset
-    + (on (eqb number wrongVersion) 1 + on (eqb number wrongRecordLength) 1 + on (eqb number wrongRates) 4 + on (eqb number wrongJobCount) 1
-    + on (eqb number wrongNameByte || eqb number nameTaken) nameBytes + on (eqb number wrongGrade) 1 + on (eqb number wrongJobBounds) 12
+    + (on (eqb number wrongVersion) 1 + on (eqb number wrongRecordLength) 1 + on (eqb number wrongRates) (2 + 2) + on (eqb number wrongJobCount) 1
+    + on (eqb number wrongNameByte || eqb number nameTaken) nameBytes + on (eqb number wrongGrade) 1 + on (eqb number wrongJobBounds) (4 + 4 + 4)
     + on (eqb number tooManyRows) rowCountBytes + on (eqb number rowWithoutJob) nameBytes + on (eqb number rowWithoutInterval) 2
     + on (eqb number rowWithoutUnits) 4 + on (eqb number rowOutOfOrder) (1 + rowLength)))
 
 -- The numbers and offsets that faults of the fields before the jobs have. Here and below every number but 2
--- tells the field, and 3 is a length byte's; 2 is a field that is cut, or the length field.
+-- and 3 tells the field; 3 is a record's length byte; 2 is a field that is cut, or the length field.
 pub data WrongInHead : Number → Offset → Type 0 where
   head-version : WrongInHead wrongVersion 0
-  head-length-field : WrongInHead wrongExtent 1
-  head-normal-cut : WrongInHead wrongExtent 5
-  head-floor-cut : WrongInHead wrongExtent 7
-  head-rates : WrongInHead wrongRates 5
-  head-count-cut : WrongInHead wrongExtent 9
-  head-count-other : WrongInHead wrongJobCount 9
+  head-length-field : WrongInHead wrongExtent lengthFrom
+  head-normal-cut : WrongInHead wrongExtent normalFrom
+  head-floor-cut : WrongInHead wrongExtent floorFrom
+  head-rates : WrongInHead wrongRates normalFrom
+  head-count-cut : WrongInHead wrongExtent countFrom
+  head-count-other : WrongInHead wrongJobCount countFrom
 
 -- Those of a job that begins at an offset.
 pub data WrongInJob (at : Offset) : Number → Offset → Type 0 where
@@ -266,13 +281,15 @@ pub data WrongInRow (at : Offset) : Number → Offset → Type 0 where
   row-units-none : WrongInRow at rowWithoutUnits (unitsFrom at)
   row-out-of-order : WrongInRow at rowOutOfOrder at
 
--- Where a file is wrong: in which record and at which of its fields; nothing before that record is wrong.
+-- Where a file is wrong: in which record, at which of its fields, that this is the record's first fault, and
+-- that no record before it has one.
 pub data WrongAt (file : Bytes) : Number → Offset → Type 0 where
-  in-head : {number : Number} {offset : Offset} → WrongInHead number offset → WrongAt file number offset
+  in-head : {number : Number} {offset : Offset} → headFaults file ≡ number ∷ offset ∷ [] → WrongInHead number offset → WrongAt file number offset
   in-job : {number : Number} {offset : Offset} (i : ℕ) → i < headIn file .count → headFaults file ≡ [] → ((k : ℕ) → k < i → jobFaults file k ≡ [])
-      → WrongInJob (jobFrom i) number offset → WrongAt file number offset
+      → jobFaults file i ≡ number ∷ offset ∷ [] → WrongInJob (jobFrom i) number offset → WrongAt file number offset
   in-row-count : {number : Number} {offset : Offset} → headFaults file ≡ [] → ((k : ℕ) → k < headIn file .count → jobFaults file k ≡ [])
-      → WrongRowCount (rowCountFrom file) number offset → WrongAt file number offset
+      → rowCountFaults file ≡ number ∷ offset ∷ [] → WrongRowCount (rowCountFrom file) number offset → WrongAt file number offset
   in-row : {number : Number} {offset : Offset} (i : ℕ) → i < rowsSaid file → preambleFault file ≡ [] → ((k : ℕ) → k < i → fileRowFaults file k ≡ [])
-      → WrongInRow (rowFrom (rowsFrom file) i) number offset → WrongAt file number offset
-  left-over : preambleFault file ≡ [] → ((k : ℕ) → k < rowsSaid file → fileRowFaults file k ≡ []) → WrongAt file wrongExtent (endOf file)
+      → fileRowFaults file i ≡ number ∷ offset ∷ [] → WrongInRow (rowFrom (rowsFrom file) i) number offset → WrongAt file number offset
+  left-over : preambleFault file ≡ [] → ((k : ℕ) → k < rowsSaid file → fileRowFaults file k ≡ []) → endOf file < length file
+      → WrongAt file wrongExtent (endOf file)

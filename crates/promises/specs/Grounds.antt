@@ -72,15 +72,15 @@ pub record SoundRun (p : Plan) (run : Run) : Type 0 where
   pub carried : (i : ℕ) → i < counted p → carriedOf run i ≤ size p i
 
 -- The length of the file that the writer has to write.
-abbrev pub fileLength : Plan → Table → ℕ
-fileLength p table = length (written p (take places table))
+abbrev pub writtenLength : Plan → Table → ℕ
+writtenLength p table = length (written p (take places table))
 
 -- What an answer of the writer says, by case in its order.
 pub data WriterDecided (p : Plan) (table out : List ℕ) : writing.Answer → Type 0 where
   table-short : length table < places → WriterDecided p table out (writing.refused bufferTooShort)
   plan-unsound : places ≤ length table → (SoundPlan p table → ⊥) → WriterDecided p table out (writing.refused unsound)
-  output-short : places ≤ length table → SoundPlan p table → length out < fileLength p table → WriterDecided p table out (writing.refused bufferTooShort)
-  file-written : places ≤ length table → SoundPlan p table → fileLength p table ≤ length out → WriterDecided p table out (writing.wrote (fileLength p table))
+  output-short : places ≤ length table → SoundPlan p table → length out < writtenLength p table → WriterDecided p table out (writing.refused bufferTooShort)
+  file-written : places ≤ length table → SoundPlan p table → writtenLength p table ≤ length out → WriterDecided p table out (writing.wrote (writtenLength p table))
 
 -- Table and grant row have all the places that a slot's call needs.
 abbrev pub Room : (p : Plan) (table : Table) (grants : Row) → Type 0

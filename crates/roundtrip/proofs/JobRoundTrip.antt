@@ -10,7 +10,7 @@ use borrow.Author.Tests.{eqb-true, ltb-true, leb-true}
 use lib.Dec.{leb, ltb, eqb, lit<}
 use lib.ListN.{length, getD, take, List·getD-append}
 use lib.Seq.{take-suc, getD-at}
-use Rattle.plan.specs.Edition.{mostDeadline, mostSize}
+use Rattle.plan.specs.Edition.{mostDeadline, mostSize, nameBytes}
 use Rattle.planfields.specs.Layout.{jobLength}
 use Rattle.plan.specs.Refusal.{wrongNameByte, nameTaken, wrongGrade, wrongJobBounds}
 use Rattle.plan.specs.Rules.{nameAllowed, isAbsent, gradeAllowed, windowAllowed, sizeAllowed, noJob, jobOf}
@@ -52,7 +52,7 @@ job-law file earlier =
     law-as
     (then-law (λ (j : Job). j .name .0)
     (then-law (λ _. tt) (length-law file jobLength (lit< tt))
-    (λ _. here-law (λ from. then-law (λ x. x) (field-law file 8 (omega arith))
+    (λ _. here-law (λ from. then-law (λ x. x) (field-law file nameBytes (omega arith))
     (λ name. test-law (nameAllowed name) wrongNameByte from (test-law (isAbsent earlier name) nameTaken from (done-law file name)))
     (λ a b first good. good .1 .1)))
     (λ a b first good. refl))

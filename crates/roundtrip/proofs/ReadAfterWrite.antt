@@ -2,7 +2,7 @@
 use mathlib.Core.Path.{_≡_, refl, sym, _∙_, ap, ap₂}
 use mathlib.Core.Bool.{Bool, true, false, not, cond, _&&_, _||_}
 use mathlib.Core.List.{List, [], _∷_, _++_, append-nil}
-use Prim.Native.Nat.{ℕ, zero, suc, _+_, _*_, _/_, _%_, _≤_, _<_, _^_}
+use Prim.Native.Nat.{ℕ, zero, suc, _+_, _/_, _%_, _≤_, _<_, _^_}
 use native.Mathlib.Nat.{zero-add}
 use native.Mathlib.Omega.{arith}
 use borrow.Author.Tests.{ltb-true, ltb-false, leb-true}
@@ -22,7 +22,7 @@ use Rattle.base.proofs.Below.{every-ext, every-at}
 use Rattle.base.proofs.Logic.{both}
 use Rattle.plan.proofs.Names.{name-at}
 use Rattle.plan.proofs.BoundaryOrder.{boundaries-few}
-use Rattle.plan.proofs.VersionLimits.{count-written, rows-written}
+use Rattle.plan.proofs.VersionLimits.{count-written}
 use Rattle.fields.specs.Bytes.{bytes}
 use Rattle.fields.specs.Parsers.{got, field, checked, opening}
 use Rattle.planfields.specs.Records.{Head, head}
@@ -36,8 +36,7 @@ use Rattle.planfields.proofs.HeadLaws.{head-whole}
 use Rattle.planfile.proofs.DistinctNames.{jobs-apart}
 use Rattle.planfile.proofs.WholeFile.{file-whole}
 use Rattle.plan.proofs.Soundness.{Rules, rules-parts, Sound, sound-parts, Bounded, rules-bounded, job-bounds}
-use Rattle.planwriter.proofs.WrittenFile.{counted-is, writable, body-of, body-short, written-of, written-long}
-use Rattle.planwriter.proofs.JobRows.{count-within}
+use Rattle.planwriter.proofs.WrittenFile.{counted-is, writable, rows-allowed, body-of, body-short, written-of, written-long}
 use Rattle.fields.proofs.BytesAt.{Stands, stands-at, stands-as, stands-first, stands-rest, field-back}
 use Rattle.roundtrip.proofs.JobRoundTrip.{Readable, span-whole, jobs-back}
 use Rattle.roundtrip.proofs.RowRoundTrip.{rows-back}
@@ -200,16 +199,9 @@ module _ (p : Plan) (table : List ℕ) (sound-is : sound p table ≡ true) (exac
       (stands-as (stands-rest after-count (jobsBytes p (p .count)) to-jobs) (sym (span-whole p (p .count))))
       ∙ ap (λ k. got (take k (p .jobs)) (5 + length after-jobs)) (zero-add (p .count))
 
-  -- There is at most one row for each job and interval.
-  few-rows : rowCount table ≤ p .count * intervals p
-  few-rows =
-      let many = counted-is p few in
-      let within = count-within table (counted p) (intervals p) (rw own at (parts .clear)) (omega (arith, boundaries-few p (counted p), many, few)) (omega (arith, exact, many, few)) in
-      omega (arith, within, ap (λ k. k * intervals p) many)
-
   rows-are : checked 2 (rowsAllowedIn version) tooManyRows file (5 + length after-jobs) ≡ got (rowCount table) (5 + length after-rows)
   rows-are =
-      let allowed = rows-written (p .count) (intervals p) (rowCount table) (rules .count) (omega (arith, boundaries-few p (counted p), counted-is p few)) few-rows in
+      let allowed = rw own at (rows-allowed p table sound-is (omega (arith, exact))) in
       count-back version file (5 + length after-jobs)
       (field-back 2 (rowCount table) file (5 + length after-jobs) (omega arith) (omega (arith, leb-true (rowCount table) (mostRowsIn version) allowed)) (stands-rest after-jobs (bytes 2 (rowCount table)) to-rows))
       allowed

@@ -11,7 +11,7 @@ use lib.Arith.{digits-div, digits-mod}
 use lib.Dec.{leb, ltb, eqb, lit<}
 use lib.ListN.{length, getD, set, replicate, length-append, length-replicate, replicate-append-replicate}
 use lib.Seq.{set-at}
-use Rattle.plan.specs.Edition.{mostIntervals}
+use Rattle.plan.specs.Edition.{mostIntervals, nameBytes}
 use Rattle.planfields.specs.Layout.{rowLength}
 use Rattle.plan.specs.Refusal.{rowWithoutJob, rowWithoutInterval, rowWithoutUnits, rowOutOfOrder}
 use Rattle.plan.specs.Table.{place, noStray}
@@ -68,7 +68,7 @@ small-split [] b ha hb k = hb k
 small-split (x ∷ a) b ha hb zero = ha 0
 small-split (x ∷ a) b ha hb (suc k) = small-split a b (λ j. ha (suc j)) hb k
 
--- A row is read with its place and units where the file has its written bytes.
+-- Rows, in a plan with these names and this many intervals.
 module _ (names : List ℕ) (spans : ℕ) (differ : Distinct names) (narrow : spans ≤ mostIntervals) where
   -- What a row needs to be read after rows at places below `low`.
   pub record RowReadable (low : ℕ) (row : Row) : Type 0 where
@@ -87,13 +87,13 @@ module _ (names : List ℕ) (spans : ℕ) (differ : Distinct names) (narrow : sp
       (ap (λ k. k / mostIntervals) is ∙ digits-div i wide, ap (λ k. k % mostIntervals) is ∙ digits-mod i wide)
 
   -- The length byte and the name of a row, by the position of its job.
-  job-law : (file : List ℕ)
-      → Law file (rowJob names) (λ job. bytes 1 rowLength ++ bytes 8 (getD names job 0)) (λ job. (job < length names) × (getD names job 0 < 256 ^ 8))
+  row-job-law : (file : List ℕ)
+      → Law file (rowJob names) (λ job. bytes 1 rowLength ++ bytes nameBytes (getD names job 0)) (λ job. (job < length names) × (getD names job 0 < 256 ^ 8))
   unfolding rowJob
-  job-law file =
+  row-job-law file =
       law-as
       (then-law (λ _. tt) (length-law file rowLength (lit< tt))
-      (λ _. here-law (λ from. then-law (λ job. getD names job 0) (field-law file 8 (omega arith))
+      (λ _. here-law (λ from. then-law (λ job. getD names job 0) (field-law file nameBytes (omega arith))
       (λ name. test-law (ltb (position names name) (length names)) rowWithoutJob from (done-law file (position names name)))
       (λ name job first good.
       ap (λ i. getD names i 0) (good .1) ∙ position-found names name (ltb-true (position names name) (length names) (good .0)))))
@@ -111,7 +111,7 @@ module _ (names : List ℕ) (spans : ℕ) (differ : Distinct names) (narrow : sp
   unfolding oneRow
   row-law file low =
       law-as
-      (here-law (λ from. then-law (λ (r : Row). r .at / mostIntervals) (job-law file)
+      (here-law (λ from. then-law (λ (r : Row). r .at / mostIntervals) (row-job-law file)
       (λ job. then-law (λ (r : Row). r .at % mostIntervals) (checked-law file 2 (omega arith) (λ j. ltb j spans) rowWithoutInterval)
       (λ interval. then-law (λ (r : Row). r .units) (checked-law file 4 (omega arith) (λ u. not (eqb u 0)) rowWithoutUnits)
       (λ units. test-law (leb low (place mostIntervals job interval)) rowOutOfOrder from

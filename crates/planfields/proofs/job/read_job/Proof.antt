@@ -99,8 +99,8 @@ returns-4 c =
 read-four-requires-3 : tie.Need-read-four-requires-3
 read-four-requires-3 c κs = search needs
 
-enum-known-dead : tie.Need-enum-known-dead
-enum-known-dead c = search needs
+enum-known-deadline-read : tie.Need-enum-known-deadline-read
+enum-known-deadline-read c = search needs
 
 enum-told-5 : tie.Need-enum-told-5
 enum-told-5 c = search needs
@@ -133,7 +133,7 @@ cast-t27 c =
 
 cast-t30 : tie.Need-cast-t30
 cast-t30 c =
-    omega (arith, small (c .before .before .before .read-four3 .ensures .1) (c .before .dead .given .1))
+    omega (arith, small (c .before .before .before .read-four3 .ensures .1) (c .before .deadline-read .given .1))
 
 window-allowed-requires : tie.Need-window-allowed-requires
 window-allowed-requires c κs = search needs
@@ -145,8 +145,8 @@ returns-6 : tie.Need-returns-6
 returns-6 c =
     let at-size-allowed = c .before in
     let at-window-allowed = at-size-allowed .before in
-    let at-dead = at-window-allowed .before .before in
-    let at-read-four3 = at-dead .before .before in
+    let at-deadline-read = at-window-allowed .before .before in
+    let at-read-four3 = at-deadline-read .before .before in
     let at-sized = at-read-four3 .before .before in
     let at-read-four2 = at-sized .before .before in
     let at-released = at-read-four2 .before .before in
@@ -162,15 +162,15 @@ returns-6 c =
     (so fieldView (at-read-grade .read-grade .ensures .0) (at-graded .graded .given .1))
     (so fieldView (at-read-four .read-four .ensures .0) (at-released .released .given .1))
     (so fieldView (at-read-four2 .read-four2 .ensures .0) (at-sized .sized .given .1))
-    (so fieldView (at-read-four3 .read-four3 .ensures .0) (at-dead .dead .given .1))
+    (so fieldView (at-read-four3 .read-four3 .ensures .0) (at-deadline-read .deadline-read .given .1))
     (failed (ap₂ _&&_ (at-window-allowed .window-allowed .ensures) (at-size-allowed .size-allowed .ensures)) (c .if1 .taken))
 
 returns-7 : tie.Need-returns-7
 returns-7 c =
     let at-size-allowed = c .before in
     let at-window-allowed = at-size-allowed .before in
-    let at-dead = at-window-allowed .before .before in
-    let at-read-four3 = at-dead .before .before in
+    let at-deadline-read = at-window-allowed .before .before in
+    let at-read-four3 = at-deadline-read .before .before in
     let at-sized = at-read-four3 .before .before in
     let at-read-four2 = at-sized .before .before in
     let at-released = at-read-four2 .before .before in
@@ -186,7 +186,7 @@ returns-7 c =
     (so fieldView (at-read-grade .read-grade .ensures .0) (at-graded .graded .given .1))
     (so fieldView (at-read-four .read-four .ensures .0) (at-released .released .given .1))
     (so fieldView (at-read-four2 .read-four2 .ensures .0) (at-sized .sized .given .1))
-    (so fieldView (at-read-four3 .read-four3 .ensures .0) (at-dead .dead .given .1))
+    (so fieldView (at-read-four3 .read-four3 .ensures .0) (at-deadline-read .deadline-read .given .1))
     (held (ap₂ _&&_ (at-window-allowed .window-allowed .ensures) (at-size-allowed .size-allowed .ensures)) (c .if1 .left))
 
 pub read-job-spec : {M : Type 1} → statement M
@@ -214,7 +214,7 @@ read-job-spec =
     field-refusal-requires-4
     returns-4
     read-four-requires-3
-    enum-known-dead
+    enum-known-deadline-read
     enum-told-5
     field-refusal-requires-5
     returns-5
