@@ -152,7 +152,7 @@ function factors() {
     end()
 }
 function stack(k, call, arguments) {
-    split("write 1 slack 1 start 2 step 3", arguments, " ")
+    split("read 1 write 1 slack 1 start 2 step 3", arguments, " ")
     for (k = 1; k in arguments; k += 2) on_stack[arguments[k]] = 8 * arguments[k + 1]
     begin("stack")
     print "| call | bytes, painted | bytes at most, by frames |"
