@@ -7,23 +7,27 @@
 mod calls;
 
 use std::arch::global_asm;
+use std::collections::BTreeSet;
 use std::env;
 use std::hint::black_box;
 use std::process::ExitCode;
 use std::time::{Duration, Instant};
 
-use bench::inputs::{Input, Shape, LARGEST_FILE};
+use bench::inputs::{Input, Shape, Slot, LARGEST_FILE};
 use bench::refusal::TOO_SHORT;
-use bench::{judge, read, slack, step, write, Plan, Run, Slack, Verdict, MOST_JOBS, PLACES};
+use bench::words::{plan_words, run_words, step_words};
+use bench::{judge, read, slack, write, Slack, Verdict, MOST_JOBS, PLACES};
 use calls::*;
 
 const USAGE: &str = "usage: both count|time usual|full|file JOBS
+       both slots usual|full JOBS
        both stack";
 
 fn main() -> ExitCode {
     let words: Vec<String> = env::args().skip(1).collect();
     let words: Vec<&str> = words.iter().map(String::as_str).collect();
     let done = match words[..] {
+        ["slots", shape, jobs] => input_of(shape, jobs).map(|(input, _)| count_slots(&input)),
         [how, shape, jobs] => how_of(how).zip(input_of(shape, jobs)).map(|(how, (input, judged))| measure(how, &Both::new(input), judged)),
         ["stack"] => Some(stacks()),
         _ => None,
@@ -88,30 +92,38 @@ impl Both {
         let table = &self.plain.table;
         unsafe { gateway_slack(self.plan.as_ptr(), PLAN_WORDS, table.as_ptr(), table.len(), least, location.as_mut_ptr(), LOCATION_WORDS) }
     }
+}
+
+/// A slot for both sides: the words that a host lends.
+struct Lent {
+    name: &'static str,
+    plan: [u64; PLAN_WORDS],
+    table: Vec<u32>,
+    run: [u32; RUN_WORDS],
+    speed: u16,
+}
+
+impl Lent {
+    fn new(slot: Slot) -> Lent {
+        Lent { name: slot.name, plan: plan_words(&slot.plan), table: slot.table, run: run_words(&slot.run), speed: slot.speed }
+    }
+
+    fn all(input: &Input) -> Vec<Lent> {
+        input.slots().into_iter().map(Lent::new).collect()
+    }
 
     fn step(&self, run: &mut [u32; RUN_WORDS], grants: &mut [u32; MOST_JOBS]) -> u32 {
-        let table = &self.plain.table;
-        let speed = self.plain.plan.n;
-        unsafe {
-            gateway_step(self.plan.as_ptr(), PLAN_WORDS, table.as_ptr(), table.len(), run.as_mut_ptr(), RUN_WORDS, speed, grants.as_mut_ptr(), MOST_JOBS)
-        }
+        let Lent { plan, table, speed, .. } = self;
+        unsafe { gateway_step(plan.as_ptr(), PLAN_WORDS, table.as_ptr(), table.len(), run.as_mut_ptr(), RUN_WORDS, *speed, grants.as_mut_ptr(), MOST_JOBS) }
     }
-}
 
-fn plan_words(plan: &Plan) -> [u64; PLAN_WORDS] {
-    let mut words = [0; PLAN_WORDS];
-    words[..HEAD_WORDS].copy_from_slice(&[plan.n.into(), plan.d.into(), plan.count as u64]);
-    for (words, job) in words[HEAD_WORDS..].chunks_exact_mut(JOB_WORDS).zip(&plan.jobs) {
-        words.copy_from_slice(&[job.name, job.grade.into(), job.release.into(), job.size, job.deadline.into()]);
+    fn plain_step(&self, run: &mut [u32; RUN_WORDS], grants: &mut [u32; MOST_JOBS]) -> u32 {
+        step_words(&self.plan, &self.table, run, self.speed, grants).err().unwrap_or(0).into()
     }
-    words
-}
 
-fn run_words(run: &Run) -> [u32; RUN_WORDS] {
-    let mut words = [0; RUN_WORDS];
-    words[..MARK_WORDS].copy_from_slice(&[run.clock, run.slow.into(), run.below_floor.into()]);
-    words[MARK_WORDS..].copy_from_slice(&run.carried);
-    words
+    fn outcome(&self, position: usize) -> u32 {
+        unsafe { gateway_outcome(self.plan.as_ptr(), PLAN_WORDS, self.run.as_ptr(), RUN_WORDS, position) }
+    }
 }
 
 // What lies between these two is counted. Their bodies differ, so that no compiler makes one function of them.
@@ -176,7 +188,7 @@ fn measure(how: How, both: &Both, judged: bool) {
     if judged {
         measure_judge(how, both);
         measure_slack(how, both);
-        measure_step(how, both);
+        measure_step(how, "step", &Lent::all(plain)[0]);
     }
 }
 
@@ -241,21 +253,33 @@ fn measure_slack(how: How, both: &Both) {
     });
 }
 
-fn measure_step(how: How, both: &Both) {
-    let plain = &both.plain;
-    let (mut grants, mut other) = ([0; MOST_JOBS], [0; MOST_JOBS]);
-    let (mut run, mut other_run) = (both.run, plain.run);
-    assert_eq!(both.step(&mut run, &mut grants), 0);
-    assert_eq!(step(&plain.plan, &plain.table, &mut other_run, plain.plan.n, &mut other), Ok(()));
-    assert!(run == run_words(&other_run) && grants == other);
-    // Each call gets the same run, so a copy of the record is counted with it, on both sides.
-    section(how, "step", "plain", || {
-        let mut run = plain.run;
-        black_box(&step(black_box(&plain.plan), black_box(&plain.table), black_box(&mut run), black_box(plain.plan.n), black_box(&mut other)));
+/// The step takes the words that a host lends on both sides.
+fn measure_step(how: How, call: &str, lent: &Lent) {
+    let (mut grants, mut other) = ([7; MOST_JOBS], [7; MOST_JOBS]);
+    let (mut run, mut other_run) = (lent.run, lent.run);
+    assert_eq!(lent.step(&mut run, &mut grants), lent.plain_step(&mut other_run, &mut other), "{}", lent.name);
+    assert!(run == other_run && grants == other, "{}", lent.name);
+    // Each call gets the same run, so a copy of its words is counted with it, on both sides.
+    section(how, call, "plain", || {
+        let mut run = lent.run;
+        black_box(black_box(lent).plain_step(black_box(&mut run), black_box(&mut other)));
     });
-    section(how, "step", "ours", || {
-        let mut run = both.run;
-        black_box(black_box(both).step(black_box(&mut run), black_box(&mut grants)));
+    section(how, call, "ours", || {
+        let mut run = lent.run;
+        black_box(black_box(lent).step(black_box(&mut run), black_box(&mut grants)));
+    });
+}
+
+/// Counts the step in every slot for measuring, and the outcome of the last job.
+fn count_slots(input: &Input) {
+    println!("input {} {} {} {}", input.plan.count, input.intervals, input.rows, input.file.len());
+    let slots = Lent::all(input);
+    for slot in &slots {
+        measure_step(How::Count, &format!("step:{}", slot.name), slot);
+    }
+    let last = input.plan.count - 1;
+    section(How::Count, "outcome", "ours", || {
+        black_box(black_box(&slots[0]).outcome(black_box(last)));
     });
 }
 
@@ -303,46 +327,67 @@ fn stack_of(function: *const (), arguments: &[u64]) -> (u64, usize) {
     let mut deepest = 0;
     // Two paints, since a call may write one of them itself.
     for paint in [0xA5, 0x5A] {
-        let mut stack = vec![u128::from_ne_bytes([paint; 16]); PAINTED / 16];
+        let painted = u128::from_ne_bytes([paint; 16]);
+        let mut stack = vec![painted; PAINTED / 16];
         let bottom = stack.as_mut_ptr() as *mut u8;
         // SAFETY: the function is one of the library's with its own arguments, and the top is aligned.
         answer = unsafe { call_on(function, bottom.add(PAINTED), &words) };
-        let bytes = stack.iter().flat_map(|word| word.to_ne_bytes());
-        let kept = bytes.take_while(|&byte| byte == paint).count();
+        let whole = stack.iter().take_while(|&&word| word == painted).count();
+        let kept = 16 * whole + stack[whole].to_ne_bytes().iter().take_while(|&&byte| byte == paint).count();
         deepest = deepest.max(PAINTED - PUSHED - kept);
     }
     (answer & 0xFFFF_FFFF, deepest + 8 * arguments.len().saturating_sub(6))
 }
 
-/// Prints the deepest stack of each call, over plans of all sizes and over ways to refuse them.
+/// The deepest stack of each call, in the order of the table, and all answers.
+struct Deepest {
+    calls: [(&'static str, usize); 9],
+    answers: BTreeSet<u64>,
+}
+
+impl Deepest {
+    fn note(&mut self, call: &str, bytes: usize) {
+        let (_, kept) = self.calls.iter_mut().find(|(name, _)| *name == call).expect("a call of the table");
+        *kept = bytes.max(*kept);
+    }
+
+    fn note_answer(&mut self, call: &str, (answer, bytes): (u64, usize)) {
+        self.answers.insert(answer);
+        self.note(call, bytes);
+    }
+}
+
+/// Prints the deepest stack of each call, over plans of all sizes, over slots of all kinds and over ways to refuse them.
 fn stacks() {
-    let mut deepest = [("read", 0), ("write", 0), ("name", 0), ("judge", 0), ("slack", 0), ("start", 0), ("step", 0), ("outcome", 0)];
-    let mut answers = std::collections::BTreeSet::new();
+    let calls = ["read", "write", "name", "judge", "slack", "start", "step", "outcome", "lent-step"].map(|call| (call, 0));
+    let mut deepest = Deepest { calls, answers: BTreeSet::new() };
     for shape in ["usual", "full", "file"] {
         for jobs in ["1", "8", "16", "32"] {
             let (input, _) = input_of(shape, jobs).expect("an input");
+            for slot in Lent::all(&input) {
+                stacks_of_slot(&mut deepest, &slot);
+            }
             for change in 0..CHANGES {
                 let mut both = Both::new(Input { table: input.table.clone(), file: input.file.clone(), ..input });
                 let speed = change_input(&mut both, change);
-                for (kept, (answer, bytes)) in deepest.iter_mut().zip(stacks_of(&mut both, speed)) {
-                    kept.1 = kept.1.max(bytes);
-                    answers.insert(answer);
-                }
+                let slot = Lent { name: "changed", plan: both.plan, table: both.plain.table.clone(), run: both.run, speed };
+                stacks_of_slot(&mut deepest, &slot);
+                stacks_of(&mut deepest, &mut both);
             }
         }
     }
-    for (call, bytes) in deepest {
+    for (call, bytes) in deepest.calls {
         println!("stack {call} {bytes}");
     }
-    let answers: Vec<String> = answers.iter().map(u64::to_string).collect();
+    let answers: Vec<String> = deepest.answers.iter().map(u64::to_string).collect();
     println!("answers {}", answers.join(" "));
 }
 
 const CHANGES: usize = 12;
 
 /// Spoils an input in one of several ways; the answer is the speed of its slot.
-fn change_input(both: &mut Both, change: usize) -> u64 {
-    let n = both.plan[0];
+fn change_input(both: &mut Both, change: usize) -> u16 {
+    let n = both.plain.plan.n;
     let length = both.plain.file.len();
     match change {
         1 => both.plan[1] = 1,                // the floor rule
@@ -361,34 +406,79 @@ fn change_input(both: &mut Both, change: usize) -> u64 {
     n
 }
 
-/// Answer and stack of each call, in the order of the table.
-fn stacks_of(both: &mut Both, speed: u64) -> [(u64, usize); 8] {
+/// The stack of the calls that a slot does not need.
+fn stacks_of(deepest: &mut Deepest, both: &mut Both) {
     let mut plan = both.plan;
     let mut table = both.plain.table.clone();
     let mut out = vec![0_u8; LARGEST_FILE];
     let (mut written, mut least, mut offset) = (0_usize, 0_i64, 0_usize);
     let mut location = [0_u64; LOCATION_WORDS];
-    let mut grants = [0_u32; MOST_JOBS];
-    let mut fresh = both.run;
     let [file, file_length] = [both.plain.file.as_ptr() as u64, both.plain.file.len() as u64];
     let [words, cells] = [plan.as_mut_ptr() as u64, table.as_mut_ptr() as u64];
-    let [plan_length, places, run_length] = [PLAN_WORDS, PLACES, RUN_WORDS].map(|length| length as u64);
+    let [plan_length, places] = [PLAN_WORDS, PLACES].map(|length| length as u64);
     let in_hand = [words, plan_length, cells, places];
     let location = [location.as_mut_ptr() as u64, LOCATION_WORDS as u64];
-    let run = [both.run.as_mut_ptr() as u64, run_length];
-    let fresh = [fresh.as_mut_ptr() as u64, run_length];
+    let run = [both.run.as_mut_ptr() as u64, RUN_WORDS as u64];
     let out = [out.as_mut_ptr() as u64, LARGEST_FILE as u64, &mut written as *mut usize as u64];
-    let grants = [grants.as_mut_ptr() as u64, MOST_JOBS as u64];
     let least = [&mut least as *mut i64 as u64];
-    let write = stack_of(gateway_write as *const (), &[&in_hand[..], &out].concat());
-    let judge = stack_of(gateway_judge as *const (), &[&in_hand[..], &location].concat());
-    let slack = stack_of(gateway_slack as *const (), &[&in_hand[..], &least, &location].concat());
-    let start = stack_of(gateway_start as *const (), &[&in_hand[..], &fresh, &location].concat());
-    let step = stack_of(gateway_step as *const (), &[&in_hand[..], &run, &[speed], &grants].concat());
-    let outcome = stack_of(gateway_outcome as *const (), &[&in_hand[..2], &run, &[0]].concat());
-    let name = stack_of(gateway_name as *const (), &[file, file_length, 0]);
+    deepest.note_answer("write", stack_of(gateway_write as *const (), &[&in_hand[..], &out].concat()));
+    deepest.note_answer("judge", stack_of(gateway_judge as *const (), &[&in_hand[..], &location].concat()));
+    deepest.note_answer("slack", stack_of(gateway_slack as *const (), &[&in_hand[..], &least, &location].concat()));
+    deepest.note_answer("start", stack_of(gateway_start as *const (), &[&in_hand[..], &run, &location].concat()));
+    deepest.note_answer("name", stack_of(gateway_name as *const (), &[file, file_length, 0]));
     // The reader last, since it writes plan and table.
     let offset = &mut offset as *mut usize as u64;
-    let read = stack_of(gateway_read as *const (), &[file, file_length, words, plan_length, cells, places, offset]);
-    [read, write, name, judge, slack, start, step, outcome]
+    deepest.note_answer("read", stack_of(gateway_read as *const (), &[file, file_length, words, plan_length, cells, places, offset]));
+}
+
+/// The stack of a slot's calls: the step, the same on a lent run, and the outcome at every position.
+fn stacks_of_slot(deepest: &mut Deepest, slot: &Lent) {
+    let plan = [slot.plan.as_ptr() as u64, PLAN_WORDS as u64];
+    let table = [slot.table.as_ptr() as u64, slot.table.len() as u64];
+    for position in 0..=MOST_JOBS as u64 {
+        let run = [slot.run.as_ptr() as u64, RUN_WORDS as u64];
+        deepest.note_answer("outcome", stack_of(gateway_outcome as *const (), &[&plan[..], &run, &[position]].concat()));
+    }
+    // Each paint makes the call once more, so the second finds the run as the first left it.
+    let (mut run, mut grants) = (slot.run, [7_u32; MOST_JOBS]);
+    let lent = [run.as_mut_ptr() as u64, RUN_WORDS as u64];
+    let row = [grants.as_mut_ptr() as u64, MOST_JOBS as u64];
+    deepest.note_answer("step", stack_of(gateway_step as *const (), &[&plan[..], &table, &lent, &[slot.speed.into()], &row].concat()));
+    let (bytes, other_run, other_grants) = lent_step(slot);
+    deepest.note("lent-step", bytes);
+    // A host's words can hold what is no mark, and then its step is refused; a run record cannot.
+    assert!(slot.run[1] > 1 || (run == other_run && grants == other_grants), "{}", slot.name);
+}
+
+// Of the object that tools/lent-step makes. A plan, a run and a slice are handed over by their place.
+extern "C" {
+    #[link_name = "hostmemory::plans::plan_of"]
+    fn plan_of(plan: *mut u64, words: *const [u64; 2]);
+    #[link_name = "hostmemory::runs::run_of"]
+    fn run_of(run: *mut u64, words: *const [u64; 2]);
+    #[link_name = "hostmemory::runs::put_run"]
+    fn put_run(words: *const [u64; 2], run: *const u64);
+    #[link_name = "lentrun::step_in"]
+    fn step_in();
+}
+
+/// The stack of the step on a lent run, and the run and the grants after it.
+fn lent_step(slot: &Lent) -> (usize, [u32; RUN_WORDS], [u32; MOST_JOBS]) {
+    let (mut words, mut grants) = (slot.run, [7_u32; MOST_JOBS]);
+    // With more room than they take.
+    let (mut answer, mut plan, mut run) = ([0_u64; 16], [0_u64; 2 * PLAN_WORDS], [0_u64; 2 * RUN_WORDS]);
+    let table = [slot.table.as_ptr() as u64, slot.table.len() as u64];
+    let row = [grants.as_mut_ptr() as u64, MOST_JOBS as u64];
+    let lent = [words.as_mut_ptr() as u64, RUN_WORDS as u64];
+    // SAFETY: the functions take what is named here, and each pointer is valid for the length beside it.
+    unsafe {
+        plan_of(plan.as_mut_ptr(), &[slot.plan.as_ptr() as u64, PLAN_WORDS as u64]);
+        run_of(run.as_mut_ptr(), &lent);
+    }
+    let in_hand = [answer.as_mut_ptr(), run.as_mut_ptr(), plan.as_mut_ptr()].map(|place| place as u64);
+    let arguments = [&in_hand[..], &[table.as_ptr() as u64, slot.speed.into(), row.as_ptr() as u64]].concat();
+    let (_, bytes) = stack_of(step_in as *const (), &arguments);
+    // SAFETY: as above.
+    unsafe { put_run(&lent, run.as_ptr()) };
+    (bytes, words, grants)
 }

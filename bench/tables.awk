@@ -16,7 +16,8 @@ FILENAME ~ /counts$/ {
 }
 FILENAME ~ /times$/ { time[$1 " " $2, $3, $4] = $5; timed = 1; next }
 FILENAME ~ /stack$/ { if ($1 == "stack") { calls[++stacks] = $2; painted[$2] = $3 } else { sub(/^answers /, ""); answers = $0 } next }
-FILENAME ~ /frames$/ { framed[++all_frames] = $1; own[$1] = $2; frames[$1] = $3; next }
+FILENAME ~ /lent-frames$/ { lent_lines = lent_lines frame_line(); most["lent-step"] = $1 == "lentrun::step_in" ? $4 : most["lent-step"]; next }
+FILENAME ~ /frames$/ { frame_lines = frame_lines frame_line(); if (sub(/^gateway_/, "", $1)) most[$1] = $4; next }
 { undefined = undefined (undefined == "" ? "" : ", ") "`" $1 "`"; if ($1 !~ /^mem(cpy|set|move|cmp)$/) strange = 1 }
 
 function with_commas(number, text) {
@@ -27,11 +28,15 @@ function with_commas(number, text) {
     }
     return text
 }
+function frame_line() { return sprintf("| `%s` | %s | %s |\n", $1, with_commas($2), with_commas($3)) }
+# A name of several words.
+function plain_words(name) { gsub(/-/, " ", name); return name }
 function begin(name) { print "<!-- table " name " -->" }
 function end() { print "<!-- end -->" }
 # The largest file is one that the judge refuses.
 function input_of(call, size) { return size != "largest" ? "usual " size : (call ~ /read|write/ ? "file 32" : "full 32") }
 
+function met(ratio, limit) { return ratio <= limit ? "met" : "not met" }
 function goal_of(call) { return call ~ /read|write/ ? 1 : 0.9 }
 function speed(n, list, m, names, i, k, call, input, ratio, goal, ours, plain) {
     n = split("read write judge slack step", list, " ")
@@ -47,7 +52,7 @@ function speed(n, list, m, names, i, k, call, input, ratio, goal, ours, plain) {
             plain = total[input, call, "plain"]
             ratio = ours / plain
             goal = goal_of(call)
-            printf "| %s | %s | %s | %s | %s | %.2f | %.1f, %s |\n", call, names[k], sizes[input], with_commas(plain), with_commas(ours), ratio, goal, ratio <= goal ? "met" : "not met"
+            printf "| %s | %s | %s | %s | %s | %.2f | %.1f, %s |\n", call, names[k], sizes[input], with_commas(plain), with_commas(ours), ratio, goal, met(ratio, goal)
             plain = time[input, call, "plain"]
             ours = time[input, call, "ours"]
             if (timed) times = times sprintf("| %s | %s | %s | %s | %.2f |\n", call, names[k], with_commas(plain), with_commas(ours), ours / plain)
@@ -75,6 +80,33 @@ function speed(n, list, m, names, i, k, call, input, ratio, goal, ours, plain) {
     print "|---|---|---|---|---|"
     printf "| from words to a plan |"
     for (k = 1; k < m; k++) printf " %s |", with_commas(total["usual " names[k], "decode", "ours"])
+    print ""
+    end()
+}
+# The step by what its slot is like, and the outcome.
+function slots(n, list, m, names, i, k, input, call, ratio, greatest, sentence) {
+    n = split("quiet just-over crowded slow slow-and-crowded standing late refused-by-19 refused-by-20 refused-by-22 refused-by-21-at-the-last-job refused-by-21-at-the-first-job refused-by-21-for-no-job", list, " ")
+    m = split("1 8 16 32 largest", names, " ")
+    begin("slots")
+    print "| slot | input | plain Rust | ours | ours / plain | limit 1.0 | goal 0.9 |"
+    print "|---|---|---|---|---|---|---|"
+    for (i = 1; i <= n; i++)
+        for (k = 1; k <= m; k++) {
+            input = input_of("step", names[k])
+            call = "step:" list[i]
+            ratio = total[input, call, "ours"] / total[input, call, "plain"]
+            if (ratio > greatest) { greatest = ratio; sentence = sprintf("%.2f, in the slot `%s` of input %s", ratio, plain_words(list[i]), names[k]) }
+            printf "| %s | %s | %s | %s | %.2f | %s | %s |\n", plain_words(list[i]), names[k], with_commas(total[input, call, "plain"]), with_commas(total[input, call, "ours"]), ratio, met(ratio, 1), met(ratio, goal_of("step"))
+        }
+    end()
+    begin("greatest")
+    printf "Of all the slots that the step is measured in, %d kinds with each of the %d inputs, the greatest ratio is\n%s. The limit of 1.0 is %s, and the goal of %.1f is %s.\n", n, m, sentence, met(greatest, 1), goal_of("step"), met(greatest, goal_of("step"))
+    end()
+    begin("outcome")
+    print "| | 1 | 8 | 16 | 32 | largest |"
+    print "|---|---|---|---|---|---|"
+    printf "| outcome of the last job |"
+    for (k = 1; k <= m; k++) printf " %s |", with_commas(total[input_of("step", names[k]), "outcome", "ours"])
     print ""
     end()
 }
@@ -151,28 +183,31 @@ function factors() {
     factor("1,024 to 2,016 rows, 32 jobs, 63 intervals", "full 32", "file 32")
     end()
 }
-function stack(k, call, arguments) {
-    split("read 1 write 1 slack 1 start 2 step 3", arguments, " ")
-    for (k = 1; k in arguments; k += 2) on_stack[arguments[k]] = 8 * arguments[k + 1]
+function frame_table(table, lines) {
+    begin(table)
+    print "| function | bytes, its own | with what it calls |"
+    print "|---|---|---|"
+    printf "%s", lines
+    end()
+}
+function stack(k, call) {
     begin("stack")
     print "| call | bytes, painted | bytes at most, by frames |"
     print "|---|---|---|"
     for (k = 1; k <= stacks; k++) {
         call = calls[k]
-        printf "| %s | %s | %s |\n", call, with_commas(painted[call]), with_commas(frames["gateway_" call] + on_stack[call] + 128)
+        printf "| %s | %s | %s |\n", call == "lent-step" ? "step on a lent record" : call, with_commas(painted[call]), with_commas(most[call])
     }
     end()
-    begin("frames")
-    print "| function | bytes, its own | with what it calls |"
-    print "|---|---|---|"
-    for (k = 1; k <= all_frames; k++) printf "| `%s` | %s | %s |\n", framed[k], with_commas(own[framed[k]]), with_commas(frames[framed[k]])
-    end()
+    frame_table("frames", frame_lines)
+    frame_table("lent-frames", lent_lines)
     begin("outside")
     print "Answers seen: " answers ". What the archive needs from outside: " undefined "."
     end()
 }
 END {
     speed()
+    slots()
     where()
     hottest()
     growth("growth", "ours")

@@ -1,4 +1,4 @@
-//! Fixed inputs for measuring: plans by formula, and runs at their busiest slot.
+//! Fixed inputs for measuring: plans by formula, runs at their busiest slot, and slots of all kinds.
 //!
 //! Ends of windows do not come in order, so that no sort finds its work done.
 
@@ -58,6 +58,65 @@ impl Input {
             plan,
             table,
         }
+    }
+}
+
+/// All that a slot's call gets.
+pub struct Slot {
+    pub name: &'static str,
+    pub plan: Plan,
+    pub table: Vec<u32>,
+    pub run: Run,
+    pub speed: u16,
+}
+
+impl Input {
+    /// The slots that a step is measured in: with one change each, and some with two.
+    pub fn slots(&self) -> Vec<Slot> {
+        let jobs = self.plan.count;
+        let last = self.plan.jobs[..jobs].iter().map(|job| job.deadline);
+        let last = last.max().expect("at least one job");
+        let at_fault = |i: usize| move |slot: &mut Slot| slot.plan.jobs[i].size = 0;
+        let crowded = |slot: &mut Slot| slot.enlarge(60);
+        let slow = |slot: &mut Slot| slot.speed /= 2;
+        vec![
+            // What is due fits the speed.
+            self.slot("quiet", |_| ()),
+            self.slot("just-over", |slot| slot.enlarge(3)),
+            // The first few jobs use the speed up.
+            self.slot("crowded", crowded),
+            self.slot("slow", slow),
+            self.slot("slow-and-crowded", |slot| (crowded(slot), slow(slot)).1),
+            self.slot("standing", |slot| slot.speed = 0),
+            self.slot("late", |slot| slot.run.clock = last - 1),
+            self.slot("refused-by-19", |slot| slot.run.clock = last),
+            self.slot("refused-by-20", |slot| slot.speed += 1),
+            self.slot("refused-by-22", |slot| slot.table.truncate(PLACES - 1)),
+            self.slot("refused-by-21-at-the-last-job", at_fault(jobs - 1)),
+            self.slot("refused-by-21-at-the-first-job", at_fault(0)),
+            self.slot("refused-by-21-for-no-job", |slot| slot.plan.count = 0),
+        ]
+    }
+
+    fn slot(&self, name: &'static str, change: impl Fn(&mut Slot)) -> Slot {
+        let mut slot = Slot {
+            name,
+            plan: self.plan,
+            table: self.table.clone(),
+            run: self.run,
+            speed: self.plan.n,
+        };
+        change(&mut slot);
+        slot
+    }
+}
+
+impl Slot {
+    /// Makes all sizes and allotments so many times as large.
+    fn enlarge(&mut self, times: u32) {
+        self.table.iter_mut().for_each(|units| *units *= times);
+        let jobs = &mut self.plan.jobs[..self.plan.count];
+        jobs.iter_mut().for_each(|job| job.size *= u64::from(times));
     }
 }
 

@@ -13,6 +13,7 @@ pub mod refusal;
 mod slack;
 mod step;
 mod times;
+pub mod words;
 mod writer;
 
 pub use judge::{judge, Fault, Verdict};

@@ -3,6 +3,7 @@
 use std::process::Command;
 
 use bench::inputs::{Input as Measured, Shape, LARGEST_FILE};
+use bench::words::{plan_words, run_words, step_words};
 use bench::{Fault, Job, Plan, Run, Slack, Verdict, MOST_JOBS, PLACES};
 use reference::generate::{file, fixed_files, fixed_hands, hand, FileInput, HandInput, Lent};
 use reference::judge::judge;
@@ -37,6 +38,31 @@ fn plan_of(plan: &reference::plan::Plan) -> Plan {
 
 fn run_of(run: &reference::run::Run) -> Run {
     Run {
+        clock: run.clock,
+        slow: run.slow,
+        below_floor: run.below_floor,
+        carried: run.carried,
+    }
+}
+
+fn reference_plan(plan: &Plan) -> reference::plan::Plan {
+    let job_of = |job: &Job| reference::plan::Job {
+        name: job.name.to_be_bytes(),
+        grade: job.grade,
+        release: job.release,
+        size: job.size,
+        deadline: job.deadline,
+    };
+    reference::plan::Plan {
+        n: plan.n,
+        d: plan.d,
+        count: plan.count as u64,
+        jobs: plan.jobs.map(|job| job_of(&job)),
+    }
+}
+
+fn reference_run(run: &Run) -> reference::run::Run {
+    reference::run::Run {
         clock: run.clock,
         slow: run.slow,
         below_floor: run.below_floor,
@@ -109,12 +135,18 @@ fn compare_steps(
     let ours = plan_of(plan);
     let mut our_run = run_of(&run);
     let (mut our_grants, mut grants) = (marked(lent.grants), marked(lent.grants));
+    let words = plan_words(&ours);
+    let (mut lent_run, mut lent_grants) = (run_words(&our_run), grants.clone());
     for &speed in speeds {
         let answer = bench::step(&ours, table, &mut our_run, speed, &mut our_grants);
+        let on_words = step_words(&words, table, &mut lent_run, speed, &mut lent_grants);
         let expected = step(plan, table, &mut run, speed, &mut grants);
         assert_eq!(answer.err().unwrap_or(refusal::DONE), expected);
+        assert_eq!(on_words, answer);
         assert_eq!(our_run, run_of(&run));
+        assert_eq!(lent_run, run_words(&our_run));
         assert_eq!(our_grants, grants);
+        assert_eq!(lent_grants, grants);
     }
 }
 
@@ -179,12 +211,7 @@ fn compare_measured(input: &Measured, is_accepted: bool) {
     assert_eq!(plan_of(&plan), input.plan);
     assert_eq!(table, input.table);
     assert_eq!(judge(&plan, &table).is_ok(), is_accepted);
-    let run = reference::run::Run {
-        clock: input.run.clock,
-        slow: input.run.slow,
-        below_floor: input.run.below_floor,
-        carried: input.run.carried,
-    };
+    let run = reference_run(&input.run);
     for speed in [plan.n, plan.n - 1, plan.d - 1, plan.n + 1] {
         compare_steps(&plan, &table, run.clone(), &lent, &[speed, plan.n]);
     }
@@ -199,6 +226,76 @@ fn inputs_for_measuring() {
     let file = Measured::new(MOST_JOBS, Shape::LargestFile);
     compare_measured(&file, false);
     assert_eq!(file.file.len(), LARGEST_FILE);
+}
+
+/// What the reference answers in each slot for measuring.
+#[test]
+fn slots_for_measuring() {
+    let lent = Lent {
+        table: PLACES,
+        output: LARGEST_FILE,
+        grants: MOST_JOBS,
+    };
+    for (jobs, shape) in [1, 8, 16, 32]
+        .map(|jobs| (jobs, Shape::Usual))
+        .into_iter()
+        .chain([(32, Shape::Fullest)])
+    {
+        for slot in Measured::new(jobs, shape).slots() {
+            let plan = reference_plan(&slot.plan);
+            compare_steps(
+                &plan,
+                &slot.table,
+                reference_run(&slot.run),
+                &lent,
+                &[slot.speed],
+            );
+            let refused = slot
+                .name
+                .strip_prefix("refused-by-")
+                .map(|number| number[..2].parse());
+            let answer = step(
+                &plan,
+                &slot.table,
+                &mut reference_run(&slot.run),
+                slot.speed,
+                &mut [0; MOST_JOBS],
+            );
+            assert_eq!(
+                Ok(answer),
+                refused.unwrap_or(Ok(refusal::DONE)),
+                "{}",
+                slot.name
+            );
+        }
+    }
+}
+
+/// Too few words, marks that are none, and words that a field has no room for.
+#[test]
+fn words_that_hold_no_plan_or_run() {
+    let input = Measured::new(8, Shape::Usual);
+    let (plan, run) = (plan_words(&input.plan), run_words(&input.run));
+    let answer = |plan: &[u64], run: &[u32]| {
+        let (mut lent, mut grants) = (run.to_vec(), marked(MOST_JOBS));
+        let answer = step_words(plan, &input.table, &mut lent, input.plan.n, &mut grants);
+        assert!(answer.is_ok() || lent == run && grants == marked(MOST_JOBS));
+        answer
+    };
+    assert_eq!(answer(&plan, &run), Ok(()));
+    assert_eq!(answer(&plan[1..], &run), Err(refusal::TOO_SHORT));
+    assert_eq!(answer(&plan, &run[1..]), Err(refusal::TOO_SHORT));
+    for mark in [1, 2] {
+        let mut run = run;
+        run[mark] = 2;
+        assert_eq!(answer(&plan, &run), Err(refusal::UNSOUND));
+    }
+    // All but the name of the first job.
+    for word in [0, 1, 2, 4, 5, 6, 7] {
+        let mut plan = plan;
+        plan[word] += 1 << 32;
+        assert_eq!(answer(&plan, &run), Err(refusal::UNSOUND));
+    }
 }
 
 #[test]

@@ -126,3 +126,15 @@ every-cut test m n h more =
     let e : n ≡ m + (n - m) = omega arith in
     ap (every test) e ∙ every-split test m (n - m)
     ∙ ap (λ b. every test m && b) (every-all _ (n - m) (λ k b. more (m + k) (omega arith) (omega arith))) ∙ and-true (every test m)
+
+-- A test of two parts at every number is both tests at every number.
+interchange : (a b c d : Bool) → (a && b && (c && d)) ≡ (a && c && (b && d))
+interchange true true c d = refl
+interchange true false true d = refl
+interchange true false false d = refl
+interchange false b c d = refl
+
+pub every-both : (test other : ℕ → Bool) (n : ℕ) → every (λ k. test k && other k) n ≡ (every test n && every other n)
+unfolding every
+every-both test other zero = refl
+every-both test other (suc n) = ap (λ b. b && (test n && other n)) (every-both test other n) ∙ interchange (every test n) (every other n) (test n) (other n)

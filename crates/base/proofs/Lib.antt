@@ -4,3 +4,5 @@ pub mod Choice
 pub mod Below
 pub mod Padding
 pub mod Stores
+pub mod FillLaws
+pub mod BitLaws

@@ -62,3 +62,13 @@ sum-swap f m (suc n) = ap (λ s. s + sum (f n) m) (sum-swap f m n) ∙ sym (sum-
 pub term-le : (f : ℕ → ℕ) (n k : ℕ) → k < n → f k ≤ sum f n
 unfolding sum
 term-le f (suc n) k l = below-or-last k n l (λ p. omega (arith, term-le f n k p)) (λ e. rw e (omega arith))
+
+-- Terms that are at most those of an equal sum are equal to them.
+pub same-terms : (f g : ℕ → ℕ) (n : ℕ) → ((k : ℕ) → k < n → f k ≤ g k) → sum g n ≤ sum f n → (k : ℕ) → k < n → f k ≡ g k
+unfolding sum
+same-terms f g zero h e k l = absurd (omega arith)
+same-terms f g (suc n) h e k l =
+    let less = sum-mono f g n (λ j m. h j (omega arith)) in
+    below-or-last k n l
+    (λ m. same-terms f g n (λ j b. h j (omega arith)) (omega (arith, less, h n (omega arith))) k m)
+    (λ q. rw q (omega (arith, less, h n (omega arith))))

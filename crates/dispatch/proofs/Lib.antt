@@ -6,3 +6,10 @@ pub mod RowShares
 pub mod Injective
 pub mod SlotLimits
 pub mod StartEffect
+pub mod Alike
+pub mod ColumnPlan
+pub mod SoundColumns
+pub mod TurnLaws
+pub mod Sharing
+pub mod SlotOver
+pub mod OutcomeColumns

@@ -1,6 +1,6 @@
 -- What the soundness of a plan and a run for a slot says, part by part.
-use mathlib.Core.Path.{_≡_}
-use mathlib.Core.Bool.{true, _&&_}
+use mathlib.Core.Path.{_≡_, refl}
+use mathlib.Core.Bool.{true, false, _&&_, and-false}
 use Prim.Native.Nat.{ℕ, _≤_, _<_}
 use borrow.Author.Tests.{leb-true}
 use lib.Dec.{leb}
@@ -39,3 +39,8 @@ slot-sound p run e =
       not-over = leb-true (run .clock .0) (lastDeadline p) (s₂ .1);
       carried = λ i h. leb-true (carriedOf run i) (size p i) (every-at (λ k. leb (carriedOf run k) (size p k)) (counted p) i (s₁ .1) h);
     }
+
+-- A plan that breaks rule 9 is sound for no slot.
+pub too-large-unsound : (p : Plan) (run : Run) → boundsHold (jobsOf p) ≡ false → slotSound p run ≡ false
+unfolding slotSound
+too-large-unsound p run e = rw (e, and-false (ratesHold p && countHolds (jobsOf p) && gradesHold (jobsOf p))) refl

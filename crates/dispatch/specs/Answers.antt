@@ -4,6 +4,8 @@ use mathlib.Core.Path.{_≡_}
 use mathlib.Core.List.{List, [], _∷_}
 use Prim.Native.Nat.{ℕ}
 use Rattle.plan.specs.Kinds.{Position, Row, Speed, Table}
+use Rattle.plan.specs.Columns.{Columns}
+use Rattle.plan.specs.declared.kinds.Outline.{Outline}
 use Rattle.plan.specs.declared.kinds.Plan.{Plan}
 use Rattle.judge.specs.Verdict.{judged}
 use Rattle.plan.specs.Report.{Report}
@@ -15,6 +17,8 @@ use Rattle.dispatch.specs.declared.answers.Answer.the-variants as answer
 use Rattle.dispatch.specs.declared.answers.Outcome.{Outcome}
 use Rattle.dispatch.specs.declared.answers.Outcome.the-variants.{Met, Discarded, Missed, Open, Refused}
 use Rattle.dispatch.specs.declared.start.Started.{Started}
+use Rattle.dispatch.specs.declared.Moment.{Moment}
+use Rattle.dispatch.specs.declared.step.Slot.{Slot}
 use Rattle.dispatch.specs.declared.step.Stepped.{Stepped}
 
 -- The view of a slot's answer: empty if done, otherwise the refusal number.
@@ -34,6 +38,17 @@ outcomeView (Refused n) = refused n
 abbrev pub Starts : (p : Plan) (table : Table) (r : Started) → Type 0
 Starts p table r = (verdict.verdictView (r .verdict) ≡ judged p table) × (r .run ≡ startFrom (judged p table) (started p) noRun)
 
+-- A run, from its parts.
+abbrev pub runAt : (at : Moment) (carried : Row) → Run
+runAt at carried = record { clock = at .clock; slow = at .slow; below = at .below; carried = carried }
+
+-- The contract of `slot_over`: for every plan whose outline and columns it is lent, its answer, the run
+-- and the grant row at exit are the effect of the slot's call.
+abbrev pub StepsOver : (o : Outline) (grades releases sizes deadlines : List ℕ) (table : Table) (at : Moment) (v : Speed) (carried grants : Row) (r : Slot) (carried-left left : List ℕ) → Type 0
+StepsOver o grades releases sizes deadlines table at v carried grants r carried-left left =
+    (p : Plan) → Columns p o grades releases sizes deadlines
+    → record { answer = answerView (r .answer); run = runAt (r .next) carried-left; grants = left } ≡ stepped p table (runAt at carried) v grants
+
 -- The contract of `step`: its answer, the run and the grant row
 -- at exit are the effect of the slot's call.
 abbrev pub Steps : (p : Plan) (table : Table) (run : Run) (v : Speed) (grants : Row) (r : Stepped) (left : List ℕ) → Type 0
@@ -42,3 +57,8 @@ Steps p table run v grants r left = record { answer = answerView (r .answer); ru
 -- The contract of `outcome`: the view of its answer is the outcome of the job at the position.
 abbrev pub Ends : (p : Plan) (run : Run) (position : Position) (r : Outcome) → Type 0
 Ends p run position r = outcomeView r ≡ outcome p run position
+
+-- The contract of `outcome_over`: the same for every plan whose outline and columns it is lent.
+abbrev pub EndsOver : (o : Outline) (grades releases sizes deadlines : List ℕ) (run : Run) (position : Position) (r : Outcome) → Type 0
+EndsOver o grades releases sizes deadlines run position r =
+    (p : Plan) → Columns p o grades releases sizes deadlines → Ends p run position r

@@ -1,7 +1,6 @@
 -- What is due to each job in a slot.
 use mathlib.Core.Bool.{Bool, cond, _&&_, _||_}
-use mathlib.Core.List.{List}
-use Prim.Native.Nat.{ℕ, suc, _-_, min}
+use Prim.Native.Nat.{suc, _-_, min}
 use lib.Dec.{leb, ltb}
 use lib.ListN.{getD}
 use Rattle.plan.specs.Kinds.{Amount, Position, Speed, Table, Time}

@@ -8,6 +8,7 @@ mod slot;
 pub mod soundness;
 pub mod start;
 pub mod step;
+mod turns;
 
 use plan::edition::Edition;
 use plan::kinds::Slots;
@@ -19,4 +20,11 @@ pub struct Run {
     pub slow: bool,
     pub below: bool,
     pub carried: [u32; Edition::MOST_JOBS],
+}
+
+// A run without its carried units.
+pub struct Moment {
+    pub clock: Slots,
+    pub slow: bool,
+    pub below: bool,
 }

@@ -1,70 +1,62 @@
-// One slot of a sound run: each job's share of the speed. No queue is built: a share
-// is what the claims of lesser rank leave.
-use crate::choice::pick;
+// One slot of a sound run: the grants. If all claims fit into the speed, each is granted; otherwise the
+// jobs get their turns.
+use crate::claims::UNKNOWN;
+use crate::claims::all_fit;
+use crate::turns::gather;
+use crate::turns::serve_gathered;
+use plan::boundaries::begun_by;
 use plan::edition::Edition;
+use plan::kinds::Outline;
 use plan::kinds::Rate;
 use plan::kinds::Slots;
 use plan::kinds::Units;
-use plan::kinds::as_units;
+use plan::rules::counted_within;
 ghost use mathlib.Core.Path.{_≡_};
-ghost use mathlib.Core.Bool.{_||_};
-ghost use Prim.Native.Nat.{ℕ, _+_, _-_, _≤_, _<_, min};
+ghost use mathlib.Core.Bool.{true, false, _||_};
+ghost use Prim.Native.Nat.{ℕ, suc, _+_, _≤_, _<_, _^_, min};
 ghost use lib.Dec.{ltb};
 ghost use lib.ListN.{length, getD};
-ghost use Rattle.plan.specs.Edition.{mostJobs, mostRate, mostSize};
-ghost use Rattle.dispatch.specs.inner.Shares.{filled, rowShare};
+ghost use Rattle.base.specs.Fill.{filled};
+ghost use Rattle.plan.specs.Edition.{mostJobs, mostRate, mostDeadline};
+ghost use Rattle.plan.specs.Boundaries.{present};
+ghost use Rattle.plan.specs.Rules.{counted, release, deadline};
+ghost use Rattle.plan.specs.declared.kinds.Plan.{Plan};
+ghost use Rattle.dispatch.specs.inner.Columns.{planOn};
+ghost use Rattle.dispatch.specs.inner.Turns.{servedIn, dueIn, KnownDue, inTurns};
+ghost use Rattle.dispatch.specs.Step.{granted};
 
-// The lesser of a claim and what the earlier claims leave of one slot at the speed.
-fn rest_of(claim: Units, v: Rate, earlier: Units) -> Units
-    ensures { λ r. ⌜ r ≡ record { 0 = min (claim .0) (v .0 - earlier .0) } ⌝ }
-{
-    let most = v.over(Slots(1));
-    if most.0 <= earlier.0 {
-        return Units(0);
-    }
-    let rest = Units(most.0 - earlier.0);
-    if claim.0 < rest.0 { claim } else { rest }
-}
-
-// The share of job i: one pass adds up the claims of lesser rank. No claim exceeds
-// the greatest rate, so the sum does not overflow.
-fn share_of(
-    ranks: &[u32; Edition::MOST_JOBS],
-    claims: &[u32; Edition::MOST_JOBS],
-    jobs: usize,
-    v: Rate,
-    i: usize,
-) -> Units
-    requires { ⌜ (jobs ≤ mostJobs) × (i < jobs) × ((k : ℕ) → k < jobs → getD (now claims) k 0 ≤ mostRate) ⌝ }
-    ensures { λ r. ⌜ r ≡ record { 0 = rowShare (now (ranks .entry)) (now (claims .entry)) jobs (v .0) i } ⌝ }
-{
-    let rank = ranks[i];
-    let mut earlier: u32 = 0;
-    let mut k = 0;
-    while k < jobs {
-        earlier += pick(ranks[k] < rank, claims[k]);
-        k += 1;
-    }
-    rest_of(as_units(claims[i]), v, as_units(earlier))
-}
-
-// Writes every job's share to the grant row and adds it to the carried units.
-pub(crate) fn grant_all(
-    ranks: &[u32; Edition::MOST_JOBS],
-    claims: &[u32; Edition::MOST_JOBS],
-    jobs: usize,
-    v: Rate,
-    carried: &mut [u32; Edition::MOST_JOBS],
-    grants: &mut [u32],
-)
-    requires { ⌜ (jobs ≤ mostJobs) × (jobs ≤ length (now grants)) × ((k : ℕ) → k < jobs → getD (now claims) k 0 ≤ mostRate) × ((k : ℕ) → k < jobs → getD (now carried) k 0 ≤ mostSize) ⌝ }
-    ensures { λ r. ⌜ (now (carried .exit) ≡ filled (λ k. getD (now (carried .entry)) k 0 + rowShare (now (ranks .entry)) (now (claims .entry)) jobs (v .0) k) jobs (now (carried .entry))) × (now (grants .exit) ≡ filled (rowShare (now (ranks .entry)) (now (claims .entry)) jobs (v .0)) jobs (now (grants .entry))) ⌝ }
+// Writes the claims to the grant row.
+fn grant_claims(claims: &[u32; Edition::MOST_JOBS], jobs: usize, grants: &mut [u32])
+    requires { ⌜ (jobs ≤ mostJobs) × (jobs ≤ length (now grants)) ⌝ }
+    ensures { λ r. ⌜ now (grants .exit) ≡ filled (λ k. getD (now (claims .entry)) k 0) jobs (now (grants .entry)) ⌝ }
 {
     let mut i = 0;
     while i < jobs {
-        let grant = share_of(ranks, claims, jobs, v, i);
-        grants[i] = grant.0 as u32;
-        carried[i] = carried[i] + grant.0 as u32;
+        grants[i] = claims[i];
+        i += 1;
+    }
+}
+
+// Writes zeros to the grant row.
+fn clear_grants(jobs: usize, grants: &mut [u32])
+    requires { ⌜ jobs ≤ length (now grants) ⌝ }
+    ensures { λ r. ⌜ now (grants .exit) ≡ filled (λ k. 0) jobs (now (grants .entry)) ⌝ }
+{
+    let mut i = 0;
+    while i < jobs {
+        grants[i] = 0;
+        i += 1;
+    }
+}
+
+// Adds the grants to the carried units.
+pub(crate) fn carry_grants(carried: &mut [u32; Edition::MOST_JOBS], jobs: usize, grants: &[u32])
+    requires { ⌜ (jobs ≤ mostJobs) × (jobs ≤ length (now grants)) × ((k : ℕ) → k < jobs → getD (now carried) k 0 + getD (now grants) k 0 < 2 ^ 32) ⌝ }
+    ensures { λ r. ⌜ now (carried .exit) ≡ filled (λ k. getD (now (carried .entry)) k 0 + getD (now (grants .entry)) k 0) jobs (now (carried .entry)) ⌝ }
+{
+    let mut i = 0;
+    while i < jobs {
+        carried[i] = carried[i] + grants[i];
         i += 1;
     }
 }
@@ -74,4 +66,128 @@ pub(crate) fn mark_after(was: bool, v: Rate, rate: Rate) -> bool
     ensures { λ r. ⌜ r ≡ (was || ltb (v .0) (rate .0)) ⌝ }
 {
     was | (v.0 < rate.0)
+}
+
+// The jobs get their turns: the HI jobs in the order of their ranks, and then the others, unless the slow
+// mark is set. Claims that are known are not worked out again.
+fn serve_in_turns(
+    jobs: usize,
+    v: Units,
+    clock: Slots,
+    slow: bool,
+    spans: u32,
+    grades: &[u32; Edition::MOST_JOBS],
+    releases: &[u32; Edition::MOST_JOBS],
+    sizes: &[u32; Edition::MOST_JOBS],
+    deadlines: &[u32; Edition::MOST_JOBS],
+    carried: &[u32; Edition::MOST_JOBS],
+    table: &[u32],
+    claims: &[u32; Edition::MOST_JOBS],
+    grants: &mut [u32],
+)
+    requires { ⌜ (jobs ≤ mostJobs) × (jobs ≤ length (now grants)) × ((k : ℕ) → k < jobs → getD (now deadlines) k 0 ≤ mostDeadline) × ((k : ℕ) → k < jobs → servedIn (clock .0) slow (now grades) (now releases) (now deadlines) k ≡ true → KnownDue (now claims) (dueIn slow spans (now sizes) (now carried) (now table)) k) ⌝ }
+    ensures { λ r. ⌜ now (grants .exit) ≡ inTurns (clock .0) slow (now (grades .entry)) (now (releases .entry)) (now (deadlines .entry)) (dueIn slow spans (now (sizes .entry)) (now (carried .entry)) (now (table .entry))) (v .0) jobs (filled (λ k. 0) jobs (now (grants .entry))) ⌝ }
+{
+    clear_grants(jobs, grants);
+    let mut ranks = [0u32; Edition::MOST_JOBS];
+    let count = gather(true, jobs, clock, grades, releases, deadlines, &mut ranks);
+    let rest = serve_gathered(
+        &mut ranks,
+        count,
+        v,
+        slow,
+        spans,
+        sizes,
+        carried,
+        table,
+        claims,
+        grants,
+    );
+    if slow | (rest.0 == 0) {
+        return;
+    }
+    let others = gather(false, jobs, clock, grades, releases, deadlines, &mut ranks);
+    serve_gathered(
+        &mut ranks,
+        others,
+        rest,
+        slow,
+        spans,
+        sizes,
+        carried,
+        table,
+        claims,
+        grants,
+    );
+}
+
+// The number of intervals begun. Under the slow mark nobody uses it.
+fn spans_of(
+    slow: bool,
+    count: usize,
+    releases: &[u32; Edition::MOST_JOBS],
+    deadlines: &[u32; Edition::MOST_JOBS],
+    clock: Slots,
+) -> u32
+    ensures { λ r. ⌜ ((p : Plan) → slow ≡ false → p .count ≡ count → ((i : ℕ) → i < counted p → getD (now (releases .entry)) i 0 ≡ release p i) → ((i : ℕ) → i < counted p → getD (now (deadlines .entry)) i 0 ≡ deadline p i) → r ≡ suc (present p (clock .0))) ⌝ }
+{
+    if slow {
+        return 0;
+    }
+    begun_by(count, releases, deadlines, clock) as u32
+}
+
+// Writes the grants of a slot at speed v that is not refused. `slow` is the slow mark after the slot.
+pub(crate) fn share_out(
+    o: Outline,
+    v: Rate,
+    clock: Slots,
+    slow: bool,
+    grades: &[u32; Edition::MOST_JOBS],
+    releases: &[u32; Edition::MOST_JOBS],
+    sizes: &[u32; Edition::MOST_JOBS],
+    deadlines: &[u32; Edition::MOST_JOBS],
+    carried: &[u32; Edition::MOST_JOBS],
+    table: &[u32],
+    grants: &mut [u32],
+)
+    requires { ⌜ (min (o .count) mostJobs ≤ length (now grants)) × ((k : ℕ) → k < min (o .count) mostJobs → getD (now deadlines) k 0 ≤ mostDeadline) × (v .0 ≤ mostRate) × (ltb (v .0) (o .n .0) ≡ true → slow ≡ true) ⌝ }
+    ensures { λ r. ⌜ now (grants .exit) ≡ granted (planOn o (now (grades .entry)) (now (releases .entry)) (now (sizes .entry)) (now (deadlines .entry))) (now (table .entry)) (record { clock = clock; slow = slow; below = false; carried = now (carried .entry) }) (v .0) (now (grants .entry)) ⌝ }
+{
+    let jobs = counted_within(o.count);
+    let most = v.over(Slots(1));
+    let spans = spans_of(slow, o.count, releases, deadlines, clock);
+    let mut claims = [UNKNOWN; Edition::MOST_JOBS];
+    if all_fit(
+        &mut claims,
+        jobs,
+        most,
+        clock,
+        slow,
+        spans,
+        grades,
+        releases,
+        sizes,
+        deadlines,
+        carried,
+        table,
+    ) {
+        grant_claims(&claims, jobs, grants);
+        return;
+    }
+    serve_in_turns(
+        jobs,
+        most,
+        clock,
+        slow,
+        spans,
+        grades,
+        releases,
+        sizes,
+        deadlines,
+        carried,
+        table,
+        &claims,
+        grants,
+    );
 }

@@ -1,44 +1,42 @@
-// A slot's call, by value: the answer and the next run.
+// A slot's call: over the columns of a plan's jobs, and by value.
+use crate::Moment;
 use crate::Run;
 use crate::answers::Answer;
-use crate::claims::claim_of;
-use crate::ranks::rank_of;
-use crate::slot::grant_all;
+use crate::slot::carry_grants;
 use crate::slot::mark_after;
+use crate::slot::share_out;
 use crate::soundness::Readiness;
-use crate::soundness::begun_in;
 use crate::soundness::is_ended;
 use crate::soundness::is_sound;
 use crate::soundness::readiness_of;
-use base::sum_of;
+use plan::columns::columns_of;
 use plan::edition::Edition;
+use plan::kinds::Outline;
 use plan::kinds::Plan;
 use plan::kinds::Rate;
 use plan::kinds::Slots;
-use plan::kinds::Units;
-use plan::kinds::as_units;
 use plan::refusal::BUFFER_TOO_SHORT;
 use plan::refusal::CLOCK_AT_END;
 use plan::refusal::SPEED_ABOVE_NORMAL;
 use plan::refusal::UNSOUND;
-use plan::rules::counted_of;
+use plan::rules::counted_within;
 ghost use mathlib.Core.Path.{_≡_};
 ghost use lib.Dec.{ltb};
 ghost use Rattle.plan.specs.Report.{isNone};
 ghost use Rattle.dispatch.specs.inner.Readiness.{faultBy};
-ghost use Rattle.dispatch.specs.Answers.{answerView, Steps};
+ghost use Rattle.dispatch.specs.Answers.{answerView, Steps, StepsOver};
 
-// The result of a slot's call; with a refusal the run is unchanged.
+// The result of a slot's call over columns: the answer, and the run but for its carried units, which are
+// lent. With a refusal the run is unchanged.
+pub struct Slot {
+    pub answer: Answer,
+    pub next: Moment,
+}
+
+// The result of a slot's call by value; with a refusal the run is unchanged.
 pub struct Stepped {
     pub answer: Answer,
     pub run: Run,
-}
-
-// A refusal with the run unchanged.
-fn refused(answer: Answer, run: Run) -> Stepped
-    ensures { λ r. ⌜ r ≡ record { answer = answer; run = run } ⌝ }
-{
-    Stepped { answer, run }
 }
 
 // The answer of a slot's call: the first of 21, 22, 19 and 20 that applies, otherwise done.
@@ -69,40 +67,93 @@ fn is_done(answer: Answer) -> bool
     }
 }
 
+// Carries one slot at speed v for a plan whose outline and columns are lent: writes the grants to the
+// lent row, one entry per counted job, and adds them to the carried units. A refusal changes neither.
+pub fn slot_over(
+    o: Outline,
+    grades: &[u32; Edition::MOST_JOBS],
+    releases: &[u32; Edition::MOST_JOBS],
+    sizes: &[u32; Edition::MOST_JOBS],
+    deadlines: &[u32; Edition::MOST_JOBS],
+    table: &[u32],
+    at: Moment,
+    v: u16,
+    carried: &mut [u32; Edition::MOST_JOBS],
+    grants: &mut [u32],
+) -> Slot
+    ensures { λ r. ⌜ StepsOver o (now (grades .entry)) (now (releases .entry)) (now (sizes .entry)) (now (deadlines .entry)) (now (table .entry)) at v (now (carried .entry)) (now (grants .entry)) r (now (carried .exit)) (now (grants .exit)) ⌝ }
+{
+    let speed = Rate(v);
+    let clock = at.clock;
+    let jobs = counted_within(o.count);
+    let short = (table.len() < Edition::PLACES) | (grants.len() < jobs);
+    let readiness = readiness_of(o, grades, releases, sizes, deadlines, clock, carried);
+    let answer = answer_to(readiness, short, o.n, speed);
+    if !is_done(answer) {
+        return Slot { answer, next: at };
+    }
+    let slow = mark_after(at.slow, speed, o.n);
+    let below = mark_after(at.below, speed, o.d);
+    share_out(
+        o,
+        speed,
+        clock,
+        slow,
+        grades,
+        releases,
+        sizes,
+        deadlines,
+        carried,
+        table,
+        grants,
+    );
+    carry_grants(carried, jobs, grants);
+    let clock = Slots(clock.0 + 1);
+    let next = Moment { clock, slow, below };
+    Slot { answer, next }
+}
+
 // Carries one slot at speed v and writes the grants to the lent row, one entry per counted job. A
-// refusal changes neither run nor row. The loop over the jobs is here and not in a function of its own,
-// so that the stack holds no second copy of the plan.
+// refusal changes neither run nor row. A size that has no room in a column is too large for rule 9.
 pub fn step(p: Plan, table: &[u32], run: Run, v: u16, grants: &mut [u32]) -> Stepped
     ensures { λ r. ⌜ Steps p (now (table .entry)) run v (now (grants .entry)) r (now (grants .exit)) ⌝ }
 {
-    let speed = Rate(v);
+    let mut grades = [0u32; Edition::MOST_JOBS];
+    let mut releases = [0u32; Edition::MOST_JOBS];
+    let mut sizes = [0u32; Edition::MOST_JOBS];
+    let mut deadlines = [0u32; Edition::MOST_JOBS];
+    if !columns_of(p, &mut grades, &mut releases, &mut sizes, &mut deadlines) {
+        let answer = Answer::Refused(UNSOUND);
+        return Stepped { answer, run };
+    }
+    let n = p.n;
+    let d = p.d;
+    let count = p.count;
+    let o = Outline { n, d, count };
     let clock = run.clock;
+    let slow = run.slow;
+    let below = run.below;
+    let at = Moment { clock, slow, below };
     let mut carried = run.carried;
-    let jobs = counted_of(p);
-    let short = (table.len() < Edition::PLACES) | (grants.len() < jobs);
-    let readiness = readiness_of(p, clock, &carried);
-    let answer = answer_to(readiness, short, p.n, speed);
-    if !is_done(answer) {
-        return refused(answer, run);
-    }
-    let slow = mark_after(run.slow, speed, p.n);
-    let below = mark_after(run.below, speed, p.d);
-    let begun = begun_in(readiness);
-    let mut ranks = [0u32; Edition::MOST_JOBS];
-    let mut claims = [0u32; Edition::MOST_JOBS];
-    let mut i = 0;
-    while i < jobs {
-        let job = p.jobs[i];
-        ranks[i] = rank_of(job.grade, job.deadline, i as u32) as u32;
-        let allotted = Units(sum_of(table, Edition::MOST_INTERVALS * i, 1, begun));
-        let claim = claim_of(job, clock, slow, allotted, as_units(carried[i]), p.n);
-        claims[i] = claim.0 as u32;
-        i += 1;
-    }
-    grant_all(&ranks, &claims, jobs, speed, &mut carried, grants);
-    let next = Slots(clock.0 + 1);
+    let s = slot_over(
+        o,
+        &grades,
+        &releases,
+        &sizes,
+        &deadlines,
+        table,
+        at,
+        v,
+        &mut carried,
+        grants,
+    );
+    let answer = s.answer;
+    let next = s.next;
+    let clock = next.clock;
+    let slow = next.slow;
+    let below = next.below;
     let after = Run {
-        clock: next,
+        clock,
         slow,
         below,
         carried,

@@ -1,3 +1,4 @@
 pub mod Writes
 pub mod Determined
 pub mod RoundTrip
+pub mod ColumnLaws

@@ -1,16 +1,20 @@
 -- The memory that a host lends: the plan and the run that its words encode, and the words of each.
 use mathlib.Core.Bool.{Bool, false, cond, _&&_}
 use mathlib.Core.List.{List, [], _∷_, _++_}
-use Prim.Native.Nat.{ℕ, zero, suc, _+_, _*_, min}
+use Prim.Native.Nat.{ℕ, zero, suc, _+_, _*_, _^_, min}
 use lib.Dec.{leb, ltb, eqb}
 use lib.ListN.{length, getD, take, drop}
 use lib.Seq.{sets}
 use Rattle.plan.specs.Kinds.{Offset, Position, Words}
 use Rattle.plan.specs.Edition.{mostJobs}
-use Rattle.plan.specs.Rules.{jobOf}
+use Rattle.base.specs.Below.{every}
+use Rattle.plan.specs.Rules.{jobOf, counted}
+use Rattle.plan.specs.Columns.{columnValues}
 use Rattle.plan.specs.declared.kinds.Job.{Job}
+use Rattle.plan.specs.declared.kinds.Outline.{Outline}
 use Rattle.plan.specs.declared.kinds.Plan.{Plan}
 use Rattle.plan.specs.Rules.{noPlan}
+use Rattle.dispatch.specs.declared.Moment.{Moment}
 use Rattle.dispatch.specs.declared.Run.{Run}
 use Rattle.dispatch.specs.Step.{noRun}
 use mathlib.Core.Path.{_≡_}
@@ -94,6 +98,42 @@ planIn w =
 unfoldable pub planOf : Words → Plan
 planOf w = cond (shortPlan w) noPlan (planIn w)
 
+-- A plan without its jobs.
+abbrev pub outlineOf : Plan → Outline
+outlineOf p = record { n = p .n; d = p .d; count = p .count }
+
+-- Word k of job i; a word that is not there counts as 0.
+abbrev pub jobWord : (w : Words) (k : ℕ) (i : Position) → ℕ
+jobWord w k i = getD w (jobStart i + k) 0
+
+-- The grade, release, size and deadline of job i as words.
+abbrev pub gradeWord : (w : Words) (i : Position) → ℕ
+gradeWord w = jobWord w 1
+
+abbrev pub releaseWord : (w : Words) (i : Position) → ℕ
+releaseWord w = jobWord w 2
+
+abbrev pub sizeWord : (w : Words) (i : Position) → ℕ
+sizeWord w = jobWord w 3
+
+abbrev pub deadlineWord : (w : Words) (i : Position) → ℕ
+deadlineWord w = jobWord w 4
+
+-- The number of values of 8 bits.
+abbrev pub gradeValues : ℕ
+gradeValues = 2 ^ 8
+
+-- Whether the words of job i have room in its columns: the grade in 8 bits, as in a plan, and the other
+-- three in the 32 bits of a column.
+abbrev pub jobFits : (w : Words) (i : Position) → Bool
+jobFits w i =
+    ltb (gradeWord w i) gradeValues && ltb (releaseWord w i) columnValues && ltb (sizeWord w i) columnValues && ltb (deadlineWord w i) columnValues
+
+-- Whether the words of every counted job have room in its columns. No rule allows a job whose words have
+-- none.
+abbrev pub wordsFit : Words → Bool
+wordsFit w = every (jobFits w) (counted (planOf w))
+
 -- The words of a job.
 abbrev pub jobOut : Job → List ℕ
 jobOut j = j .name .0 ∷ j .grade ∷ j .release .0 ∷ j .size .0 ∷ j .deadline .0 ∷ []
@@ -132,6 +172,10 @@ runIn w =
 -- The run that words encode; too few words encode a run of zeros.
 unfoldable pub runOf : Words → Run
 runOf w = cond (shortRun w) noRun (runIn w)
+
+-- A run without its carried units.
+abbrev pub momentOf : Run → Moment
+momentOf r = record { clock = r .clock; slow = r .slow; below = r .below }
 
 -- The word of a mark.
 abbrev pub markOut : Bool → ℕ

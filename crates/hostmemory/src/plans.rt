@@ -1,20 +1,23 @@
 // A plan in the words that a host lends: decoding and encoding.
 use crate::sizes::Sizes;
+use plan::columns::COLUMN_VALUES;
 use plan::edition::Edition;
 use plan::kinds::Job;
 use plan::kinds::Name;
+use plan::kinds::Outline;
 use plan::kinds::Plan;
 use plan::kinds::Rate;
 use plan::kinds::Slots;
 use plan::kinds::Units;
+use plan::rules::counted_within;
 ghost use mathlib.Core.Path.{_≡_};
 ghost use Prim.Native.Nat.{_+_, _≤_, min};
 ghost use lib.ListN.{length};
 ghost use lib.Seq.{sets};
 ghost use Rattle.plan.specs.Edition.{mostJobs};
 ghost use Rattle.plan.specs.Rules.{noJob};
-ghost use Rattle.hostmemory.specs.Memory.{headWords, jobWords, planWords, most8, most16, most32, jobAt, planOf, jobOut, jobsOut, planOut};
-ghost use Rattle.hostmemory.specs.Answers.{PutsPlan};
+ghost use Rattle.hostmemory.specs.Memory.{headWords, jobWords, planWords, most8, most16, most32, jobAt, planOf, outlineOf, jobOut, jobsOut, planOut};
+ghost use Rattle.hostmemory.specs.Answers.{PutsPlan, ReadsColumns};
 
 // A word as a number of 8, 16 or 32 bits; a word that does not fit becomes the greatest such number.
 fn as8(word: u64) -> u8
@@ -70,18 +73,37 @@ fn no_job() -> Job
     }
 }
 
+// The rates and the count of the plan that words encode; zeros for too few words.
+pub fn outline_in(words: &[u64]) -> Outline
+    ensures { λ r. ⌜ r ≡ outlineOf (planOf (now (words .entry))) ⌝ }
+{
+    if words.len() < Sizes::PLAN {
+        return Outline {
+            n: Rate(0),
+            d: Rate(0),
+            count: 0,
+        };
+    }
+    let n = Rate(as16(words[0]));
+    let d = Rate(as16(words[1]));
+    Outline {
+        n,
+        d,
+        count: words[2] as usize,
+    }
+}
+
 // The plan that words encode; too few words encode a plan of zeros.
 pub fn plan_of(words: &[u64]) -> Plan
     ensures { λ r. ⌜ r ≡ planOf (now (words .entry)) ⌝ }
 {
+    let outline = outline_in(words);
+    let n = outline.n;
+    let d = outline.d;
+    let count = outline.count;
     let mut jobs = [no_job(); Edition::MOST_JOBS];
     if words.len() < Sizes::PLAN {
-        return Plan {
-            n: Rate(0),
-            d: Rate(0),
-            count: 0,
-            jobs,
-        };
+        return Plan { n, d, count, jobs };
     }
     let mut i = 0;
     while i < Edition::MOST_JOBS {
@@ -89,14 +111,45 @@ pub fn plan_of(words: &[u64]) -> Plan
         jobs[i] = job;
         i += 1;
     }
-    let n = Rate(as16(words[0]));
-    let d = Rate(as16(words[1]));
-    Plan {
-        n,
-        d,
-        count: words[2] as usize,
-        jobs,
+    Plan { n, d, count, jobs }
+}
+
+// The number of values that 8 bits hold.
+const GRADE_VALUES: u64 = 256;
+
+// Writes the columns of the plan's counted jobs; too few words encode none. Whether every word has room: a grade
+// in 8 bits, the others in 32. A column holds the lowest 32 bits of a word that has none.
+pub fn columns_in(
+    words: &[u64],
+    grades: &mut [u32; Edition::MOST_JOBS],
+    releases: &mut [u32; Edition::MOST_JOBS],
+    sizes: &mut [u32; Edition::MOST_JOBS],
+    deadlines: &mut [u32; Edition::MOST_JOBS],
+) -> bool
+    ensures { λ r. ⌜ ReadsColumns (now (words .entry)) (now (grades .entry)) (now (releases .entry)) (now (sizes .entry)) (now (deadlines .entry)) r (now (grades .exit)) (now (releases .exit)) (now (sizes .exit)) (now (deadlines .exit)) ⌝ }
+{
+    if words.len() < Sizes::PLAN {
+        return true;
     }
+    let jobs = counted_within(words[2] as usize);
+    let mut grade_bits: u64 = 0;
+    let mut bits: u64 = 0;
+    let mut i = 0;
+    while i < jobs {
+        let at = Sizes::HEAD + Sizes::JOB * i;
+        let grade = words[at + 1];
+        let release = words[at + 2];
+        let size = words[at + 3];
+        let deadline = words[at + 4];
+        grade_bits = grade_bits | grade;
+        bits = bits | release | size | deadline;
+        grades[i] = (grade % COLUMN_VALUES) as u32;
+        releases[i] = (release % COLUMN_VALUES) as u32;
+        sizes[i] = (size % COLUMN_VALUES) as u32;
+        deadlines[i] = (deadline % COLUMN_VALUES) as u32;
+        i += 1;
+    }
+    (grade_bits < GRADE_VALUES) & (bits < COLUMN_VALUES)
 }
 
 // Writes a job's words from index `at` on.

@@ -6,3 +6,6 @@ pub mod PresentInterval
 pub mod Soundness
 pub mod Reports
 pub mod VersionLimits
+pub mod ColumnLaws
+pub mod MarkLaws
+pub mod PlanOn

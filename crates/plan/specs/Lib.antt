@@ -7,3 +7,5 @@ pub mod Rules
 pub mod Boundaries
 pub mod Table
 pub mod Same
+pub mod Columns
+pub mod inner

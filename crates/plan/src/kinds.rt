@@ -44,6 +44,13 @@ pub struct Plan {
     pub jobs: [Job; Edition::MOST_JOBS],
 }
 
+// A plan without its jobs. A call that is lent the columns of the jobs (`columns`) needs no plan in hand.
+pub struct Outline {
+    pub n: Rate,
+    pub d: Rate,
+    pub count: usize,
+}
+
 // A stored 32-bit number as units.
 pub fn as_units(stored: u32) -> Units
     ensures { λ r. ⌜ r ≡ record { 0 = stored } ⌝ }

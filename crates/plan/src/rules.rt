@@ -9,6 +9,8 @@ use crate::kinds::Rate;
 use crate::kinds::Slots;
 use crate::kinds::Units;
 ghost use mathlib.Core.Path.{_≡_};
+ghost use Prim.Native.Nat.{min};
+ghost use Rattle.plan.specs.Edition.{mostJobs};
 ghost use Rattle.plan.specs.Rules.{ratesAllowed, countAllowed, nameAllowed, isAbsent, gradeAllowed, windowAllowed, sizeAllowed};
 ghost use Rattle.plan.specs.Rules.{jobsOf, counted, names, namesHold, namesDiffer, gradesHold, boundsHold, jobsHold, rulesHold};
 
@@ -76,16 +78,22 @@ pub fn size_allowed(size: Units) -> bool
     (1 <= size.0) & (size.0 <= Edition::MOST_SIZE)
 }
 
-// The number of counted jobs: the plan's count, but at most the number of records.
-pub fn counted_of(p: Plan) -> usize
-    ensures { λ r. ⌜ r ≡ counted p ⌝ }
+// The number of jobs that count where a plan has this count: at most the number of records.
+pub fn counted_within(count: usize) -> usize
+    ensures { λ r. ⌜ r ≡ min count mostJobs ⌝ }
 {
-    let count = p.count;
     if count <= Edition::MOST_JOBS {
         count
     } else {
         Edition::MOST_JOBS
     }
+}
+
+// The number of counted jobs of a plan.
+pub fn counted_of(p: Plan) -> usize
+    ensures { λ r. ⌜ r ≡ counted p ⌝ }
+{
+    counted_within(p.count)
 }
 
 // The names of the counted jobs, in order, as numbers; then zeros.
@@ -136,7 +144,7 @@ pub(crate) fn names_differ(p: Plan) -> bool
 }
 
 // Rule 8 over a plan in hand.
-pub fn grades_hold(p: Plan) -> bool
+pub(crate) fn grades_hold(p: Plan) -> bool
     ensures { λ r. ⌜ r ≡ gradesHold (jobsOf p) ⌝ }
 {
     let count = counted_of(p);
@@ -151,7 +159,7 @@ pub fn grades_hold(p: Plan) -> bool
 }
 
 // Rule 9 over a plan in hand.
-pub fn bounds_hold(p: Plan) -> bool
+pub(crate) fn bounds_hold(p: Plan) -> bool
     ensures { λ r. ⌜ r ≡ boundsHold (jobsOf p) ⌝ }
 {
     let count = counted_of(p);

@@ -27,7 +27,7 @@ use Rattle.dispatch.proofs.Queues.{serve-length}
 use Rattle.dispatch.proofs.Shares.{within-claim, first-served, all-served}
 use Rattle.promises.proofs.FloorTail.{Facts, Good, class}
 use Rattle.promises.proofs.SlotInvariants.{State, Slot, claim, goal}
-use Rattle.promises.proofs.SameSlot.{Done}
+use Rattle.dispatch.proofs.Alike.{Done}
 
 -- The facts of a plan and its table.
 abbrev pub factsOf : Plan → List ℕ → Facts

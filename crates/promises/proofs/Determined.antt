@@ -3,17 +3,23 @@
 use mathlib.Core.Path.{_≡_, refl, sym, _∙_, ap}
 use mathlib.Core.Bool.{Bool, true, false, not, cond, _||_}
 use mathlib.Core.List.{List, [], _∷_, _++_}
-use Prim.Native.Nat.{ℕ, _<_, _^_}
+use mathlib.Core.Logic.{⊎-elim}
+use Prim.Native.Nat.{ℕ, zero, suc, _-_, _≤_, _<_, _^_, min}
 use native.Mathlib.Nat.{one-le-pow}
 use native.Mathlib.Omega.{arith}
 use lib.Dec.{ltb, eqb, lit<}
 use lib.IntN.{ℤ}
-use lib.ListN.{length, drop, replicate}
+use lib.ListN.{length, getD, drop, replicate}
 use Rattle.plan.specs.Edition.{mostJobs, places}
 use Rattle.plan.specs.Versions.{rowsAllowedIn}
 use Rattle.plan.specs.Refusal.{tooManyRows, rowWithoutInterval, rowWithoutUnits, clockAtEnd, speedAboveNormal, unsound, bufferTooShort}
-use Rattle.plan.specs.Rules.{counted}
-use Rattle.plan.specs.Boundaries.{lastDeadline}
+use Rattle.plan.specs.Rules.{release, deadline, counted}
+use Rattle.plan.specs.Boundaries.{insert, boundariesTo, boundaries, come, present, lastSlot, lastDeadline}
+use Rattle.plan.specs.Columns.{sizesFit, PutsColumns, TellsBegun}
+use Rattle.plan.specs.declared.kinds.Outline.{Outline}
+use Rattle.plan.proofs.BoundaryCount.{come-few}
+use Rattle.plan.proofs.BoundaryOrder.{boundaries-ext, boundaries-few}
+use Rattle.plan.proofs.PresentInterval.{Occurs, insert-origin, all-come}
 use Rattle.plan.specs.declared.kinds.Job.{Job}
 use Rattle.plan.specs.declared.kinds.Name.{Name}
 use Rattle.plan.specs.declared.kinds.Plan.{Plan}
@@ -64,14 +70,19 @@ use Rattle.judge.proofs.FirstLocation.{every-place-is-the-first}
 use Rattle.dispatch.specs.Step as step
 use Rattle.dispatch.specs.Step.{SlotEffect, Ending, started, noRun, startFrom, startIn, slotSound, slotFault, slotBy, stepped, outcome}
 use Rattle.dispatch.specs.Answers as slot
-use Rattle.dispatch.specs.Answers.{outcomeView, Starts, Steps, Ends}
+use Rattle.dispatch.specs.Answers.{outcomeView, runAt, Starts, Steps, StepsOver, Ends, EndsOver}
+use Rattle.dispatch.specs.inner.Columns.{planOn}
 use Rattle.dispatch.specs.declared.Run.{Run}
+use Rattle.dispatch.specs.declared.Moment.{Moment}
+use Rattle.dispatch.specs.declared.step.Slot.{Slot}
 use Rattle.dispatch.specs.declared.answers.Answer.{Answer}
 use Rattle.dispatch.specs.declared.answers.Answer.the-variants as slot-answer
 use Rattle.dispatch.specs.declared.answers.Outcome.{Outcome}
 use Rattle.dispatch.specs.declared.answers.Outcome.the-variants as ends
 use Rattle.dispatch.specs.declared.start.Started.{Started}
 use Rattle.dispatch.specs.declared.step.Stepped.{Stepped}
+use Rattle.dispatch.proofs.Alike.{alike-slot, alike-outcome}
+use Rattle.dispatch.proofs.ColumnPlan.{own-columns, columns-alike}
 use Rattle.dispatch.proofs.Injective.{answerView-injective, outcomeView-injective}
 use Rattle.lentrun.specs.Answers.{StepsIn, StartsIn}
 use Rattle.lines.specs.Answers as line
@@ -262,6 +273,107 @@ some-outcome p run position = by (outcome p run position)
     by step.missed = (ends.Missed, refl)
     by step.stillOpen = (ends.Open, refl)
     by (step.refused number) = (ends.Refused number, refl)
+
+-- `dispatch::step::slot_over`: the promise holds for every plan with the columns, and there is one.
+pub one-slot-over : (o : Outline) (grades releases sizes deadlines table : List ℕ) (at : Moment) (v : ℕ) (carried grants : List ℕ) (r s : Slot)
+    (after later left other : List ℕ) → StepsOver o grades releases sizes deadlines table at v carried grants r after left
+    → StepsOver o grades releases sizes deadlines table at v carried grants s later other → (r ≡ s) × (after ≡ later) × (left ≡ other)
+one-slot-over o grades releases sizes deadlines table at v carried grants r s after later left other d e =
+    let p = planOn o grades releases sizes deadlines in
+    let own = own-columns grades releases sizes deadlines o in
+    let same = d p own ∙ sym (e p own) in
+    let answers = answerView-injective (r .answer) (s .answer) (ap (λ (x : SlotEffect). x .answer) same) in
+    let runs = ap (λ (x : SlotEffect). x .run) same in (
+      λ i. record { answer = answers i; next = record { clock = runs i .clock; slow = runs i .slow; below = runs i .below } },
+      ap (λ (x : Run). x .carried) runs,
+      ap (λ (x : SlotEffect). x .grants) same,
+    )
+
+pub some-slot-over : (o : Outline) (grades releases sizes deadlines table : List ℕ) (at : Moment) (v : ℕ) (carried grants : List ℕ)
+    → (r : Slot) × (after left : List ℕ) × StepsOver o grades releases sizes deadlines table at v carried grants r after left
+some-slot-over o grades releases sizes deadlines table at v carried grants =
+    let p = planOn o grades releases sizes deadlines in
+    let run = runAt at carried in
+    let s = stepped p table run v grants in
+    let a = one-number p table run v grants in (
+      record { answer = a .0; next = record { clock = s .run .clock; slow = s .run .slow; below = s .run .below } },
+      s .run .carried,
+      s .grants,
+      λ q cols.
+          (λ i. record { answer = a .1 i; run = s .run; grants = s .grants })
+          ∙ sym (alike-slot q table p table (columns-alike grades releases sizes deadlines o q table cols) run v grants),
+    )
+
+-- `dispatch::outcome::outcome_over`.
+pub one-outcome-over : (o : Outline) (grades releases sizes deadlines : List ℕ) (run : Run) (position : ℕ) (r s : Outcome)
+    → EndsOver o grades releases sizes deadlines run position r → EndsOver o grades releases sizes deadlines run position s → r ≡ s
+one-outcome-over o grades releases sizes deadlines run position r s d e =
+    let own = own-columns grades releases sizes deadlines o in
+    one-outcome (planOn o grades releases sizes deadlines) run position r s (d _ own) (e _ own)
+
+pub some-outcome-over : (o : Outline) (grades releases sizes deadlines : List ℕ) (run : Run) (position : ℕ)
+    → (r : Outcome) × EndsOver o grades releases sizes deadlines run position r
+some-outcome-over o grades releases sizes deadlines run position =
+    let p = planOn o grades releases sizes deadlines in
+    let one = some-outcome p run position in
+    (one .0, λ q cols. one .1 ∙ sym (alike-outcome q [] p [] (columns-alike grades releases sizes deadlines o q [] cols) run position))
+
+-- `plan::columns::columns_of`.
+pub one-columns : (p : Plan) (grades releases sizes deadlines : List ℕ) (r s : Bool) (g h a b x y d e : List ℕ)
+    → PutsColumns p grades releases sizes deadlines r g a x d → PutsColumns p grades releases sizes deadlines s h b y e
+    → (r ≡ s) × (g ≡ h) × (a ≡ b) × (x ≡ y) × (d ≡ e)
+one-columns p grades releases sizes deadlines r s g h a b x y d e one other =
+    (one .0 ∙ sym (other .0), one .1 ∙ sym (other .1), one .2 ∙ sym (other .2), one .3 ∙ sym (other .3), one .4 ∙ sym (other .4))
+
+pub some-columns : (p : Plan) (grades releases sizes deadlines : List ℕ)
+    → (r : Bool) × (g a x d : List ℕ) × PutsColumns p grades releases sizes deadlines r g a x d
+some-columns p grades releases sizes deadlines = (sizesFit p, _, _, _, _, (refl, refl, refl, refl, refl))
+
+-- A plan with given releases and deadlines, made from columns.
+abbrev timesOutline : ℕ → Outline
+timesOutline count = record { n = record { 0 = 0 }; d = record { 0 = 0 }; count = count }
+
+abbrev timesPlan : (count : ℕ) (releases deadlines : List ℕ) → Plan
+timesPlan count releases deadlines = planOn (timesOutline count) [] releases [] deadlines
+
+-- Every boundary is at most a bound of all releases and deadlines.
+boundaries-bounded : (p : Plan) (b n : ℕ) → ((i : ℕ) → i < n → release p i ≤ b) → ((i : ℕ) → i < n → deadline p i ≤ b)
+    → (y : ℕ) → Occurs y (boundariesTo p n) → y ≤ b
+unfolding boundariesTo
+boundaries-bounded p b zero early due y w = absurd (omega (arith, w .1))
+boundaries-bounded p b (suc n) early due y w =
+    ⊎-elim (λ e. omega (arith, due n (omega arith)))
+    (λ u.
+    ⊎-elim (λ e. omega (arith, early n (omega arith)))
+    (boundaries-bounded p b n (λ i h. early i (omega arith)) (λ i h. due i (omega arith)) y)
+    (insert-origin y (release p n) (boundariesTo p n) u))
+    (insert-origin y (deadline p n) (insert (release p n) (boundariesTo p n)) w)
+
+-- `plan::boundaries::begun_by`. Some number meets the promise if no time is beyond the greatest of the code.
+pub one-begun : (count : ℕ) (releases deadlines : List ℕ) (t r s : ℕ) → TellsBegun count releases deadlines t r
+    → TellsBegun count releases deadlines t s → r ≡ s
+one-begun count releases deadlines t r s d e =
+    let p = timesPlan count releases deadlines in
+    let own = own-columns [] releases [] deadlines (timesOutline count) in
+    d .1 p refl (own .release) (own .deadline) .0 ∙ sym (e .1 p refl (own .release) (own .deadline) .0)
+
+pub some-begun : (count : ℕ) (releases deadlines : List ℕ) (t : ℕ) → ((i : ℕ) → getD releases i 0 ≤ lastSlot) → ((i : ℕ) → getD deadlines i 0 ≤ lastSlot)
+    → (r : ℕ) × TellsBegun count releases deadlines t r
+some-begun count releases deadlines t early due =
+    let p = timesPlan count releases deadlines in
+    let own = own-columns [] releases [] deadlines (timesOutline count) in (
+      suc (present p t),
+      (
+        omega (arith, come-few t (boundaries p), boundaries-few p (counted p)),
+        λ q counts released ends.
+            let many : counted q ≡ counted p = ap (λ n. min n mostJobs) counts in
+            let same : boundaries p ≡ boundaries q =
+            ap (boundariesTo p) (sym many)
+            ∙ boundaries-ext p q (counted q) (λ i h. sym (own .release i (rw (← many) h)) ∙ released i h) (λ i h. sym (own .deadline i (rw (← many) h)) ∙ ends i h) in
+            let now = ap (λ l. suc (come t l - 1)) same in
+            (now, λ e. now ∙ ap suc (all-come q t (λ y w. omega (arith, boundaries-bounded q lastSlot (counted q) (λ i h. rw (← (released i h)) (early i)) (λ i h. rw (← (ends i h)) (due i)) y w)))),
+      ),
+    )
 
 -- The lines of `lines`, except the next.
 pub one-line : (line out : List ℕ) (r s : Printed) (left other : List ℕ) → Prints line out r left → Prints line out s other

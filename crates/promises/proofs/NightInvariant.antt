@@ -29,7 +29,8 @@ use Rattle.promises.proofs.FloorTail.{Good}
 use Rattle.promises.proofs.SlotInvariants
 use Rattle.promises.proofs.SlotInvariants.{NoMore, FloorHolds, OnPace, keeps-no-more, keeps-floor, keeps-pace, on-pace-here, on-pace-ended, floor-ended, begins-with-floor, begins-on-pace}
 use Rattle.plan.proofs.Soundness.{Bounded}
-use Rattle.promises.proofs.SameSlot.{done, same-slot}
+use Rattle.dispatch.proofs.Alike.{done}
+use Rattle.promises.proofs.SameSlot.{same-slot}
 use Rattle.promises.proofs.CallAsSlot.{factsOf, stateOf, good-plan, slot-of}
 
 -- A refused call leaves the run as it was, gives nothing, and is no slow slot.

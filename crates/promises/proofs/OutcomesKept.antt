@@ -17,7 +17,7 @@ use Rattle.dispatch.specs.Step.{Ending, met, discarded, missed, stillOpen, refu
 use Rattle.base.proofs.Logic.{if-true, neither}
 use Rattle.promises.specs.Night.{Call, runAfter, had, slowed, slowedBefore, Allowed, HasRegular, Kept, OutcomesKept}
 use Rattle.plan.proofs.Soundness.{Bounded, sound-bounded}
-use Rattle.promises.proofs.SameSlot.{asked-counted}
+use Rattle.dispatch.proofs.Alike.{asked-counted}
 use Rattle.promises.proofs.NightInvariant
 use Rattle.promises.proofs.Demand2.{judge-is-exact}
 use Rattle.promises.proofs.Demand3.{promise-kept}

@@ -23,7 +23,8 @@ use Rattle.dispatch.specs.Dues.{carriedOf}
 use Rattle.dispatch.specs.Step.{started, slotSound, slotFault, advanced, slotBy, stepped}
 use Rattle.promises.specs.Night.{SlotCall, Call, slot, isDone, slotEffect, answerOf, runLeft, isSlot, AllowedCall, runAfter, clockAt, Allowed, Regular, HasRegular, none-yet, then-refused, then-regular, slots, nightAt, Between}
 use Rattle.plan.proofs.Soundness.{Bounded, rules-parts, sound-parts, sound-bounded}
-use Rattle.promises.proofs.SameSlot.{done, same-slot, last-same}
+use Rattle.dispatch.proofs.Alike.{done}
+use Rattle.promises.proofs.SameSlot.{same-slot, last-same}
 use Rattle.promises.proofs.NightInvariant.{refused-keeps, carried-is-had, kept}
 use Rattle.promises.proofs.Demand2.{judge-is-exact}
 use Rattle.promises.proofs.Strategy.{same-self}

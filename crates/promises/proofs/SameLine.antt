@@ -23,7 +23,8 @@ use Rattle.program.specs.Turns.{Turned, progress, turn, slotTurn, jobTurn, turn
 use Rattle.program.specs.declared.Phase.{Phase}
 use Rattle.program.specs.declared.Phase.the-variants.{Slots, Closing, Job, Over}
 use Rattle.promises.proofs.Cases.{planE, tableE}
-use Rattle.promises.proofs.SameSlot.{counted-same, asked-counted, same-slot, same-outcome, elseE, elseTable, same-E}
+use Rattle.dispatch.proofs.Alike.{asked-counted}
+use Rattle.promises.proofs.SameSlot.{counted-same, same-slot, same-outcome, elseE, elseTable, same-E}
 use Rattle.promises.proofs.SameVerdict.{name-same}
 
 -- Jobs with the same records have the same grants text.

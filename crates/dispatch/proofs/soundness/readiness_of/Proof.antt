@@ -1,17 +1,51 @@
--- `dispatch::soundness::readiness_of` meets its contract: the
--- result of each part is that part of soundness.
-use mathlib.Core.Path.{refl, sym, _∙_, ap}
+-- `dispatch::soundness::readiness_of` meets its contract: each return
+-- by the tests before it.
+use mathlib.Core.Path.{_≡_, sym, _∙_, ap, ap₂}
+use mathlib.Core.Bool.{true, _&&_, _||_}
+use Prim.Native.Nat.{min}
 use borrow.Author.Needs.{needs}
-use borrow.Author.Tests.{eq-eqb, ne-eqb}
-use Rattle.plan.specs.declared.kinds.Slots.{Slots}
+use borrow.Author.Tests.{not-true, not-false}
+use lib.Dec.{ltb}
+use lib.ListN.{getD}
+use Rattle.base.specs.Below.{every, least, greatest}
+use Rattle.plan.specs.Edition.{mostJobs}
+use Rattle.dispatch.proofs.SoundColumns.{rulesOn, outside, told-broken, told-outside, told-ended, told-running}
 use Rattle.dispatch.proofs.soundness.readiness_of.Statement.{statement}
 use Rattle.dispatch.proofs.soundness.readiness_of.Tie as tie
 
-first-release-requires : tie.Need-first-release-requires
-first-release-requires c κs = search needs
+-- The first test is of the rules, and the second of the clock.
+module _ (c : tie.After-jobs-sound) where
+  abbrev entry : tie.Start
+  entry = c .before .before .before .before
 
-last-deadline-requires : tie.Need-last-deadline-requires
-last-deadline-requires c κs = search needs
+  rules : (c .before .before .rates-allowed .result && c .before .count-allowed .result && c .jobs-sound .result)
+      ≡ rulesOn (entry .args .o) (entry .args .grades .now) (entry .args .releases .now) (entry .args .sizes .now) (entry .args .deadlines .now) (entry .args .clock .0) (entry .args .carried .now)
+  rules =
+      ap₂ _&&_ (ap₂ _&&_ (c .before .before .rates-allowed .ensures) (c .before .count-allowed .ensures))
+      (c .jobs-sound .ensures ∙ ap (every _) (c .before .before .before .counted-within .ensures))
+
+module _ (c : tie.After-last-of) where
+  abbrev here : tie.After-jobs-sound
+  here = c .before .before .before
+
+  abbrev jobs : here .before .before .before .counted-within .result ≡ min (entry here .args .o .count) mostJobs
+  jobs = here .before .before .before .counted-within .ensures
+
+  rules-hold : rulesOn (entry here .args .o) (entry here .args .grades .now) (entry here .args .releases .now) (entry here .args .sizes .now) (entry here .args .deadlines .now) (entry here .args .clock .0) (entry here .args .carried .now) ≡ true
+  rules-hold = sym (rules here) ∙ not-false _ (c .before .before .if1 .left)
+
+  first : c .before .first-of .result .0 ≡ least (λ i. getD (entry here .args .releases .now) i 0) (min (entry here .args .o .count) mostJobs)
+  first = c .before .first-of .ensures ∙ ap (least _) jobs
+
+  last : c .last-of .result .0 ≡ greatest (λ i. getD (entry here .args .deadlines .now) i 0) (min (entry here .args .o .count) mostJobs)
+  last = c .last-of .ensures ∙ ap (greatest _) jobs
+
+  clock : (ltb (entry here .args .clock .0) (c .before .first-of .result .0) || ltb (c .last-of .result .0) (entry here .args .clock .0))
+      ≡ outside (entry here .args .o) (entry here .args .grades .now) (entry here .args .releases .now) (entry here .args .sizes .now) (entry here .args .deadlines .now) (entry here .args .clock .0) (entry here .args .carried .now)
+  clock = ap₂ (λ x y. ltb (entry here .args .clock .0) x || ltb y (entry here .args .clock .0)) first last
+
+counted-within-requires : tie.Need-counted-within-requires
+counted-within-requires c κs = search needs
 
 rates-allowed-requires : tie.Need-rates-allowed-requires
 rates-allowed-requires c κs = search needs
@@ -19,95 +53,52 @@ rates-allowed-requires c κs = search needs
 count-allowed-requires : tie.Need-count-allowed-requires
 count-allowed-requires c κs = search needs
 
-grades-hold-requires : tie.Need-grades-hold-requires
-grades-hold-requires c κs = search needs
-
-bounds-hold-requires : tie.Need-bounds-hold-requires
-bounds-hold-requires c κs = search needs
-
-carried-within-requires : tie.Need-carried-within-requires
-carried-within-requires c κs = search needs
+jobs-sound-requires : tie.Need-jobs-sound-requires
+jobs-sound-requires c κs = search needs
 
 returns : tie.Need-returns
 returns c =
-    let at-carried-within = c .before in
-    let at-bounds-hold = at-carried-within .before .before .before .before .before in
-    let at-grades-hold = at-bounds-hold .before in
-    let at-count-allowed = at-grades-hold .before in
-    let at-rates-allowed = at-count-allowed .before in
-    let at-last-deadline = at-rates-allowed .before in
-    let at-first-release = at-last-deadline .before in
-    let sound = rw (
-      at-carried-within .carried-within .ensures,
-      at-bounds-hold .bounds-hold .ensures,
-      at-grades-hold .grades-hold .ensures,
-      at-count-allowed .count-allowed .ensures,
-      at-rates-allowed .rates-allowed .ensures,
-      at-last-deadline .last-deadline .ensures,
-      at-first-release .first-release .ensures,
-    ) at (c .if1 .taken) in
-    rw sound refl
+    let at = c .before in
+    sym (told-broken (entry at .args .o) (entry at .args .grades .now) (entry at .args .releases .now) (entry at .args .sizes .now) (entry at .args .deadlines .now) (entry at .args .clock .0) (entry at .args .carried .now)
+    (sym (rules at) ∙ not-true _ (c .if1 .taken)))
+
+first-of-requires : tie.Need-first-of-requires
+first-of-requires c κs = search needs
+
+last-of-requires : tie.Need-last-of-requires
+last-of-requires c κs = search needs
 
 returns-2 : tie.Need-returns-2
 returns-2 c =
-    let at-if1 = c .before .before .before in
-    let at-carried-within = at-if1 .before in
-    let at-bounds-hold = at-carried-within .before .before .before .before .before in
-    let at-grades-hold = at-bounds-hold .before in
-    let at-count-allowed = at-grades-hold .before in
-    let at-rates-allowed = at-count-allowed .before in
-    let at-last-deadline = at-rates-allowed .before in
-    let at-first-release = at-last-deadline .before in
-    let sound = rw (
-      at-carried-within .carried-within .ensures,
-      at-bounds-hold .bounds-hold .ensures,
-      at-grades-hold .grades-hold .ensures,
-      at-count-allowed .count-allowed .ensures,
-      at-rates-allowed .rates-allowed .ensures,
-      at-last-deadline .last-deadline .ensures,
-      at-first-release .first-release .ensures,
-    ) at (at-if1 .if1 .left) in
-    let ended = eq-eqb _ _ (c .if2 .taken ∙ ap (λ (s : Slots). s .0) (at-last-deadline .last-deadline .ensures)) in
-    rw (sound, ended) refl
-
-spans-by-requires : tie.Need-spans-by-requires
-spans-by-requires c κs = search needs
+    let at = c .before .before .before .before .before in
+    sym (told-outside (entry (here at) .args .o) (entry (here at) .args .grades .now) (entry (here at) .args .releases .now) (entry (here at) .args .sizes .now) (entry (here at) .args .deadlines .now) (entry (here at) .args .clock .0) (entry (here at) .args .carried .now)
+    (sym (clock at) ∙ c .if2 .taken))
 
 returns-3 : tie.Need-returns-3
 returns-3 c =
-    let at-if2 = c .before in
-    let at-if1 = at-if2 .before .before .before in
-    let at-carried-within = at-if1 .before in
-    let at-bounds-hold = at-carried-within .before .before .before .before .before in
-    let at-grades-hold = at-bounds-hold .before in
-    let at-count-allowed = at-grades-hold .before in
-    let at-rates-allowed = at-count-allowed .before in
-    let at-last-deadline = at-rates-allowed .before in
-    let at-first-release = at-last-deadline .before in
-    let sound = rw (
-      at-carried-within .carried-within .ensures,
-      at-bounds-hold .bounds-hold .ensures,
-      at-grades-hold .grades-hold .ensures,
-      at-count-allowed .count-allowed .ensures,
-      at-rates-allowed .rates-allowed .ensures,
-      at-last-deadline .last-deadline .ensures,
-      at-first-release .first-release .ensures,
-    ) at (at-if1 .if1 .left) in
-    let running = ne-eqb _ _ (λ e. at-if2 .if2 .left (e ∙ sym (ap (λ (s : Slots). s .0) (at-last-deadline .last-deadline .ensures)))) in
-    rw (sound, running, c .spans-by .ensures) refl
+    let at-if2 = c .before .before .before in
+    let at = at-if2 .before .before .before .before .before in
+    sym (told-ended (entry (here at) .args .o) (entry (here at) .args .grades .now) (entry (here at) .args .releases .now) (entry (here at) .args .sizes .now) (entry (here at) .args .deadlines .now) (entry (here at) .args .clock .0) (entry (here at) .args .carried .now)
+    (rules-hold at) (sym (clock at) ∙ at-if2 .if2 .left) (c .if3 .taken ∙ last at))
+
+returns-4 : tie.Need-returns-4
+returns-4 c =
+    let at-if2 = c .before .before .before in
+    let at = at-if2 .before .before .before .before .before in
+    sym (told-running (entry (here at) .args .o) (entry (here at) .args .grades .now) (entry (here at) .args .releases .now) (entry (here at) .args .sizes .now) (entry (here at) .args .deadlines .now) (entry (here at) .args .clock .0) (entry (here at) .args .carried .now)
+    (rules-hold at) (sym (clock at) ∙ at-if2 .if2 .left) (λ e. c .if3 .left (e ∙ sym (last at))))
 
 pub readiness-of-spec : {M : Type 1} → statement M
 readiness-of-spec =
     tie.close
     (tie.spec
-    first-release-requires
-    last-deadline-requires
+    counted-within-requires
     rates-allowed-requires
     count-allowed-requires
-    grades-hold-requires
-    bounds-hold-requires
-    carried-within-requires
+    jobs-sound-requires
     returns
+    first-of-requires
+    last-of-requires
     returns-2
-    spans-by-requires
-    returns-3)
+    returns-3
+    returns-4)

@@ -14,17 +14,20 @@ use Rattle.hostmemory.proofs.plans.plan_of.Statement.{statement}
 use Rattle.hostmemory.proofs.plans.plan_of.Tie as tie
 
 abbrev Inv-loop : tie.InvT-loop
-Inv-loop words jobs₀ i₀ jobs i = (i ≤ mostJobs) × (length jobs ≡ mostJobs) × (take i jobs ≡ jobsTo words i)
+Inv-loop words n d count jobs₀ i₀ jobs i = (i ≤ mostJobs) × (length jobs ≡ mostJobs) × (take i jobs ≡ jobsTo words i)
 
 abbrev μ-loop : tie.MeasureT-loop
-μ-loop words jobs₀ i₀ jobs i = mostJobs - i
+μ-loop words n d count jobs₀ i₀ jobs i = mostJobs - i
+
+outline-in-requires : tie.Need-outline-in-requires Inv-loop μ-loop
+outline-in-requires c κs = search needs
 
 no-job-requires : tie.Need-no-job-requires Inv-loop μ-loop
 no-job-requires c κs = search needs
 
 returns : tie.Need-returns Inv-loop μ-loop
 unfolding planOf
-returns c = rw (lt-ltb _ _ (c .if1 .taken), c .before .no-job .ensures) refl
+returns c = rw (c .before .before .before .before .outline-in .ensures, lt-ltb _ _ (c .if1 .taken), c .before .no-job .ensures) refl
 
 loop-holds : tie.Need-loop-holds Inv-loop μ-loop
 unfolding jobsTo
@@ -61,28 +64,14 @@ loop-again c =
       rw (add-one, take-suc-set (l .jobs) (l .i) _ (omega arith), inv .2, c .job-at .ensures) refl,
     )
 
-shared-slice-read-as16 : tie.Need-shared-slice-read-as16 Inv-loop μ-loop
-shared-slice-read-as16 c = search needs
-
-as16-requires : tie.Need-as16-requires Inv-loop μ-loop
-as16-requires c κs = search needs
-
-shared-slice-read-as16-2 : tie.Need-shared-slice-read-as16-2 Inv-loop μ-loop
-shared-slice-read-as16-2 c = search needs
-
-as16-requires-2 : tie.Need-as16-requires-2 Inv-loop μ-loop
-as16-requires-2 c κs = search needs
-
-shared-slice-read-t20 : tie.Need-shared-slice-read-t20 Inv-loop μ-loop
-shared-slice-read-t20 c = search needs
-
 returns-2 : tie.Need-returns-2 Inv-loop μ-loop
 unfolding planIn planOf
 returns-2 c =
-    let l = c .before .before .before .before .before .before .loop in
+    let at-loop = c .before in
+    let l = at-loop .loop in
     let whole : l .i ≡ mostJobs = omega arith in
     let jobs = sym (take-all mostJobs (l .jobs) (omega (arith, l .inv .1))) ∙ ap (λ i. take i (l .jobs)) (sym whole) ∙ l .inv .2 ∙ ap (jobsTo _) whole in
-    rw (c .before .as162 .ensures, c .before .before .before .as16 .ensures, jobs, le-ltb _ _ (c .before .before .before .before .before .before .before .if1 .left)) refl
+    rw (at-loop .before .before .before .before .before .outline-in .ensures, jobs, le-ltb _ _ (at-loop .before .if1 .left)) refl
 
 pub plan-of-spec : {M : Type 1} → statement M
 plan-of-spec =
@@ -90,6 +79,7 @@ plan-of-spec =
     (tie.spec
     Inv-loop
     μ-loop
+    outline-in-requires
     no-job-requires
     returns
     loop-holds
@@ -101,9 +91,4 @@ plan-of-spec =
     add-i
     loop-less
     loop-again
-    shared-slice-read-as16
-    as16-requires
-    shared-slice-read-as16-2
-    as16-requires-2
-    shared-slice-read-t20
     returns-2)

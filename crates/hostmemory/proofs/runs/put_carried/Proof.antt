@@ -21,7 +21,7 @@ abbrev μ-loop : tie.MeasureT-loop
 
 -- The number of words is unchanged.
 long : (c : tie.At-loop Inv-loop μ-loop) → length (c .loop .words) ≡ length (c .before .args .words .now)
-long c = ap length (c .loop .inv .1) ∙ length-sets (c .before .args .words .now) markWords (take (c .loop .i) (c .before .args .t2))
+long c = ap length (c .loop .inv .1) ∙ length-sets (c .before .args .words .now) markWords (take (c .loop .i) (c .before .args .carried .now))
 
 loop-holds : tie.Need-loop-holds Inv-loop μ-loop
 loop-holds c = (omega arith, refl)
@@ -29,8 +29,8 @@ loop-holds c = (omega arith, refl)
 mul-words : tie.Need-mul-words Inv-loop μ-loop
 mul-words c = search needs
 
-array-read-words : tie.Need-array-read-words Inv-loop μ-loop
-array-read-words c = search needs
+shared-slice-read-words : tie.Need-shared-slice-read-words Inv-loop μ-loop
+shared-slice-read-words c = search needs
 
 add-words : tie.Need-add-words Inv-loop μ-loop
 add-words c = search needs
@@ -39,7 +39,7 @@ mul-words-2 : tie.Need-mul-words-2 Inv-loop μ-loop
 mul-words-2 c = search needs
 
 slice-write-words : tie.Need-slice-write-words Inv-loop μ-loop
-slice-write-words c = omega (arith, long (c .before))
+slice-write-words c = omega (arith, long (c .before .before))
 
 add-i : tie.Need-add-i Inv-loop μ-loop
 add-i c = search needs
@@ -49,11 +49,12 @@ loop-less c = omega arith
 
 loop-again : tie.Need-loop-again Inv-loop μ-loop
 loop-again c =
-    let l = c .before .loop in
-    let a = c .before .before .args in
-    let there : length (take (l .i) (a .t2)) ≡ l .i = length-take-le (l .i) (a .t2) (omega arith) in (
+    let at-loop = c .before .before in
+    let l = at-loop .loop in
+    let a = at-loop .before .args in
+    let there : length (take (l .i) (a .carried .now)) ≡ l .i = length-take-le (l .i) (a .carried .now) (omega arith) in (
       omega arith,
-      rw (l .inv .1, add-one, take-suc (a .t2) (l .i) 0 (omega arith)) (rw there at (sets-snoc (take (l .i) (a .t2)) (a .words .now) markWords (getD (a .t2) (l .i) 0))),
+      rw (l .inv .1, add-one, take-suc (a .carried .now) (l .i) 0 (omega arith)) (rw there at (sets-snoc (take (l .i) (a .carried .now)) (a .words .now) markWords (getD (a .carried .now) (l .i) 0))),
     )
 
 same-length : tie.Need-same-length Inv-loop μ-loop
@@ -64,7 +65,7 @@ returns c =
     let l = c .before .loop in
     let a = c .before .before .args in
     let whole : l .i ≡ mostJobs = omega arith in
-    l .inv .1 ∙ ap (λ i. sets (a .words .now) markWords (take i (a .t2))) whole ∙ ap (sets (a .words .now) markWords) (take-all mostJobs (a .t2) (omega arith))
+    l .inv .1 ∙ ap (λ i. sets (a .words .now) markWords (take i (a .carried .now))) whole ∙ ap (sets (a .words .now) markWords) (take-all mostJobs (a .carried .now) (omega arith))
 
 pub put-carried-spec : {M : Type 1} → statement M
 put-carried-spec =
@@ -74,7 +75,7 @@ put-carried-spec =
     μ-loop
     loop-holds
     mul-words
-    array-read-words
+    shared-slice-read-words
     add-words
     mul-words-2
     slice-write-words

@@ -32,7 +32,7 @@ same-length c = ap length (c .before .before .put-carried .ensures) ∙ simp (le
 returns : tie.Need-returns
 unfolding runOut
 returns c =
-    c .before .before .put-carried .ensures ∙ rw (c .before .before .before .before .mark-out2 .ensures, c .before .before .before .before .before .mark-out .ensures) refl
+    c .before .before .put-carried .ensures ∙ rw (c .before .before .before .before .before .mark-out2 .ensures, c .before .before .before .before .before .before .mark-out .ensures) refl
 
 pub put-whole-run-spec : {M : Type 1} → statement M
 put-whole-run-spec =

@@ -1,0 +1,225 @@
+-- The grants of a slot from the columns: the claims if all of them fit into the speed, otherwise what the
+-- jobs get in turns.
+use mathlib.Core.Path.{_≡_, refl, sym, _∙_, ap, ap₂}
+use mathlib.Core.Bool.{Bool, true, false, not, cond, _&&_, _||_, and-false}
+use mathlib.Core.List.{List, [], _++_}
+use Prim.Native.Nat.{ℕ, zero, suc, _-_, _≤_, _<_, min}
+use native.Mathlib.Omega.{arith}
+use lib.Dec.{leb, ltb, eqb}
+use lib.ListN.{length, getD, drop, replicate, length-replicate, getD-replicate}
+use Rattle.base.specs.Fill.{filled}
+use Rattle.base.specs.Sum.{sum, on}
+use Rattle.base.proofs.FillLaws.{filled-ext, filled-at, filled-rest, is-filled}
+use Rattle.base.proofs.SumLaws.{sum-ext, same-terms}
+use Rattle.base.proofs.Logic.{if-true, if-less}
+use Rattle.plan.specs.Edition.{mostJobs, mostIntervals}
+use Rattle.plan.specs.Rules.{hi, counted, deadline, isHi}
+use Rattle.plan.specs.Boundaries.{present}
+use Rattle.plan.specs.Table.{allotment}
+use Rattle.plan.specs.declared.kinds.Outline.{Outline}
+use Rattle.plan.specs.declared.kinds.Plan.{Plan}
+use Rattle.dispatch.specs.declared.Run.{Run}
+use Rattle.dispatch.specs.Dues.{live, slowAfter, due}
+use Rattle.dispatch.specs.Order.{rankAt, rank, queue, serve}
+use Rattle.dispatch.specs.Step.{granted}
+use Rattle.dispatch.specs.inner.Columns.{planOn}
+use Rattle.dispatch.specs.inner.Shares.{served, claim}
+use Rattle.dispatch.specs.inner.Turns.{liveIn, classIn, rankIn, servedIn, dueIn, claimIn, unknown, KnownDue, Claimed, inTurns}
+use Rattle.dispatch.proofs.Queues.{over, queue-ext, serve-ext, over-queue, queued-below}
+use Rattle.dispatch.proofs.Shares.{two-lines, within-claim, all-served}
+use Rattle.dispatch.proofs.RowShares.{blank-none, blank-rest, blank-length, granted-rest, granted-length}
+use Rattle.dispatch.proofs.SoundColumns.{grade-on, release-on, size-on, deadline-on}
+use Rattle.dispatch.proofs.TurnLaws.{by-rank}
+
+-- If all claims fit into the speed, the grants are the claims.
+pub fitting-claims : (p : Plan) (table : List ℕ) (run : Run) (v : ℕ) (grants : List ℕ) → counted p ≤ length grants
+    → sum (claim p table run (slowAfter p run v)) (counted p) ≤ v
+    → filled (claim p table run (slowAfter p run v)) (counted p) grants ≡ granted p table run v grants
+fitting-claims p table run v grants room fits =
+    let claims = claim p table run (slowAfter p run v) in
+    is-filled claims (counted p) grants (granted p table run v grants) (granted-length p table run v grants room)
+    (λ k inside below.
+    same-terms (λ i. getD (granted p table run v grants) i 0) claims (counted p) (within-claim p table run v grants)
+    (omega (arith, all-served p table run v grants)) k below)
+    (granted-rest p table run v grants)
+
+-- A queue of which no job passes the test is empty.
+queue-none : (test : ℕ → Bool) (by : ℕ → ℕ) (n : ℕ) → ((k : ℕ) → k < n → test k ≡ false) → queue test by n ≡ []
+unfolding queue
+queue-none test by zero h = refl
+queue-none test by (suc n) h = rw (h n (omega arith)) (queue-none test by n (λ k l. h k (omega arith)))
+
+-- The row of zeros for the counted jobs, filled by a loop.
+blank-filled : (n : ℕ) (grants : List ℕ) → n ≤ length grants → filled (λ k. 0) n grants ≡ replicate n 0 ++ drop n grants
+blank-filled n grants room =
+    is-filled (λ k. 0) n grants (replicate n 0 ++ drop n grants)
+    (blank-length n grants room)
+    (λ k inside below. blank-none n grants k below)
+    (λ k after. blank-rest n grants k after)
+
+module _ (o : Outline) (grades releases sizes deadlines table carried : List ℕ) (run : Run) (v spans : ℕ) where
+  abbrev q : Plan
+  q = planOn o grades releases sizes deadlines
+
+  abbrev n : ℕ
+  n = min (o .count) mostJobs
+
+  abbrev t : ℕ
+  t = run .clock .0
+
+  module _ (held : run .carried ≡ carried) (marked : slowAfter q run v ≡ run .slow)
+      (begun : run .slow ≡ false → spans ≡ suc (present q t)) where
+    live-on : (k : ℕ) → k < n → live q t k ≡ liveIn t releases deadlines k
+    live-on k l = ap₂ (λ a b. leb a t && ltb t b) (release-on o grades releases sizes deadlines k l) (deadline-on o grades releases sizes deadlines k l)
+
+    hi-on : (k : ℕ) → k < n → isHi q k ≡ eqb (getD grades k 0) hi
+    hi-on k l = ap (λ g. eqb g hi) (grade-on o grades releases sizes deadlines k l)
+
+    rank-on : (k : ℕ) → k < n → rank q k ≡ rankIn grades deadlines k
+    rank-on k l = ap₂ (λ h d. rankAt h d k) (hi-on k l) (deadline-on o grades releases sizes deadlines k l)
+
+    -- What is due by the columns is what is due by the rules.
+    due-on : (k : ℕ) → k < n → due q table run (slowAfter q run v) k ≡ dueIn (run .slow) spans sizes carried table k
+    due-on k l = ap (λ s. due q table run s k) marked ∙ go (run .slow) refl
+      where
+        go : (slow : Bool) → run .slow ≡ slow → due q table run slow k ≡ dueIn slow spans sizes carried table k
+        go true e = ap₂ (λ s c. s - getD c k 0) (size-on o grades releases sizes deadlines k l) held
+        go false e =
+            ap₂ (λ s c. min s (sum (allotment mostIntervals table k) (suc (present q t))) - getD c k 0) (size-on o grades releases sizes deadlines k l) held
+            ∙ ap (λ x. min (getD sizes k 0) (sum (allotment mostIntervals table k) x) - getD carried k 0) (sym (begun e))
+
+    served-on : (k : ℕ) → k < n → served q t (slowAfter q run v) k ≡ servedIn t (run .slow) grades releases deadlines k
+    served-on k l =
+        ap (λ s. served q t s k) marked
+        ∙ ap₂ (λ a h. a && (h || not (run .slow))) (live-on k l) (hi-on k l)
+
+    claim-on : (k : ℕ) → k < n → claimIn t (run .slow) spans grades releases sizes deadlines carried table k ≡ claim q table run (slowAfter q run v) k
+    claim-on k l = sym (ap₂ on (served-on k l) (due-on k l))
+
+    -- The claims of the columns, if they fit, are the grants.
+    pub claims-granted : (grants : List ℕ) → n ≤ length grants
+        → sum (claimIn t (run .slow) spans grades releases sizes deadlines carried table) n ≤ v
+        → filled (claimIn t (run .slow) spans grades releases sizes deadlines carried table) n grants ≡ granted q table run v grants
+    claims-granted grants room fits =
+        filled-ext _ (claim q table run (slowAfter q run v)) n grants claim-on
+        ∙ fitting-claims q table run v grants room
+        (rw (sym (sum-ext _ (claim q table run (slowAfter q run v)) n claim-on)) fits)
+
+    -- The queues of the columns are those of the rules.
+    hi-queue : queue (classIn true t grades releases deadlines) (rankIn grades deadlines) n
+        ≡ queue (λ k. live q t k && isHi q k) (deadline q) n
+    hi-queue =
+        sym
+        (by-rank q (λ k. live q t k && isHi q k) true (λ k l e. and-second (live q t k) (isHi q k) e)
+        ∙ queue-ext _ (classIn true t grades releases deadlines) _ (rankIn grades deadlines) n
+        (λ k l. ap₂ _&&_ (live-on k l) (hi-on k l)) rank-on)
+      where
+        and-second : (a b : Bool) → (a && b) ≡ true → b ≡ true
+        and-second true b e = e
+        and-second false true e = refl
+        and-second false false e = e
+
+    lo-queue : run .slow ≡ false → queue (classIn false t grades releases deadlines) (rankIn grades deadlines) n
+        ≡ queue (λ k. live q t k && not (isHi q k) && not (slowAfter q run v)) (deadline q) n
+    lo-queue e =
+        sym
+        (by-rank q (λ k. live q t k && not (isHi q k) && not (slowAfter q run v)) false
+        (λ k l passes. lower (live q t k) (isHi q k) (not (slowAfter q run v)) passes)
+        ∙ queue-ext _ (classIn false t grades releases deadlines) _ (rankIn grades deadlines) n
+        (λ k l. rw (marked, e) (last (live q t k) (isHi q k) ∙ ap₂ (λ a h. a && not h) (live-on k l) (hi-on k l))) rank-on)
+      where
+        lower : (a h b : Bool) → (a && not h && b) ≡ true → h ≡ false
+        lower a false b e = refl
+        lower true true b e = sym e
+        lower false true b e = sym e
+
+        last : (a h : Bool) → (a && not h && true) ≡ (a && not h)
+        last true true = refl
+        last true false = refl
+        last false h = refl
+
+    module _ (grants : List ℕ) (room : n ≤ length grants) where
+      abbrev dues : ℕ → ℕ
+      dues = due q table run (slowAfter q run v)
+
+      abbrev duesIn : ℕ → ℕ
+      duesIn = dueIn (run .slow) spans sizes carried table
+
+      abbrev hiTest : ℕ → Bool
+      hiTest k = live q t k && isHi q k
+
+      abbrev loTest : ℕ → Bool
+      loTest k = live q t k && not (isHi q k) && not (slowAfter q run v)
+
+      abbrev essential : List ℕ
+      essential = queue hiTest (deadline q) n
+
+      abbrev others : List ℕ
+      others = queue loTest (deadline q) n
+
+      abbrev blank : List ℕ
+      blank = replicate n 0 ++ drop n grants
+
+      -- What the code writes for the HI jobs, and then for the others.
+      abbrev firstIn : List ℕ
+      firstIn = serve duesIn v (queue (classIn true t grades releases deadlines) (rankIn grades deadlines) n) (filled (λ k. 0) n grants)
+
+      abbrev claimedIn : ℕ
+      claimedIn = sum (λ k. on (classIn true t grades releases deadlines k) (duesIn k)) n
+
+      abbrev secondIn : List ℕ
+      secondIn = serve duesIn (v - claimedIn) (queue (classIn false t grades releases deadlines) (rankIn grades deadlines) n) firstIn
+
+      first-row : firstIn ≡ serve dues v essential blank
+      first-row =
+          ap₂ (λ l g. serve duesIn v l g) hi-queue (blank-filled n grants room)
+          ∙ serve-ext duesIn dues v essential blank (λ k e. sym (due-on k (queued-below hiTest (deadline q) k n e)))
+
+      claimed : claimedIn ≡ over dues essential
+      claimed =
+          sum-ext _ (λ k. on (hiTest k) (dues k)) n
+          (λ k l. sym (ap₂ on (ap₂ _&&_ (live-on k l) (hi-on k l)) (due-on k l)))
+          ∙ sym (over-queue hiTest (deadline q) dues n)
+
+      second-row : run .slow ≡ false → secondIn ≡ serve dues (v - over dues essential) others (serve dues v essential blank)
+      second-row e =
+          ap₂ (λ l g. serve duesIn (v - claimedIn) l g) (lo-queue e) first-row
+          ∙ serve-ext duesIn dues (v - claimedIn) others (serve dues v essential blank) (λ k m. sym (due-on k (queued-below loTest (deadline q) k n m)))
+          ∙ ap (λ x. serve dues (v - x) others (serve dues v essential blank)) claimed
+
+      -- Under the slow mark the others get nothing.
+      no-others : run .slow ≡ true → serve dues (v - over dues essential) others (serve dues v essential blank) ≡ serve dues v essential blank
+      unfolding serve
+      no-others e =
+          ap (λ l. serve dues (v - over dues essential) l (serve dues v essential blank))
+          (queue-none loTest (deadline q) n (λ k l. rw (marked, e) (and-false (live q t k && not (isHi q k)))))
+
+      -- What the jobs get in turns is what the rules grant.
+      pub turns-granted : inTurns t (run .slow) grades releases deadlines duesIn v n (filled (λ k. 0) n grants) ≡ granted q table run v grants
+      turns-granted =
+          if-true (run .slow)
+          (λ e. ap (λ s. cond s firstIn secondIn) e ∙ first-row ∙ sym (no-others e))
+          (λ e. ap (λ s. cond s firstIn secondIn) e ∙ second-row e)
+          ∙ sym (two-lines q table run v grants)
+
+-- What a row of claims holds: a known claim is right.
+pub claims-known : (claim dues : ℕ → ℕ) (served : ℕ → Bool) (v n : ℕ) {row : List ℕ} {fit : Bool} → ((k : ℕ) → claim k ≡ on (served k) (dues k))
+    → n ≤ mostJobs → Claimed claim v n row fit → (k : ℕ) → k < n → served k ≡ true → KnownDue row dues k
+claims-known claim dues served v n is few told k l s known =
+    if-less k (told .reached)
+    (λ below.
+    ap (λ r. getD r k 0) (told .filled-to)
+    ∙ filled-at claim (told .reached) (replicate mostJobs unknown) k (rw (length-replicate {A = ℕ} mostJobs unknown) (omega arith)) below
+    ∙ is k ∙ ap (λ b. on b (dues k)) s)
+    (λ after.
+    absurd (known
+    (ap (λ r. getD r k 0) (told .filled-to) ∙ filled-rest claim (told .reached) (replicate mostJobs unknown) k after
+    ∙ getD-replicate mostJobs k unknown 0 (omega arith))))
+
+-- If all claims fit, every entry of the row is a claim.
+pub claims-all : (claim : ℕ → ℕ) (v n : ℕ) {row : List ℕ} {fit : Bool} → n ≤ mostJobs → Claimed claim v n row fit → fit ≡ true
+    → (k : ℕ) → k < n → getD row k 0 ≡ claim k
+claims-all claim v n few told fits k l =
+    ap (λ r. getD r k 0) (told .filled-to)
+    ∙ filled-at claim (told .reached) (replicate mostJobs unknown) k (rw (length-replicate {A = ℕ} mostJobs unknown) (omega arith))
+    (omega (arith, told .sums fits .0))
