@@ -1,6 +1,5 @@
 // One slot, one run: the run record, its start, the grants of a slot, and the outcome of each job.
 pub mod answers;
-mod choice;
 mod claims;
 pub mod outcome;
 pub mod ranks;

@@ -1,4 +1,4 @@
--- Laws for the calls: what follows from the length tests, and what a start leaves.
+-- Laws for the calls: what follows from the length tests, what a start leaves, and a call on a run by what its slot or outcome is.
 use mathlib.Core.Path.{_≡_, refl, sym}
 use mathlib.Core.Bool.{true, false, true≢false, _||_}
 use mathlib.Core.List.{List, [], _∷_}
@@ -7,11 +7,12 @@ use borrow.Author.Tests.{ltb-false}
 use lib.Dec.{ltb}
 use lib.ListN.{length}
 use Rattle.plan.specs.declared.kinds.Plan.{Plan}
-use Rattle.plan.specs.Report.{Report, isNone}
-use Rattle.dispatch.specs.Step.{started}
+use Rattle.plan.specs.Report.{Report, isNone, numberOf}
+use Rattle.dispatch.specs.Step.{started, stepped, outcome}
+use Rattle.dispatch.specs.declared.Run.{Run}
 use Rattle.base.proofs.Logic.{neither}
-use Rattle.hostmemory.specs.Memory.{runPut}
-use Rattle.gateway.specs.Calls.{startWords}
+use Rattle.hostmemory.specs.Memory.{shortPlan, shortRun, planOf, marksHold, runOf, runPut}
+use Rattle.gateway.specs.Calls.{startWords, stepCall, endingNumber, outcomeCall}
 
 -- Neither of two buffers is too short.
 pub both-long : (a b : List ℕ) (m n : ℕ) → (ltb (length a) m || ltb (length b) n) ≡ false → (m ≤ length a) × (n ≤ length b)
@@ -35,3 +36,18 @@ starts (number ∷ places) p run e = absurd (true≢false (sym e))
 pub stays : (r : Report) (p : Plan) (run : List ℕ) → isNone r ≡ false → startWords r p run ≡ run
 stays [] p run e = absurd (true≢false e)
 stays (number ∷ places) p run e = refl
+
+-- The step's call on words that are long enough and whose marks hold, by the effect of the slot's call.
+pub step-words : (plan table run : List ℕ) (v : ℕ) (grants : List ℕ) {answer : Report} {next : Run} {row : List ℕ} {number : ℕ} {left : List ℕ}
+    → (shortPlan plan || shortRun run) ≡ false → marksHold run ≡ true
+    → record { answer = answer; run = next; grants = row } ≡ stepped (planOf plan) table (runOf run) v grants
+    → number ≡ numberOf answer → left ≡ runPut run next
+    → record { number = number; run = left; grants = row } ≡ stepCall plan table run v grants
+unfolding stepCall
+step-words plan table run v grants long marks slot n l = rw (long, marks, ← slot, n, l) refl
+
+-- The same for the outcome's call.
+pub outcome-words : (plan run : List ℕ) (position : ℕ) {number : ℕ} → (shortPlan plan || shortRun run) ≡ false → marksHold run ≡ true
+    → number ≡ endingNumber (outcome (planOf plan) (runOf run) position) → number ≡ outcomeCall plan run position
+unfolding outcomeCall
+outcome-words plan run position long marks n = rw (long, marks) n

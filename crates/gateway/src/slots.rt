@@ -4,16 +4,22 @@ use crate::answers::first_of;
 use crate::answers::outcome_number;
 use crate::answers::second_of;
 use crate::answers::verdict_number;
-use dispatch::outcome::outcome;
+use dispatch::outcome::outcome_over;
 use dispatch::start::start;
-use dispatch::step::step;
+use dispatch::step::slot_over;
+use hostmemory::plans::columns_in;
+use hostmemory::plans::outline_in;
 use hostmemory::plans::plan_of;
+use hostmemory::runs::carried_in;
 use hostmemory::runs::marks_hold;
+use hostmemory::runs::moment_in;
+use hostmemory::runs::put_parts;
 use hostmemory::runs::put_run;
 use hostmemory::runs::run_of;
 use hostmemory::sizes::Sizes;
 use judge::answers::Verdict;
 use judge::answers::is_accepted;
+use plan::edition::Edition;
 use plan::kinds::Plan;
 use plan::refusal::BUFFER_TOO_SHORT;
 use plan::refusal::UNSOUND;
@@ -56,7 +62,8 @@ pub extern "C" fn gateway_start(
     verdict_number(verdict)
 }
 
-// Carries one slot at speed v: advances the lent run, and writes the grants to the lent row.
+// Carries one slot at speed v: advances the lent run, and writes the grants to the lent row. Words that
+// have no room in a column break rule 8 or 9.
 #[no_mangle]
 pub extern "C" fn gateway_step(
     plan: &[u64],
@@ -73,10 +80,31 @@ pub extern "C" fn gateway_step(
     if !marks_hold(run) {
         return UNSOUND as u32;
     }
-    let s = step(plan_of(plan), table, run_of(run), v, grants);
+    let mut grades = [0u32; Edition::MOST_JOBS];
+    let mut releases = [0u32; Edition::MOST_JOBS];
+    let mut sizes = [0u32; Edition::MOST_JOBS];
+    let mut deadlines = [0u32; Edition::MOST_JOBS];
+    if !columns_in(plan, &mut grades, &mut releases, &mut sizes, &mut deadlines) {
+        return UNSOUND as u32;
+    }
+    let o = outline_in(plan);
+    let at = moment_in(run);
+    let mut carried = carried_in(run);
+    let s = slot_over(
+        o,
+        &grades,
+        &releases,
+        &sizes,
+        &deadlines,
+        table,
+        at,
+        v,
+        &mut carried,
+        grants,
+    );
     let answer = s.answer;
-    let next = s.run;
-    put_run(run, next);
+    let next = s.next;
+    put_parts(run, next, &carried);
     answer_number(answer)
 }
 
@@ -91,5 +119,14 @@ pub extern "C" fn gateway_outcome(plan: &[u64], run: &[u32], position: usize) ->
     if !marks_hold(run) {
         return UNSOUND as u32;
     }
-    outcome_number(outcome(plan_of(plan), run_of(run), position))
+    let mut grades = [0u32; Edition::MOST_JOBS];
+    let mut releases = [0u32; Edition::MOST_JOBS];
+    let mut sizes = [0u32; Edition::MOST_JOBS];
+    let mut deadlines = [0u32; Edition::MOST_JOBS];
+    if !columns_in(plan, &mut grades, &mut releases, &mut sizes, &mut deadlines) {
+        return UNSOUND as u32;
+    }
+    let o = outline_in(plan);
+    let at = run_of(run);
+    outcome_number(outcome_over(o, &grades, &releases, &sizes, &deadlines, at, position))
 }

@@ -1,8 +1,19 @@
--- `gateway::slots::gateway_step` meets its contract: 22, then 21, otherwise the slot's call.
-use mathlib.Core.Path.{refl, sym, _∙_}
-use borrow.Author.Tests.{not-true, not-false}
-use Rattle.gateway.specs.Calls.{stepCall}
+-- `gateway::slots::gateway_step` meets its contract: 22, then 21, otherwise the slot's call over the columns of the plan.
+use mathlib.Core.Path.{_≡_, refl, sym, _∙_, ap₂}
+use mathlib.Core.List.{List}
+use Prim.Native.Nat.{ℕ}
 use borrow.Author.Needs.{needs}
+use borrow.Author.Tests.{not-true, not-false}
+use lib.ListN.{length, replicate, length-replicate}
+use Rattle.plan.specs.Edition.{mostJobs}
+use Rattle.dispatch.specs.Answers.{runAt}
+use Rattle.dispatch.specs.Step.{stepped}
+use Rattle.dispatch.proofs.SlotOver.{unsound-refused}
+use Rattle.hostmemory.specs.Memory.{planOf, runOf}
+use Rattle.hostmemory.proofs.ColumnLaws.{columns-read, too-large-unsound}
+use Rattle.hostmemory.proofs.RoundTrip.{run-again}
+use Rattle.gateway.specs.Calls.{stepCall}
+use Rattle.gateway.proofs.Laws.{step-words}
 use Rattle.gateway.proofs.slots.gateway_step.Statement.{statement}
 use Rattle.gateway.proofs.slots.gateway_step.Tie as tie
 
@@ -27,38 +38,75 @@ unfolding stepCall
 returns-2 c =
     rw (c .before .before .before .if1 .left, sym (c .before .marks-hold .ensures) ∙ not-true _ (c .if2 .taken)) refl
 
-plan-of-requires : tie.Need-plan-of-requires
-plan-of-requires c κs = search needs
+columns-in-requires : tie.Need-columns-in-requires
+columns-in-requires c κs = search needs
 
-run-of-requires : tie.Need-run-of-requires
-run-of-requires c κs = search needs
-
-step-requires : tie.Need-step-requires
-step-requires c κs = search needs
-
-put-run-requires : tie.Need-put-run-requires
-put-run-requires c κs = search needs
-
-answer-number-requires : tie.Need-answer-number-requires
-answer-number-requires c κs = search needs
+cast-result-3 : tie.Need-cast-result-3
+cast-result-3 c = search needs
 
 same-length-2 : tie.Need-same-length-2
 same-length-2 c = search needs
 
+returns-3 : tie.Need-returns-3
+returns-3 c =
+    let at-columns = c .before in
+    let at-if2 = at-columns .before .before .before .before .before in
+    let at-marks-hold = at-if2 .before in
+    let at-if1 = at-marks-hold .before .before in
+    let a = at-if1 .before .before .before .before .before .args in
+    let marks = sym (at-marks-hold .marks-hold .ensures) ∙ not-false _ (at-if2 .if2 .left) in
+    step-words (a .plan .now) (a .table .now) (a .run .now) (a .v) (a .grants .now) (at-if1 .if1 .left) marks
+    (unsound-refused (planOf (a .plan .now)) (a .table .now) (runOf (a .run .now)) (a .v) (a .grants .now)
+    (too-large-unsound (a .plan .now) (runOf (a .run .now)) (sym (at-columns .columns-in .ensures .0) ∙ not-true _ (c .if3 .taken))))
+    refl (sym (run-again (a .run .now) marks))
+
+outline-in-requires : tie.Need-outline-in-requires
+outline-in-requires c κs = search needs
+
+moment-in-requires : tie.Need-moment-in-requires
+moment-in-requires c κs = search needs
+
+carried-in-requires : tie.Need-carried-in-requires
+carried-in-requires c κs = search needs
+
+slot-over-requires : tie.Need-slot-over-requires
+slot-over-requires c κs = search needs
+
+put-parts-requires : tie.Need-put-parts-requires
+put-parts-requires c κs = search needs
+
+answer-number-requires : tie.Need-answer-number-requires
+answer-number-requires c κs = search needs
+
 same-length-3 : tie.Need-same-length-3
 same-length-3 c = search needs
 
-returns-3 : tie.Need-returns-3
-unfolding stepCall
-returns-3 c =
-    let at-put-run = c .before .before .before in
-    let at-step = at-put-run .before .before .before .before .before in
-    let at-run-of = at-step .before .before in
-    let at-plan-of = at-run-of .before .before in
-    let at-if2 = at-plan-of .before in
+same-length-4 : tie.Need-same-length-4
+same-length-4 c = search needs
+
+returns-4 : tie.Need-returns-4
+returns-4 c =
+    let at-put-parts = c .before .before .before in
+    let at-slot-over = at-put-parts .before .before .before .before .before .before in
+    let at-carried-in = at-slot-over .before .before .before .before .before .before .before in
+    let at-moment-in = at-carried-in .before .before in
+    let at-outline-in = at-moment-in .before .before in
+    let at-if3 = at-outline-in .before in
+    let at-columns = at-if3 .before in
+    let at-if2 = at-columns .before .before .before .before .before in
     let at-marks-hold = at-if2 .before in
     let at-if1 = at-marks-hold .before .before in
-    rw (at-if1 .if1 .left, sym (at-marks-hold .marks-hold .ensures) ∙ not-false _ (at-if2 .if2 .left), ← (at-plan-of .plan-of .ensures), ← (at-run-of .run-of .ensures), ← (at-step .step .ensures), ← (c .answer-number .ensures), ← (at-put-run .put-run .ensures)) refl
+    let a = at-if1 .before .before .before .before .before .args in
+    let p = planOf (a .plan .now) in
+    let none : List ℕ = replicate mostJobs 0 in
+    let long : length none ≡ mostJobs = length-replicate {A = ℕ} mostJobs 0 in
+    step-words (a .plan .now) (a .table .now) (a .run .now) (a .v) (a .grants .now) (at-if1 .if1 .left)
+    (sym (at-marks-hold .marks-hold .ensures) ∙ not-false _ (at-if2 .if2 .left))
+    (at-slot-over .slot-over .ensures p
+    (rw (at-outline-in .outline-in .ensures)
+    (columns-read (a .plan .now) none none none none _ _ _ _ _ (at-columns .columns-in .ensures) (not-false _ (at-if3 .if3 .left)) long long long long))
+    ∙ ap₂ (λ at carried. stepped p (a .table .now) (runAt at carried) (a .v) (a .grants .now)) (at-moment-in .moment-in .ensures) (at-carried-in .carried-in .ensures))
+    (c .answer-number .ensures) (at-put-parts .put-parts .ensures)
 
 pub gateway-step-spec : {M : Type 1} → statement M
 gateway-step-spec =
@@ -70,11 +118,16 @@ gateway-step-spec =
     cast-result-2
     same-length
     returns-2
-    plan-of-requires
-    run-of-requires
-    step-requires
-    put-run-requires
-    answer-number-requires
+    columns-in-requires
+    cast-result-3
     same-length-2
+    returns-3
+    outline-in-requires
+    moment-in-requires
+    carried-in-requires
+    slot-over-requires
+    put-parts-requires
+    answer-number-requires
     same-length-3
-    returns-3)
+    same-length-4
+    returns-4)
