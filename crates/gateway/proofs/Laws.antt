@@ -6,6 +6,8 @@ use Prim.Native.Nat.{ℕ, _≤_}
 use borrow.Author.Tests.{ltb-false}
 use lib.Dec.{ltb}
 use lib.ListN.{length}
+use Rattle.plan.specs.Columns.{Columns}
+use Rattle.plan.specs.declared.kinds.Outline.{Outline}
 use Rattle.plan.specs.declared.kinds.Plan.{Plan}
 use Rattle.plan.specs.Report.{Report, isNone, numberOf}
 use Rattle.dispatch.specs.Step.{started, stepped, outcome}
@@ -36,6 +38,11 @@ starts (number ∷ places) p run e = absurd (true≢false (sym e))
 pub stays : (r : Report) (p : Plan) (run : List ℕ) → isNone r ≡ false → startWords r p run ≡ run
 stays [] p run e = absurd (true≢false e)
 stays (number ∷ places) p run e = refl
+
+-- Columns of a plan with its outline, told by an equal one.
+pub outlined : (p : Plan) {o q : Outline} {grades releases sizes deadlines : List ℕ} → o ≡ q → Columns p q grades releases sizes deadlines
+    → Columns p o grades releases sizes deadlines
+outlined p e columns = rw e columns
 
 -- The step's call on words that are long enough and whose marks hold, by the effect of the slot's call.
 pub step-words : (plan table run : List ℕ) (v : ℕ) (grants : List ℕ) {answer : Report} {next : Run} {row : List ℕ} {number : ℕ} {left : List ℕ}

@@ -1,5 +1,5 @@
 -- A refused step leaves the lent buffers as they were.
-use mathlib.Core.Path.{_≡_, refl, _∙_, ap}
+use mathlib.Core.Path.{_≡_, refl, sym, _∙_, ap}
 use mathlib.Core.Bool.{Bool, true, false, not, cond, _||_}
 use mathlib.Core.List.{List, [], _∷_}
 use Prim.Native.Nat.{ℕ}
@@ -39,3 +39,11 @@ refused-step-stays plan table run v grants =
     (λ long marks n rest e.
     let so = refused-changes-nothing (planOf plan) table (runOf run) v grants n rest e in
     (ap (runPut run) (so .0) ∙ run-again run (not-false (marksHold run) marks), so .1))
+
+-- So a step that is refused need not put its run back.
+pub refused-words : (plan table run : List ℕ) (v : ℕ) (grants : List ℕ) {number : ℕ} {left row : List ℕ}
+    → record { number = number; run = left; grants = row } ≡ stepCall plan table run v grants → (number ≡ 0 → ⊥)
+    → record { number = number; run = run; grants = row } ≡ stepCall plan table run v grants
+refused-words plan table run v grants {number} {left} {row} so busy =
+    let stays = refused-step-stays plan table run v grants (λ e. busy (ap (λ (r : HostStepEffect). r .number) so ∙ e)) in
+    ap (λ r. record { number = number; run = r; grants = row }) (sym (ap (λ (r : HostStepEffect). r .run) so ∙ stays .0)) ∙ so

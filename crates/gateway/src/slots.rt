@@ -22,6 +22,7 @@ use judge::answers::is_accepted;
 use plan::edition::Edition;
 use plan::kinds::Plan;
 use plan::refusal::BUFFER_TOO_SHORT;
+use plan::refusal::DONE;
 use plan::refusal::UNSOUND;
 ghost use mathlib.Core.Path.{_≡_};
 ghost use Rattle.judge.specs.Verdict.{judged};
@@ -63,7 +64,7 @@ pub extern "C" fn gateway_start(
 }
 
 // Carries one slot at speed v: advances the lent run, and writes the grants to the lent row. Words that
-// have no room in a column break rule 8 or 9.
+// have no room in a column break rule 8 or 9. A refused slot leaves the run, so nothing is put back then.
 #[no_mangle]
 pub extern "C" fn gateway_step(
     plan: &[u64],
@@ -103,9 +104,13 @@ pub extern "C" fn gateway_step(
         grants,
     );
     let answer = s.answer;
+    let number = answer_number(answer);
+    if number != DONE as u32 {
+        return number;
+    }
     let next = s.next;
     put_parts(run, next, &carried);
-    answer_number(answer)
+    number
 }
 
 // The number of the outcome of the job at a position, or of a refusal.

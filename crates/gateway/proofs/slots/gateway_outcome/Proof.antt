@@ -10,7 +10,7 @@ use Rattle.dispatch.specs.Step.{outcome}
 use Rattle.hostmemory.specs.Memory.{planOf, runOf}
 use Rattle.hostmemory.proofs.ColumnLaws.{columns-read, too-large-unsound}
 use Rattle.gateway.specs.Calls.{endingNumber, outcomeCall}
-use Rattle.gateway.proofs.Laws.{outcome-words}
+use Rattle.gateway.proofs.Laws.{outlined, outcome-words}
 use Rattle.gateway.proofs.slots.gateway_outcome.Statement.{statement}
 use Rattle.gateway.proofs.slots.gateway_outcome.Tie as tie
 
@@ -80,7 +80,7 @@ returns-4 c =
     (sym (at-marks-hold .marks-hold .ensures) ∙ not-false _ (at-if2 .if2 .left))
     (c .outcome-number .ensures
     ∙ ap endingNumber (at-outcome .outcome-over .ensures p
-    (rw (at-outline-in .outline-in .ensures)
+    (outlined p (at-outline-in .outline-in .ensures)
     (columns-read (a .plan .now) none none none none _ _ _ _ _ (at-columns .columns-in .ensures) (not-false _ (at-if3 .if3 .left)) long long long long))
     ∙ ap (λ run. outcome p run (a .position)) (at-run-of .run-of .ensures)))
 

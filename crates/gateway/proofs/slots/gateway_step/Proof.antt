@@ -9,11 +9,12 @@ use Rattle.plan.specs.Edition.{mostJobs}
 use Rattle.dispatch.specs.Answers.{runAt}
 use Rattle.dispatch.specs.Step.{stepped}
 use Rattle.dispatch.proofs.SlotOver.{unsound-refused}
-use Rattle.hostmemory.specs.Memory.{planOf, runOf}
+use Rattle.hostmemory.specs.Memory.{planOf, runOf, runPut}
 use Rattle.hostmemory.proofs.ColumnLaws.{columns-read, too-large-unsound}
 use Rattle.hostmemory.proofs.RoundTrip.{run-again}
 use Rattle.gateway.specs.Calls.{stepCall}
-use Rattle.gateway.proofs.Laws.{step-words}
+use Rattle.gateway.proofs.Laws.{outlined, step-words}
+use Rattle.gateway.proofs.RefusedStep.{refused-words}
 use Rattle.gateway.proofs.slots.gateway_step.Statement.{statement}
 use Rattle.gateway.proofs.slots.gateway_step.Tie as tie
 
@@ -72,11 +73,43 @@ carried-in-requires c κs = search needs
 slot-over-requires : tie.Need-slot-over-requires
 slot-over-requires c κs = search needs
 
-put-parts-requires : tie.Need-put-parts-requires
-put-parts-requires c κs = search needs
-
 answer-number-requires : tie.Need-answer-number-requires
 answer-number-requires c κs = search needs
+
+-- Once the slot's call has answered: the number, the run put back, and the grant row are the step's call.
+module _ (c : tie.After-answer-number) where
+  abbrev at-slot-over : tie.After-slot-over
+  at-slot-over = c .before .before .before
+
+  abbrev at-columns : tie.After-columns-in
+  at-columns = at-slot-over .before .before .before .before .before .before .before .before .before .before .before .before .before
+
+  abbrev at-start : tie.Start
+  at-start = at-columns .before .before .before .before .before .before .before .before .before .before .before .before .before
+
+  slot-words : {left : List ℕ} → left ≡ runPut (at-start .args .run .now) (runAt (at-slot-over .slot-over .result .next) (at-slot-over .slot-over .last .1 .1 .1 .1 .1 .1 .1 .1 .0))
+      → record { number = c .answer-number .result; run = left; grants = at-slot-over .slot-over .last .1 .1 .1 .1 .1 .1 .1 .1 .1 .0 }
+      ≡ stepCall (at-start .args .plan .now) (at-start .args .table .now) (at-start .args .run .now) (at-start .args .v) (at-start .args .grants .now)
+  slot-words put =
+      let a = at-start .args in
+      let at-carried-in = at-slot-over .before .before .before .before .before .before .before in
+      let at-moment-in = at-carried-in .before .before in
+      let at-outline-in = at-moment-in .before .before in
+      let at-if2 = at-columns .before .before .before .before .before in
+      let at-marks-hold = at-if2 .before in
+      let p = planOf (a .plan .now) in
+      let none : List ℕ = replicate mostJobs 0 in
+      let long : length none ≡ mostJobs = length-replicate {A = ℕ} mostJobs 0 in
+      step-words (a .plan .now) (a .table .now) (a .run .now) (a .v) (a .grants .now) (at-marks-hold .before .before .if1 .left)
+      (sym (at-marks-hold .marks-hold .ensures) ∙ not-false _ (at-if2 .if2 .left))
+      (at-slot-over .slot-over .ensures p
+      (outlined p (at-outline-in .outline-in .ensures)
+      (columns-read (a .plan .now) none none none none _ _ _ _ _ (at-columns .columns-in .ensures) (not-false _ (at-outline-in .before .if3 .left)) long long long long))
+      ∙ ap₂ (λ at carried. stepped p (a .table .now) (runAt at carried) (a .v) (a .grants .now)) (at-moment-in .moment-in .ensures) (at-carried-in .carried-in .ensures))
+      (c .answer-number .ensures) put
+
+cast-if4 : tie.Need-cast-if4
+cast-if4 c = search needs
 
 same-length-3 : tie.Need-same-length-3
 same-length-3 c = search needs
@@ -86,27 +119,22 @@ same-length-4 c = search needs
 
 returns-4 : tie.Need-returns-4
 returns-4 c =
-    let at-put-parts = c .before .before .before in
-    let at-slot-over = at-put-parts .before .before .before .before .before .before in
-    let at-carried-in = at-slot-over .before .before .before .before .before .before .before in
-    let at-moment-in = at-carried-in .before .before in
-    let at-outline-in = at-moment-in .before .before in
-    let at-if3 = at-outline-in .before in
-    let at-columns = at-if3 .before in
-    let at-if2 = at-columns .before .before .before .before .before in
-    let at-marks-hold = at-if2 .before in
-    let at-if1 = at-marks-hold .before .before in
-    let a = at-if1 .before .before .before .before .before .args in
-    let p = planOf (a .plan .now) in
-    let none : List ℕ = replicate mostJobs 0 in
-    let long : length none ≡ mostJobs = length-replicate {A = ℕ} mostJobs 0 in
-    step-words (a .plan .now) (a .table .now) (a .run .now) (a .v) (a .grants .now) (at-if1 .if1 .left)
-    (sym (at-marks-hold .marks-hold .ensures) ∙ not-false _ (at-if2 .if2 .left))
-    (at-slot-over .slot-over .ensures p
-    (rw (at-outline-in .outline-in .ensures)
-    (columns-read (a .plan .now) none none none none _ _ _ _ _ (at-columns .columns-in .ensures) (not-false _ (at-if3 .if3 .left)) long long long long))
-    ∙ ap₂ (λ at carried. stepped p (a .table .now) (runAt at carried) (a .v) (a .grants .now)) (at-moment-in .moment-in .ensures) (at-carried-in .carried-in .ensures))
-    (c .answer-number .ensures) (at-put-parts .put-parts .ensures)
+    let a = at-start (c .before) .args in
+    refused-words (a .plan .now) (a .table .now) (a .run .now) (a .v) (a .grants .now) (slot-words (c .before) refl) (c .if4 .taken)
+
+put-parts-requires : tie.Need-put-parts-requires
+put-parts-requires c κs = search needs
+
+same-length-5 : tie.Need-same-length-5
+same-length-5 c = search needs
+
+same-length-6 : tie.Need-same-length-6
+same-length-6 c = search needs
+
+returns-5 : tie.Need-returns-5
+returns-5 c =
+    let at-put-parts = c .before .before in
+    slot-words (at-put-parts .before .before .before .before .before) (at-put-parts .put-parts .ensures)
 
 pub gateway-step-spec : {M : Type 1} → statement M
 gateway-step-spec =
@@ -126,8 +154,12 @@ gateway-step-spec =
     moment-in-requires
     carried-in-requires
     slot-over-requires
-    put-parts-requires
     answer-number-requires
+    cast-if4
     same-length-3
     same-length-4
-    returns-4)
+    returns-4
+    put-parts-requires
+    same-length-5
+    same-length-6
+    returns-5)
