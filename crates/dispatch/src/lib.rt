@@ -1,6 +1,7 @@
 // One slot, one run: the run record, its start, the grants of a slot, and the outcome of each job.
 pub mod answers;
 mod claims;
+mod essential;
 pub mod outcome;
 pub mod ranks;
 mod slot;

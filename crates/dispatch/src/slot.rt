@@ -2,6 +2,7 @@
 // jobs get their turns.
 use crate::claims::UNKNOWN;
 use crate::claims::all_fit;
+use crate::essential::serve_hi;
 use crate::turns::gather;
 use crate::turns::serve_gathered;
 use plan::boundaries::begun_by;
@@ -37,18 +38,6 @@ fn grant_claims(claims: &[u32; Edition::MOST_JOBS], jobs: usize, grants: &mut [u
     }
 }
 
-// Writes zeros to the grant row.
-fn clear_grants(jobs: usize, grants: &mut [u32])
-    requires { ⌜ jobs ≤ length (now grants) ⌝ }
-    ensures { λ r. ⌜ now (grants .exit) ≡ filled (λ k. 0) jobs (now (grants .entry)) ⌝ }
-{
-    let mut i = 0;
-    while i < jobs {
-        grants[i] = 0;
-        i += 1;
-    }
-}
-
 // Adds the grants to the carried units.
 pub(crate) fn carry_grants(carried: &mut [u32; Edition::MOST_JOBS], jobs: usize, grants: &[u32])
     requires { ⌜ (jobs ≤ mostJobs) × (jobs ≤ length (now grants)) × ((k : ℕ) → k < jobs → getD (now carried) k 0 + getD (now grants) k 0 < 2 ^ 32) ⌝ }
@@ -68,8 +57,8 @@ pub(crate) fn mark_after(was: bool, v: Rate, rate: Rate) -> bool
     was | (v.0 < rate.0)
 }
 
-// The jobs get their turns: the HI jobs in the order of their ranks, and then the others, unless the slow
-// mark is set. Claims that are known are not worked out again.
+// The HI jobs are served, and then the others in turns with what is left, unless the slow mark is set.
+// Claims that are known are not worked out again.
 fn serve_in_turns(
     jobs: usize,
     v: Units,
@@ -82,25 +71,27 @@ fn serve_in_turns(
     deadlines: &[u32; Edition::MOST_JOBS],
     carried: &[u32; Edition::MOST_JOBS],
     table: &[u32],
-    claims: &[u32; Edition::MOST_JOBS],
+    claims: &mut [u32; Edition::MOST_JOBS],
     grants: &mut [u32],
 )
     requires { ⌜ (jobs ≤ mostJobs) × (jobs ≤ length (now grants)) × ((k : ℕ) → k < jobs → getD (now deadlines) k 0 ≤ mostDeadline) × ((k : ℕ) → k < jobs → servedIn (clock .0) slow (now grades) (now releases) (now deadlines) k ≡ true → KnownDue (now claims) (dueIn slow spans (now sizes) (now carried) (now table)) k) ⌝ }
     ensures { λ r. ⌜ now (grants .exit) ≡ inTurns (clock .0) slow (now (grades .entry)) (now (releases .entry)) (now (deadlines .entry)) (dueIn slow spans (now (sizes .entry)) (now (carried .entry)) (now (table .entry))) (v .0) jobs (filled (λ k. 0) jobs (now (grants .entry))) ⌝ }
 {
-    clear_grants(jobs, grants);
     let mut ranks = [0u32; Edition::MOST_JOBS];
-    let count = gather(true, jobs, clock, grades, releases, deadlines, &mut ranks);
-    let rest = serve_gathered(
-        &mut ranks,
-        count,
+    let rest = serve_hi(
+        jobs,
         v,
+        clock,
         slow,
         spans,
+        grades,
+        releases,
         sizes,
+        deadlines,
         carried,
         table,
         claims,
+        &mut ranks,
         grants,
     );
     if slow | (rest.0 == 0) {
@@ -187,7 +178,7 @@ pub(crate) fn share_out(
         deadlines,
         carried,
         table,
-        &claims,
+        &mut claims,
         grants,
     );
 }

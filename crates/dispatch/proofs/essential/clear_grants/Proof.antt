@@ -1,4 +1,4 @@
--- `dispatch::slot::clear_grants` meets its contract: after i iterations the first i entries are 0.
+-- `dispatch::essential::clear_grants` meets its contract: after i iterations the first i entries are 0.
 use mathlib.Core.Path.{_≡_, refl, sym, _∙_, ap}
 use Prim.Native.Nat.{_-_, _≤_}
 use native.Mathlib.Omega.{arith}
@@ -6,8 +6,8 @@ use borrow.Author.Needs.{needs}
 use lib.ListN.{length}
 use Rattle.base.specs.Fill.{filled}
 use Rattle.base.proofs.FillLaws.{filled-start, filled-next, filled-length}
-use Rattle.dispatch.proofs.slot.clear_grants.Statement.{statement}
-use Rattle.dispatch.proofs.slot.clear_grants.Tie as tie
+use Rattle.dispatch.proofs.essential.clear_grants.Statement.{statement}
+use Rattle.dispatch.proofs.essential.clear_grants.Tie as tie
 
 abbrev Inv-loop : tie.InvT-loop
 Inv-loop jobs grants₀ i₀ grants i =

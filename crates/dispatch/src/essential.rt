@@ -1,0 +1,125 @@
+// The HI jobs of a slot in which not all claims fit. If what is due to them fits, they need no turns.
+use crate::claims::UNKNOWN;
+use crate::claims::claim_at;
+use crate::turns::gather;
+use crate::turns::is_of;
+use crate::turns::serve_gathered;
+use plan::edition::Edition;
+use plan::kinds::Slots;
+use plan::kinds::Units;
+ghost use mathlib.Core.Path.{_≡_};
+ghost use mathlib.Core.Bool.{true, false};
+ghost use Prim.Native.Nat.{ℕ, _-_, _≤_, _<_};
+ghost use lib.ListN.{length, getD};
+ghost use Rattle.base.specs.Fill.{filled};
+ghost use Rattle.base.specs.Sum.{sum, on};
+ghost use Rattle.plan.specs.Edition.{mostJobs, mostDeadline};
+ghost use Rattle.dispatch.specs.Order.{queue, serve};
+ghost use Rattle.dispatch.specs.inner.Turns.{classIn, rankIn, dueIn, KnownDue, Granted};
+
+// Writes zeros to the grant row.
+fn clear_grants(jobs: usize, grants: &mut [u32])
+    requires { ⌜ jobs ≤ length (now grants) ⌝ }
+    ensures { λ r. ⌜ now (grants .exit) ≡ filled (λ k. 0) jobs (now (grants .entry)) ⌝ }
+{
+    let mut i = 0;
+    while i < jobs {
+        grants[i] = 0;
+        i += 1;
+    }
+}
+
+// Writes to the grant row what is due to each live HI job, and 0 for the others, in the order of their
+// positions and as long as it fits into v. The answer is the sum, which is above v if it does not fit;
+// what follows the first job that does not fit stays as it was. Each due that is worked out is noted in
+// the claims.
+fn grant_hi(
+    claims: &mut [u32; Edition::MOST_JOBS],
+    jobs: usize,
+    v: Units,
+    clock: Slots,
+    spans: u32,
+    grades: &[u32; Edition::MOST_JOBS],
+    releases: &[u32; Edition::MOST_JOBS],
+    sizes: &[u32; Edition::MOST_JOBS],
+    deadlines: &[u32; Edition::MOST_JOBS],
+    carried: &[u32; Edition::MOST_JOBS],
+    table: &[u32],
+    grants: &mut [u32],
+) -> Units
+    requires { ⌜ (jobs ≤ mostJobs) × (jobs ≤ length (now grants)) × ((k : ℕ) → k < jobs → classIn true (clock .0) (now grades) (now releases) (now deadlines) k ≡ true → KnownDue (now claims) (dueIn false spans (now sizes) (now carried) (now table)) k) ⌝ }
+    ensures { λ r. ⌜ Granted (λ k. on (classIn true (clock .0) (now (grades .entry)) (now (releases .entry)) (now (deadlines .entry)) k) (dueIn false spans (now (sizes .entry)) (now (carried .entry)) (now (table .entry)) k)) (v .0) jobs (now (grants .entry)) (now (grants .exit)) (r .0) × ((k : ℕ) → KnownDue (now (claims .entry)) (dueIn false spans (now (sizes .entry)) (now (carried .entry)) (now (table .entry))) k → KnownDue (now (claims .exit)) (dueIn false spans (now (sizes .entry)) (now (carried .entry)) (now (table .entry))) k) ⌝ }
+{
+    let mut total = Units(0);
+    let mut i = 0;
+    while (i < jobs) & (total.0 <= v.0) {
+        let mut due = Units(0);
+        let release = Slots(releases[i]);
+        let deadline = Slots(deadlines[i]);
+        if is_of(true, grades[i], release, deadline, clock) {
+            due = claim_at(claims, false, spans, sizes, carried, table, i);
+            claims[i] = due.0 as u32;
+        }
+        grants[i] = due.0 as u32;
+        total = Units(total.0 + due.0);
+        i += 1;
+    }
+    total
+}
+
+// Serves the HI jobs; the answer is what is left of v. Whether all of them fit is looked at only where
+// the slow mark is clear, since otherwise no other claims were there that did not fit, and only where
+// the claims of the first half of the jobs fit: where they do not, those of the HI jobs hardly do.
+pub(crate) fn serve_hi(
+    jobs: usize,
+    v: Units,
+    clock: Slots,
+    slow: bool,
+    spans: u32,
+    grades: &[u32; Edition::MOST_JOBS],
+    releases: &[u32; Edition::MOST_JOBS],
+    sizes: &[u32; Edition::MOST_JOBS],
+    deadlines: &[u32; Edition::MOST_JOBS],
+    carried: &[u32; Edition::MOST_JOBS],
+    table: &[u32],
+    claims: &mut [u32; Edition::MOST_JOBS],
+    ranks: &mut [u32; Edition::MOST_JOBS],
+    grants: &mut [u32],
+) -> Units
+    requires { ⌜ (jobs ≤ mostJobs) × (jobs ≤ length (now ranks)) × (jobs ≤ length (now grants)) × ((k : ℕ) → k < jobs → getD (now deadlines) k 0 ≤ mostDeadline) × ((k : ℕ) → k < jobs → classIn true (clock .0) (now grades) (now releases) (now deadlines) k ≡ true → KnownDue (now claims) (dueIn slow spans (now sizes) (now carried) (now table)) k) ⌝ }
+    ensures { λ r. ⌜ (now (grants .exit) ≡ serve (dueIn slow spans (now (sizes .entry)) (now (carried .entry)) (now (table .entry))) (v .0) (queue (classIn true (clock .0) (now (grades .entry)) (now (releases .entry)) (now (deadlines .entry))) (rankIn (now (grades .entry)) (now (deadlines .entry))) jobs) (filled (λ k. 0) jobs (now (grants .entry)))) × (r .0 ≡ v .0 - sum (λ k. on (classIn true (clock .0) (now (grades .entry)) (now (releases .entry)) (now (deadlines .entry)) k) (dueIn slow spans (now (sizes .entry)) (now (carried .entry)) (now (table .entry)) k)) jobs) × (length (now (ranks .exit)) ≡ length (now (ranks .entry))) × ((k : ℕ) → KnownDue (now (claims .entry)) (dueIn slow spans (now (sizes .entry)) (now (carried .entry)) (now (table .entry))) k → KnownDue (now (claims .exit)) (dueIn slow spans (now (sizes .entry)) (now (carried .entry)) (now (table .entry))) k) ⌝ }
+{
+    if !slow & (claims[jobs / 2] != UNKNOWN) {
+        let total = grant_hi(
+            claims,
+            jobs,
+            v,
+            clock,
+            spans,
+            grades,
+            releases,
+            sizes,
+            deadlines,
+            carried,
+            table,
+            grants,
+        );
+        if total.0 <= v.0 {
+            return Units(v.0 - total.0);
+        }
+    }
+    clear_grants(jobs, grants);
+    let count = gather(true, jobs, clock, grades, releases, deadlines, ranks);
+    serve_gathered(
+        ranks,
+        count,
+        v,
+        slow,
+        spans,
+        sizes,
+        carried,
+        table,
+        claims,
+        grants,
+    )
+}
