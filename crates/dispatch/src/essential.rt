@@ -67,9 +67,10 @@ fn grant_hi(
     total
 }
 
-// Serves the HI jobs; the answer is what is left of v. Whether all of them fit is looked at only where
-// the slow mark is clear, since otherwise no other claims were there that did not fit, and only where
-// the claims of the first half of the jobs fit: where they do not, those of the HI jobs hardly do.
+// Serves the HI jobs; the answer is what is left of v. If all that is due to them fits, they need no turns.
+// That is not looked at under the slow mark, where theirs are the claims that did not fit; nor if the
+// claim of the middle job is not known, since those of the first half of the jobs did not fit then, and
+// those of the HI jobs hardly will.
 pub(crate) fn serve_hi(
     jobs: usize,
     v: Units,
