@@ -54,9 +54,7 @@ fn grant_hi(
     let mut i = 0;
     while (i < jobs) & (total.0 <= v.0) {
         let mut due = Units(0);
-        let release = Slots(releases[i]);
-        let deadline = Slots(deadlines[i]);
-        if is_of(true, grades[i], release, deadline, clock) {
+        if is_of(true, clock, grades, releases, deadlines, i) {
             due = claim_at(claims, false, spans, sizes, carried, table, i);
             claims[i] = due.0 as u32;
         }

@@ -50,31 +50,13 @@ going c =
 below : (c : tie.Then1 Inv-loop μ-loop) → c .before .before .before .loop .i < mostJobs
 below c = omega (arith, going c .0, c .before .before .before .before .before .before .pre .0)
 
-mul-is-of : tie.Need-mul-is-of Inv-loop μ-loop
-mul-is-of c = record { fits = omega (arith, below c) }
-
-element-copy-out-is-of : tie.Need-element-copy-out-is-of Inv-loop μ-loop
-element-copy-out-is-of c = below c
-
-mul-is-of-2 : tie.Need-mul-is-of-2 Inv-loop μ-loop
-mul-is-of-2 c = record { fits = omega (arith, below (c .before)) }
-
-element-copy-out-is-of-2 : tie.Need-element-copy-out-is-of-2 Inv-loop μ-loop
-element-copy-out-is-of-2 c = below (c .before)
-
-mul-is-of-3 : tie.Need-mul-is-of-3 Inv-loop μ-loop
-mul-is-of-3 c = record { fits = omega (arith, below (c .before .before)) }
-
-element-copy-out-is-of-3 : tie.Need-element-copy-out-is-of-3 Inv-loop μ-loop
-element-copy-out-is-of-3 c = below (c .before .before)
-
 is-of-requires : tie.Need-is-of-requires Inv-loop μ-loop
-is-of-requires c κs = search needs
+is-of-requires c κs = below c
 
 -- The job in hand: its class and its due.
 module _ (c : tie.After-is-of Inv-loop μ-loop) where
   abbrev turn : tie.Then1 Inv-loop μ-loop
-  turn = c .before .before .before .before
+  turn = c .before
 
   abbrev at-loop : tie.At-loop Inv-loop μ-loop
   at-loop = turn .before .before .before
@@ -148,8 +130,8 @@ slice-write-grants c =
       filled-length (λ k. on (class here k) (dues here k)) (at-loop here .loop .i) (entry here .args .grants .now),
     )
 
-add-t36 : tie.Need-add-t36 Inv-loop μ-loop
-add-t36 c =
+add-t28 : tie.Need-add-t28 Inv-loop μ-loop
+add-t28 c =
     let joined = c .before .before .before in
     omega (arith, granted joined .1, at-loop (hand joined) .loop .inv .3, below (turn (hand joined)))
 
@@ -198,12 +180,6 @@ grant-hi-spec =
     Inv-loop
     μ-loop
     loop-holds
-    mul-is-of
-    element-copy-out-is-of
-    mul-is-of-2
-    element-copy-out-is-of-2
-    mul-is-of-3
-    element-copy-out-is-of-3
     is-of-requires
     claim-at-requires
     cast-claims
@@ -212,7 +188,7 @@ grant-hi-spec =
     cast-grants
     mul-grants
     slice-write-grants
-    add-t36
+    add-t28
     add-i
     loop-less
     loop-again
