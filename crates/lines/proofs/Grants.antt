@@ -8,9 +8,9 @@ use lib.ListN.{getD}
 use Rattle.plan.specs.Rules.{name}
 use Rattle.plan.specs.declared.kinds.Plan.{Plan}
 use Rattle.text.specs.Text.{text}
-use Rattle.lines.specs.inner.Growth.{Grown}
+use Rattle.text.specs.inner.Growth.{Grown}
 use Rattle.lines.specs.Lines.{grantText, grantsText, orDash}
-use Rattle.lines.proofs.Growth.{grown-twice}
+use Rattle.text.proofs.Growth.{grown-twice}
 
 pub grants-start : (p : Plan) (grants : List ℕ) → grantsText p grants 0 ≡ []
 unfolding grantsText

@@ -1,4 +1,3 @@
-pub mod Growth
 pub mod Printing
 pub mod Grants
 pub mod Injective

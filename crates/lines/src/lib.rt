@@ -9,7 +9,6 @@ use crate::pieces::add_name;
 use crate::pieces::add_number;
 use crate::pieces::add_times;
 use crate::pieces::mode_of;
-use crate::pieces::put;
 use dispatch::answers::Outcome;
 use plan::edition::Edition;
 use plan::kinds::Name;
@@ -17,6 +16,7 @@ use plan::kinds::Plan;
 use plan::kinds::Slots;
 use plan::refusal::BUFFER_TOO_SHORT;
 use text::MOST_DIGITS;
+use text::append;
 ghost use Prim.Native.Nat.{_≤_};
 ghost use lib.ListN.{length};
 ghost use Rattle.dispatch.specs.Answers.{outcomeView};
@@ -44,7 +44,7 @@ fn print(line: &[u8], out: &mut [u8]) -> Printed
     if out.len() < line.len() {
         return Printed::Refused(BUFFER_TOO_SHORT);
     }
-    put(out, 0, line);
+    append::add(out, 0, line);
     Printed::Length(line.len())
 }
 

@@ -4,38 +4,23 @@ use plan::kinds::Name;
 use plan::kinds::Plan;
 use plan::kinds::Slots;
 use plan::rules::counted_of;
-use text::digits_of;
-use text::name_text;
+use text::append;
 ghost use mathlib.Core.Path.{_≡_};
 ghost use mathlib.Core.List.{_++_};
 ghost use Prim.Native.Nat.{_+_, _*_, _≤_};
 ghost use lib.ListN.{length, getD};
-ghost use lib.Seq.{paste};
 ghost use Rattle.plan.specs.Edition.{nameBytes, mostJobs};
 ghost use Rattle.plan.specs.Rules.{counted};
 ghost use Rattle.text.specs.Text.{text, decimal, mostDigits, nameText};
 ghost use Rattle.lines.specs.Lines.{modeText, grantText, grantsText, orDash, grantBytes};
-ghost use Rattle.lines.specs.inner.Growth.{Grown};
+ghost use Rattle.text.specs.inner.Growth.{Grown};
 
-// Copies a text to offset `at` of a buffer.
-pub(crate) fn put(out: &mut [u8], at: usize, text: &[u8])
-    requires { ⌜ at + length (now text) ≤ length (now out) ⌝ }
-    ensures { λ _. ⌜ now (out .exit) ≡ paste (now (out .entry)) at (now (text .entry)) (length (now (text .entry))) ⌝ }
-{
-    let mut k = 0;
-    while k < text.len() {
-        out[at + k] = text[k];
-        k += 1;
-    }
-}
-
-// Appends a text to a line.
+// Appends a text to a line that has room for it.
 pub(crate) fn add(line: &mut [u8], at: usize, text: &[u8]) -> usize
     requires { ⌜ at + length (now text) ≤ length (now line) ⌝ }
     ensures { λ r. ⌜ Grown (now (line .entry)) (now (line .exit)) at r (now (text .entry)) ⌝ }
 {
-    put(line, at, text);
-    at + text.len()
+    append::add(line, at, text)
 }
 
 // Appends a number in decimal to a line.
@@ -43,10 +28,7 @@ pub(crate) fn add_number(line: &mut [u8], at: usize, number: u32) -> usize
     requires { ⌜ at + mostDigits ≤ length (now line) ⌝ }
     ensures { λ r. ⌜ Grown (now (line .entry)) (now (line .exit)) at r (decimal number) × (r ≤ at + mostDigits) ⌝ }
 {
-    let digits = digits_of(number);
-    let bytes = digits.bytes;
-    let from = digits.from;
-    add(line, at, &bytes[from..])
+    append::add_number(line, at, number)
 }
 
 // Appends a name to a line.
@@ -54,8 +36,7 @@ pub(crate) fn add_name(line: &mut [u8], at: usize, name: Name) -> usize
     requires { ⌜ at + nameBytes ≤ length (now line) ⌝ }
     ensures { λ r. ⌜ Grown (now (line .entry)) (now (line .exit)) at r (nameText (name .0)) ⌝ }
 {
-    let bytes = name_text(name);
-    add(line, at, &bytes)
+    append::add_name(line, at, name)
 }
 
 // Begins the line of a slot with its clock and its speed.

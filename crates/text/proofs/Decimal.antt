@@ -41,7 +41,7 @@ digits-room (suc most) (suc more) n tail h l =
     go (no p) e = digits-more (suc most) n tail (omega arith) ∙ e ∙ sym (digits-more (suc more) n tail (omega arith))
 
 -- A number n has at most n + 1 digits.
-few-digits : (n : ℕ) → n < 10 ^ suc n
+pub few-digits : (n : ℕ) → n < 10 ^ suc n
 few-digits zero = omega arith
 few-digits (suc n) = omega (arith, few-digits n, pow-suc 10 (suc n))
 

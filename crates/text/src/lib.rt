@@ -1,4 +1,6 @@
 // Numbers in decimal and names, as bytes that people read.
+pub mod append;
+
 use plan::edition::Edition;
 use plan::kinds::Name;
 ghost use mathlib.Core.Path.{_≡_};

@@ -4,7 +4,7 @@ use native.Mathlib.Omega.{arith}
 use borrow.Author.Needs.{needs}
 use lib.Seq.{length-take-le}
 use Rattle.lines.specs.Answers.{printed}
-use Rattle.lines.proofs.Growth.{grown-twice}
+use Rattle.text.proofs.Growth.{grown-twice}
 use Rattle.lines.proofs.refused_line.Statement.{statement}
 use Rattle.lines.proofs.refused_line.Tie as tie
 

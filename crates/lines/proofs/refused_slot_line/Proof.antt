@@ -5,7 +5,7 @@ use borrow.Author.Needs.{needs}
 use lib.Seq.{length-take-le}
 use Rattle.lines.specs.Answers.{printed}
 use Rattle.lines.specs.Lines.{refusedSlotLine}
-use Rattle.lines.proofs.Growth.{grown-twice}
+use Rattle.text.proofs.Growth.{grown-twice}
 use Rattle.lines.proofs.refused_slot_line.Statement.{statement}
 use Rattle.lines.proofs.refused_slot_line.Tie as tie
 

@@ -5,7 +5,7 @@ use borrow.Author.Needs.{needs}
 use lib.Seq.{length-take-le}
 use Rattle.lines.specs.Answers.{printed}
 use Rattle.lines.specs.Lines.{slotLine}
-use Rattle.lines.proofs.Growth.{grown-twice, grown-same}
+use Rattle.text.proofs.Growth.{grown-twice, grown-same}
 use Rattle.lines.proofs.slot_line.Statement.{statement}
 use Rattle.lines.proofs.slot_line.Tie as tie
 

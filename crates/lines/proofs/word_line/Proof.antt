@@ -5,7 +5,7 @@ use borrow.Author.Needs.{needs}
 use lib.Seq.{length-take-le}
 use Rattle.lines.specs.Answers.{printed}
 use Rattle.lines.specs.Lines.{outcomeLine}
-use Rattle.lines.proofs.Growth.{grown-twice}
+use Rattle.text.proofs.Growth.{grown-twice}
 use Rattle.lines.proofs.word_line.Statement.{statement}
 use Rattle.lines.proofs.word_line.Tie as tie
 

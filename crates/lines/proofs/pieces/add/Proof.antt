@@ -1,22 +1,17 @@
--- `lines::pieces::add` meets its contract: copying a text appends it.
+-- `lines::pieces::add` meets its contract: there is room for the text.
 use borrow.Author.Needs.{needs}
-use Rattle.lines.proofs.Growth.{grown-by-text}
+use Rattle.text.proofs.Growth.{adds-grown}
 use Rattle.lines.proofs.pieces.add.Statement.{statement}
 use Rattle.lines.proofs.pieces.add.Tie as tie
 
-put-requires : tie.Need-put-requires
-put-requires c κs = search needs
-
-add-result : tie.Need-add-result
-add-result c = search needs
+add-requires : tie.Need-add-requires
+add-requires c κs = search needs
 
 same-length : tie.Need-same-length
 same-length c = search needs
 
 returns : tie.Need-returns
-returns c =
-    let a = c .before .before .before .before .before .before .args in
-    rw (c .before .before .put .ensures) (grown-by-text (a .line .now) (a .at) (a .text .now) (c .before .before .before .before .before .before .pre))
+returns c = adds-grown (c .before .before .before .before .before .before .pre) (c .before .before .add .ensures)
 
 pub add-spec : {M : Type 1} → statement M
-add-spec = tie.close (tie.spec put-requires add-result same-length returns)
+add-spec = tie.close (tie.spec add-requires same-length returns)

@@ -5,10 +5,10 @@ use Prim.Native.Nat.{_+_, _*_, _-_, _≤_}
 use native.Mathlib.Omega.{arith}
 use borrow.Author.Needs.{needs}
 use Rattle.plan.specs.Rules.{name, counted}
-use Rattle.lines.specs.inner.Growth.{Grown}
+use Rattle.text.specs.inner.Growth.{Grown}
 use Rattle.lines.specs.Lines.{grantsText, grantText, grantBytes}
 use Rattle.lines.proofs.Grants.{grants-start, grants-next}
-use Rattle.lines.proofs.Growth.{grown-by-none, grown-twice, grown-same}
+use Rattle.text.proofs.Growth.{grown-by-none, grown-twice, grown-same}
 use Rattle.lines.proofs.pieces.add_each_grant.Statement.{statement}
 use Rattle.lines.proofs.pieces.add_each_grant.Tie as tie
 

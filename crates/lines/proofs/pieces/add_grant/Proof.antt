@@ -2,7 +2,7 @@
 use native.Mathlib.Omega.{arith}
 use borrow.Author.Tests.{eq-eqb, ne-eqb}
 use borrow.Author.Needs.{needs}
-use Rattle.lines.proofs.Growth.{grown-by-none, grown-twice}
+use Rattle.text.proofs.Growth.{grown-by-none, grown-twice}
 use Rattle.lines.proofs.pieces.add_grant.Statement.{statement}
 use Rattle.lines.proofs.pieces.add_grant.Tie as tie
 

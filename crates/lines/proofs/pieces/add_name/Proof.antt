@@ -1,25 +1,17 @@
--- `lines::pieces::add_name` meets its contract.
+-- `lines::pieces::add_name` meets its contract: there is room for the name.
 use borrow.Author.Needs.{needs}
-use Rattle.lines.proofs.Growth.{grown-same}
+use Rattle.text.proofs.Growth.{adds-grown}
 use Rattle.lines.proofs.pieces.add_name.Statement.{statement}
 use Rattle.lines.proofs.pieces.add_name.Tie as tie
 
-name-text-requires : tie.Need-name-text-requires
-name-text-requires c κs = search needs
-
-slice-aggregate-add : tie.Need-slice-aggregate-add
-slice-aggregate-add c = search needs
-
-add-requires : tie.Need-add-requires
-add-requires c κs = search needs
+add-name-requires : tie.Need-add-name-requires
+add-name-requires c κs = search needs
 
 same-length : tie.Need-same-length
 same-length c = search needs
 
 returns : tie.Need-returns
-returns c =
-    grown-same (c .before .before .before .before .before .name-text .ensures) (c .before .before .add .ensures)
+returns c = adds-grown (c .before .before .before .before .before .pre) (c .before .before .add-name .ensures)
 
 pub add-name-spec : {M : Type 1} → statement M
-add-name-spec =
-    tie.close (tie.spec name-text-requires slice-aggregate-add add-requires same-length returns)
+add-name-spec = tie.close (tie.spec add-name-requires same-length returns)

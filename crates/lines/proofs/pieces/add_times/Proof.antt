@@ -1,7 +1,7 @@
 -- `lines::pieces::add_times` meets its contract, piece by piece.
 use native.Mathlib.Omega.{arith}
 use borrow.Author.Needs.{needs}
-use Rattle.lines.proofs.Growth.{grown-twice}
+use Rattle.text.proofs.Growth.{grown-twice}
 use Rattle.lines.proofs.pieces.add_times.Statement.{statement}
 use Rattle.lines.proofs.pieces.add_times.Tie as tie
 

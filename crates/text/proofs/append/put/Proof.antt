@@ -1,12 +1,12 @@
--- `lines::pieces::put` meets its contract. Loop invariant: the first k bytes of the text are copied.
+-- `text::append::put` meets its contract. Loop invariant: the first k bytes of the text are copied.
 use mathlib.Core.Path.{_≡_, sym, _∙_, ap}
 use Prim.Native.Nat.{_+_, _-_, _≤_}
 use native.Mathlib.Numerals.{add-one}
 use native.Mathlib.Omega.{arith}
 use lib.ListN.{length, set, getD}
 use lib.Seq.{paste, paste-zero, paste-suc, length-paste}
-use Rattle.lines.proofs.pieces.put.Statement.{statement}
-use Rattle.lines.proofs.pieces.put.Tie as tie
+use Rattle.text.proofs.append.put.Statement.{statement}
+use Rattle.text.proofs.append.put.Tie as tie
 
 abbrev Inv-loop : tie.InvT-loop
 Inv-loop out₀ at text k₀ out k = (k ≤ length text) × (out ≡ paste out₀ at text k)
