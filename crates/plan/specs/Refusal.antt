@@ -104,3 +104,12 @@ unsound = 21
 -- A lent buffer is too short.
 abbrev pub bufferTooShort : ℕ
 bufferTooShort = 22
+
+-- A line of a job list is no record of RFC 4180 with five fields, its name is not eight bytes, or a
+-- number of it is no decimal.
+abbrev pub wrongLine : ℕ
+wrongLine = 23
+
+-- A job list does not begin with its header.
+abbrev pub wrongHeader : ℕ
+wrongHeader = 24

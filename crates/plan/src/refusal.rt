@@ -57,3 +57,8 @@ pub const SPEED_ABOVE_NORMAL: u8 = 20;
 pub const UNSOUND: u8 = 21;
 
 pub const BUFFER_TOO_SHORT: u8 = 22;
+
+// Refusals of a job list as text.
+pub const WRONG_LINE: u8 = 23;
+
+pub const WRONG_HEADER: u8 = 24;

@@ -1,0 +1,15 @@
+pub mod Cases
+pub mod FieldLaws
+pub mod SeenLaws
+pub mod ItemLaws
+pub mod LineLaws
+pub mod LineLoop
+pub mod ImportLaws
+pub mod Injective
+pub mod Determined
+pub mod Numbers
+pub mod Soundness
+pub mod ExportLaws
+pub mod RuleParts
+pub mod FieldBack
+pub mod RoundTrip

@@ -1,0 +1,166 @@
+-- Reading a job list: its header, then a line for each job. Each refusal says at which offset.
+use mathlib.Core.Bool.{Bool, true, false, cond, _&&_, _||_}
+use mathlib.Core.List.{List, [], _∷_, _++_, map}
+use Prim.Native.Nat.{ℕ, zero, suc, _+_, _-_}
+use lib.Dec.{leb, eqb}
+use lib.ListN.{length, drop, replicate}
+use Rattle.plan.specs.Kinds.{Bytes, Number, Offset}
+use Rattle.plan.specs.Edition.{nameBytes, mostJobs}
+use Rattle.plan.specs.Refusal.{Refusal, refusalAt, wrongJobCount, wrongNameByte, nameTaken, wrongGrade, wrongJobBounds, wrongLine, wrongHeader}
+use Rattle.plan.specs.Report.{Report}
+use Rattle.plan.specs.Rules.{lo, hi, nameAllowed, isAbsent, gradeAllowed, windowAllowed, sizeAllowed, noJob}
+use Rattle.plan.specs.declared.kinds.Job.{Job}
+use Rattle.plan.specs.declared.kinds.JobList.{JobList}
+use Rattle.fields.specs.Bytes.{value}
+use Rattle.fields.specs.Parsers.{Parsed, got, no, Parser, _>>=_, _>>_, done, here, fileLength, test}
+use Rattle.text.specs.Text.{text}
+use Rattle.joblist.specs.Grammar.{comma, lineEnd, Found, found, broken, field, begins}
+use Rattle.joblist.specs.Decimals.{isDecimal, numberIn}
+
+-- These bytes must stand here; otherwise it is refused with the number, at `from`.
+unfoldable pub exactly : (bytes : Bytes) (number : Number) (from : Offset) → Parser (Unit {0})
+exactly bytes number from file at = cond (begins bytes (drop at file)) (got tt (at + length bytes)) (no (refusalAt number from))
+
+-- A field that was found at an offset, in a line that begins at `from`.
+abbrev pub standing : (from at : Offset) → Found → Parsed (List ℕ)
+standing from at (found l used) = got l (at + used)
+standing from at broken = no (refusalAt wrongLine from)
+
+-- A field of a line that begins at `from`, and what ends it, a comma or the end of the line: the bytes
+-- that the field stands for.
+unfoldable pub item : (ends : Bytes) (from : Offset) → Parser (List ℕ)
+item ends from = do
+  l ← (λ file at. standing from at (field (drop at file)))
+  exactly ends wrongLine from
+  done l
+
+-- A name: eight bytes.
+unfoldable pub nameItem : (from : Offset) → Parser ℕ
+nameItem from = do
+  l ← item (comma ∷ []) from
+  test (eqb (length l) nameBytes) wrongLine from
+  done (value 0 l)
+
+-- A number: a decimal.
+unfoldable pub numberItem : (ends : Bytes) (from : Offset) → Parser ℕ
+numberItem ends from = do
+  l ← item ends from
+  test (isDecimal l) wrongLine from
+  done (numberIn l)
+
+-- Two texts are the same.
+abbrev pub sameText : Bytes → Bytes → Bool
+sameText a b = eqb (length a) (length b) && begins a b
+
+-- What no grade has for its number.
+abbrev pub noGrade : ℕ
+noGrade = 2
+
+-- The grade that a text names: H is HI, L is LO, and any other is none.
+abbrev pub gradeNamed : Bytes → ℕ
+gradeNamed l = cond (sameText (text "H") l) hi (cond (sameText (text "L") l) lo noGrade)
+
+-- A grade, allowed or not.
+unfoldable pub gradeItem : (from : Offset) → Parser ℕ
+gradeItem from = do
+  l ← item (comma ∷ []) from
+  done (gradeNamed l)
+
+-- The five fields of a line, with the offsets of the grade's field and of the release's.
+pub record Line : Type 0 where
+  pub name : ℕ
+  pub gradeAt : ℕ
+  pub grade : ℕ
+  pub releaseAt : ℕ
+  pub release : ℕ
+  pub size : ℕ
+  pub deadline : ℕ
+
+-- A line by its text alone: five fields, all of them well formed, or 23 at its first byte.
+unfoldable pub line : Parser Line
+line = do
+  from ← here
+  name ← nameItem from
+  gradeAt ← here
+  grade ← gradeItem from
+  releaseAt ← here
+  release ← numberItem (comma ∷ []) from
+  size ← numberItem (comma ∷ []) from
+  deadline ← numberItem lineEnd from
+  done (record { name = name; gradeAt = gradeAt; grade = grade; releaseAt = releaseAt; release = release; size = size; deadline = deadline })
+
+-- The job of a line.
+abbrev pub jobOn : Line → Job
+jobOn l =
+    record {
+      name = record { 0 = l .name };
+      grade = l .grade;
+      release = record { 0 = l .release };
+      size = record { 0 = l .size };
+      deadline = record { 0 = l .deadline };
+    }
+
+-- One job: a well-formed line, then rules 6 to 9, of which 7 is told the names of the jobs before it.
+unfoldable pub oneJob : (earlier : List ℕ) → Parser Job
+oneJob earlier = do
+  from ← here
+  l ← line
+  test (nameAllowed (l .name)) wrongNameByte from
+  test (isAbsent earlier (l .name)) nameTaken from
+  test (gradeAllowed (l .grade)) wrongGrade (l .gradeAt)
+  test (windowAllowed (l .release) (l .deadline) && sizeAllowed (l .size)) wrongJobBounds (l .releaseAt)
+  done (jobOn l)
+
+-- The names of a list of jobs.
+abbrev pub namesOf : List Job → List ℕ
+namesOf jobs = map (λ (j : Job). j .name .0) jobs
+
+-- Whether the text ends here.
+abbrev pub atEnd : Parser Bool
+atEnd file at = got (leb (length file) at) at
+
+-- Lines up to the end of the text, at most `room` of them, after the jobs that were read. One line more is
+-- refused before its text is looked at.
+unfoldable pub allLines : (room : ℕ) (jobs : List Job) → Parser (List Job)
+allLines zero jobs = do
+  from ← here
+  over ← atEnd
+  test over wrongJobCount from
+  done jobs
+allLines (suc room) jobs = do
+  over ← atEnd
+  cond over (done jobs) (do
+    job ← oneJob (namesOf jobs)
+    allLines room (jobs ++ (job ∷ [])))
+
+-- The header, the first line of every job list.
+abbrev pub header : Bytes
+header = text "name,grade,release,size,deadline" ++ lineEnd
+
+-- A job list: the header, and at least one line; if there is none, it is refused at the end of the text.
+unfoldable pub jobText : Parser (List Job)
+jobText = do
+  exactly header wrongHeader 0
+  jobs ← allLines mostJobs []
+  end ← here
+  test (leb 1 (length jobs)) wrongJobCount end
+  done jobs
+
+-- A list of these jobs, then zero records up to `mostJobs`.
+abbrev pub listOf : List Job → JobList
+listOf jobs = record { count = length jobs; jobs = jobs ++ replicate (mostJobs - length jobs) noJob }
+
+-- What a call of the import leaves: its report (empty for a list that was read, otherwise the refusal number
+-- and the offset), and the jobs.
+pub record ImportEffect : Type 0 where
+  pub answer : Report
+  pub list : JobList
+
+-- By what was read: the jobs, or with a refusal none.
+abbrev pub importedFrom : Parsed (List Job) → ImportEffect
+importedFrom (got jobs next) = record { answer = []; list = listOf jobs }
+importedFrom (no refusal) = record { answer = refusal .number ∷ refusal .offset ∷ []; list = listOf [] }
+
+-- The import of a text.
+unfoldable pub imported : (bytes : Bytes) → ImportEffect
+imported bytes = importedFrom (jobText bytes 0)

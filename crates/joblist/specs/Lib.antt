@@ -1,0 +1,6 @@
+pub mod Grammar
+pub mod Decimals
+pub mod Import
+pub mod Export
+pub mod Answers
+pub mod inner

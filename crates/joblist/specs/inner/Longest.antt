@@ -1,0 +1,21 @@
+-- For the contracts of internal functions; no promise rests on this file. The greatest lengths of the
+-- parts of a line, whatever its numbers are.
+use Prim.Native.Nat.{ℕ, _+_, _*_}
+use Rattle.plan.specs.Edition.{nameBytes, mostJobs}
+use Rattle.text.specs.Text.{mostDigits}
+
+-- A name's field: two quotes, and each byte doubled.
+abbrev pub longestName : ℕ
+longestName = 2 + 2 * nameBytes
+
+-- Three numbers with a comma before each, and the end of the line.
+abbrev pub longestNumbers : ℕ
+longestNumbers = 3 * (1 + mostDigits) + 2
+
+-- A line: the name, a comma, the grade and the numbers.
+abbrev pub longestLine : ℕ
+longestLine = longestName + 2 + longestNumbers
+
+-- A text: the header, and a line for each job.
+abbrev pub longestText : ℕ
+longestText = 34 + mostJobs * longestLine
