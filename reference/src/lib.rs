@@ -1,9 +1,10 @@
-//! The reference program: every call on plans and runs, written by the plainest means.
+//! The reference program: every call on plans, runs and job lists, written by the plainest means.
 //!
 //! `generate` makes test inputs out of a seed, on which other programs are compared with this one.
 
 pub mod edition;
 pub mod generate;
+pub mod joblist;
 pub mod judge;
 pub mod lookup;
 pub mod plan;

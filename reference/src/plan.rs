@@ -139,16 +139,17 @@ pub fn times_and_size_hold(job: &Job) -> bool {
 /// Rates, count, grades, times and sizes: what a slot needs of a plan.
 pub fn numbers_hold(plan: &Plan) -> bool {
     // The count comes before any record is looked at: it may be any number.
-    rates_hold(plan.n, plan.d)
-        && count_holds(plan.count)
-        && plan
-            .counted()
-            .iter()
-            .all(|job| grade_holds(job.grade) && times_and_size_hold(job))
+    rates_hold(plan.n, plan.d) && count_holds(plan.count) && grades_and_numbers_hold(plan.counted())
+}
+
+/// The grades, times and sizes of all jobs.
+pub fn grades_and_numbers_hold(jobs: &[Job]) -> bool {
+    jobs.iter()
+        .all(|job| grade_holds(job.grade) && times_and_size_hold(job))
 }
 
 /// The bytes of all names, and that no name stands twice.
-fn names_hold(jobs: &[Job]) -> bool {
+pub fn names_hold(jobs: &[Job]) -> bool {
     (0..jobs.len())
         .all(|i| name_bytes_hold(&jobs[i].name) && name_is_new(&jobs[i].name, &jobs[..i]))
 }

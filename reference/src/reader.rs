@@ -21,15 +21,15 @@ pub struct Answer {
     pub plan: Plan,
 }
 
-/// The first fault of a file: its number, and where the field begins that it is told of.
-/// For bytes after the last row this is the first of them.
+/// The first fault of a file or of a job list's text: its number, and where the field or the line
+/// begins that it is told of. For bytes after the last row this is the first of them.
 #[derive(Clone, Copy, Debug, PartialEq, Eq)]
 pub struct Fault {
     pub number: u8,
     pub offset: usize,
 }
 
-fn fault<T>(number: u8, offset: usize) -> Result<T, Fault> {
+pub fn fault<T>(number: u8, offset: usize) -> Result<T, Fault> {
     Err(Fault { number, offset })
 }
 

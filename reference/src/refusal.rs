@@ -25,6 +25,8 @@ pub const AT_LAST_DEADLINE: u8 = 19;
 pub const SPEED: u8 = 20;
 pub const UNSOUND: u8 = 21;
 pub const TOO_SHORT: u8 = 22;
+pub const LINE: u8 = 23;
+pub const HEADER: u8 = 24;
 
 /// A refusal with its places, listed in the order in which they are named.
 ///

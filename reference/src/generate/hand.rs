@@ -10,7 +10,7 @@ use super::speeds::speeds;
 use crate::edition::{
     LARGEST_FILE, MOST_DEADLINE, MOST_INTERVALS, MOST_JOBS, MOST_SIZE, NAME_BYTES, TABLE_PLACES,
 };
-use crate::plan::{intervals, place_of, Plan};
+use crate::plan::{intervals, place_of, Job, Plan};
 use crate::run::Run;
 
 /// The kinds of twists.
@@ -113,14 +113,14 @@ pub fn twist_input(prng: &mut Prng, input: &mut HandInput, twist: Twist, place: 
     let i = place.index(jobs);
     match twist {
         Twist::Rates => twist_rates(prng, &mut input.plan),
-        Twist::Count => twist_count(prng, &mut input.plan),
+        Twist::Count => input.plan.count = wrong_count(prng, input.plan.count),
         Twist::NameByte => {
             let byte = prng.pick(&[0, 0x20, 0x7F, u8::MAX]);
             input.plan.jobs[i].name[prng.index(NAME_BYTES)] = byte;
         }
         Twist::NameTwice => input.plan.jobs[i].name = input.plan.jobs[prng.index(jobs)].name,
         Twist::Grade => input.plan.jobs[i].grade = prng.pick(&[2, 3, 0x80, u8::MAX]),
-        Twist::TimesOrSize => twist_times_or_size(prng, &mut input.plan, i),
+        Twist::TimesOrSize => twist_times_or_size(prng, &mut input.plan.jobs[i]),
         Twist::StrayJob => twist_stray_job(prng, input, jobs, place),
         Twist::StrayInterval => twist_stray_interval(prng, input, jobs, place),
         Twist::ShortTable => twist_table_length(prng, input),
@@ -161,17 +161,15 @@ fn twist_rates(prng: &mut Prng, plan: &mut Plan) {
 }
 
 /// No job, one too many, or the right count with a bit beyond some narrower type.
-fn twist_count(prng: &mut Prng, plan: &mut Plan) {
-    let count = plan.count;
+pub fn wrong_count(prng: &mut Prng, count: u64) -> u64 {
     let widened = [count | 1 << 8, count | 1 << 16, count | 1 << 32];
-    plan.count = match prng.below(2) {
+    match prng.below(2) {
         0 => prng.pick(&[0, 33, 64, u64::MAX]),
         _ => prng.pick(&widened),
-    };
+    }
 }
 
-fn twist_times_or_size(prng: &mut Prng, plan: &mut Plan, position: usize) {
-    let job = &mut plan.jobs[position];
+pub fn twist_times_or_size(prng: &mut Prng, job: &mut Job) {
     match prng.below(10) {
         0 => job.release = job.deadline,
         1 => job.release = u32::MAX,
@@ -284,16 +282,22 @@ pub fn rubbish(prng: &mut Prng, input: &mut HandInput) {
         (jobs + 3).min(MOST_JOBS)
     };
     for i in jobs..records {
-        let job = &mut input.plan.jobs[i];
-        job.name = prng.word().to_be_bytes();
-        job.grade = prng.below(256) as u8;
-        job.release = prng.below(200) as u32;
-        job.size = prng.word();
-        job.deadline = prng.below(200) as u32;
+        input.plan.jobs[i] = rubbish_job(prng);
         input.run.carried[i] = prng.below(1 << 32) as u32;
     }
     // The first record beyond the count looks like a job that would change everything.
     if 0 < jobs && jobs < MOST_JOBS {
         input.plan.jobs[jobs] = input.plan.jobs[0];
+    }
+}
+
+/// A record that no rule holds for, but by chance.
+pub fn rubbish_job(prng: &mut Prng) -> Job {
+    Job {
+        name: prng.word().to_be_bytes(),
+        grade: prng.below(256) as u8,
+        release: prng.below(200) as u32,
+        size: prng.word(),
+        deadline: prng.below(200) as u32,
     }
 }

@@ -1,5 +1,6 @@
 //! Test inputs, and the lengths of the buffers that are lent with them.
 
+use crate::joblist::JobList;
 use crate::plan::Plan;
 use crate::run::Run;
 
@@ -28,4 +29,11 @@ pub struct HandInput {
     pub table: Vec<u32>,
     pub run: Run,
     pub speeds: Vec<u16>,
+}
+
+/// A job list in hand, and how many bytes are lent for its text.
+#[derive(Clone, Debug, PartialEq, Eq)]
+pub struct ListInput {
+    pub list: JobList,
+    pub output: usize,
 }

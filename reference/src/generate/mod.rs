@@ -7,24 +7,34 @@ mod draft;
 mod fields;
 mod fixed_files;
 mod fixed_hands;
+mod fixed_lists;
 mod fixed_places;
+mod fixed_texts;
 mod hand;
 mod input;
+mod joblists;
+mod listhand;
 mod nights;
 mod prng;
 mod refused;
+mod sheet;
+mod sheet_damage;
 mod speeds;
 
 use crate::edition::TABLE_PLACES;
+use crate::plan::Job;
 use crate::reader::contents;
 use crate::refusal::{ROW_ORDER, VERSION};
 use draft::{Draft, Limits, ANY, EVERYWHERE, SMALL};
 use refused::PLACED;
+use sheet::Sheet;
 
 pub use bad_inputs::bad_inputs;
 pub use fixed_files::fixed_files;
 pub use fixed_hands::fixed_hands;
-pub use input::{FileInput, HandInput, Lent};
+pub use fixed_lists::fixed_lists;
+pub use fixed_texts::fixed_texts;
+pub use input::{FileInput, HandInput, Lent, ListInput};
 pub use nights::night;
 pub use prng::{Prng, Purpose};
 
@@ -74,6 +84,37 @@ pub fn damaged_input(seed: u64, number: u64) -> FileInput {
 pub fn hand(seed: u64, number: u64) -> HandInput {
     let prng = &mut Prng::new(seed, Purpose::Hand, number);
     hand::hand(prng, limits_of(number))
+}
+
+/// A text for import, right or wrong, drawn from the seed and its own number alone.
+pub fn job_text(seed: u64, number: u64) -> Vec<u8> {
+    let prng = &mut Prng::new(seed, Purpose::JobText, number);
+    let most = limits_of(number).jobs;
+    match prng.below(100) {
+        0..=29 => quoted_at_will(prng, most).1,
+        30..=79 => sheet_damage::struck(prng, most),
+        80..=93 => sheet_damage::sprinkled(prng, most),
+        _ => sheet_damage::random_pieces(prng),
+    }
+}
+
+/// A sound list and a text that imports to it, drawn from the seed and its own number alone.
+pub fn quoted_list(seed: u64, number: u64) -> (Vec<Job>, Vec<u8>) {
+    let prng = &mut Prng::new(seed, Purpose::QuotedList, number);
+    quoted_at_will(prng, limits_of(number).jobs)
+}
+
+/// A job list in hand for export, drawn from the seed and its own number alone.
+pub fn job_list(seed: u64, number: u64) -> ListInput {
+    let prng = &mut Prng::new(seed, Purpose::JobList, number);
+    listhand::list(prng, limits_of(number).jobs)
+}
+
+/// A sound list of at most so many jobs, and its text with more quotes than there must be.
+fn quoted_at_will(prng: &mut Prng, most: usize) -> (Vec<Job>, Vec<u8>) {
+    let jobs = joblists::jobs(prng, most);
+    let text = Sheet::drawn(prng, &jobs).text();
+    (jobs, text)
 }
 
 fn of_file(limits: &Limits, file: Vec<u8>) -> FileInput {

@@ -9,6 +9,9 @@ pub enum Purpose {
     Night,
     Lending,
     Damaged,
+    JobText,
+    JobList,
+    QuotedList,
 }
 
 /// The state of one source.

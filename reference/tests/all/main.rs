@@ -3,9 +3,13 @@
 mod bad_inputs;
 mod cases;
 mod common;
+mod export;
 mod floor;
 mod generated;
+mod generated_lists;
 mod generated_places;
+mod import;
+mod import_places;
 mod judge;
 mod lookup;
 mod outcome;
