@@ -5,11 +5,10 @@ use mathlib.Core.Bool.{Bool, true, false, true≢false, not, cond, _&&_, _||_}
 use mathlib.Core.List.{List, [], _∷_, _++_, append-assoc}
 use Prim.Native.Nat.{ℕ, zero, suc, _+_, _*_, _-_, _/_, _%_, _^_, _≤_, _<_}
 use native.Mathlib.Nat.{zero-add, pow-suc, div-one, mod-eq-of-lt, div-add-mod', div-div-eq-div-mul, div-lt-iff-lt-mul}
-use native.Mathlib.Decide.{decLt}
 use native.Mathlib.Omega.{arith}
 use borrow.Author.Tests.{le-leb, leb-true, eqb-true, eq-eqb, ne-eqb}
 use lib.Dec.{leb, eqb}
-use lib.ListN.{length, getD, length-append}
+use lib.ListN.{length, getD}
 use Rattle.base.proofs.Logic.{if-true, if-less, both, neither}
 use Rattle.base.proofs.Below.{every-at}
 use Rattle.plan.specs.Edition.{nameBytes}
@@ -17,7 +16,7 @@ use Rattle.plan.specs.Rules.{lo, hi, byteOf, nameAllowed, gradeAllowed}
 use Rattle.fields.specs.Bytes.{value}
 use Rattle.text.specs.Text.{digit, digits, decimal, nameText}
 use Rattle.text.proofs.Decimal.{digits-one, digits-more, shorter, few-digits}
-use Rattle.joblist.specs.Grammar.{comma, quote, carriageReturn, lineFeed, isPlain, isQuotable, Found, found, more, past, plain, quoted, field, begins}
+use Rattle.joblist.specs.Grammar.{comma, quote, carriageReturn, lineFeed, isPlain, isQuotable, found, plain, quoted, field, begins}
 use Rattle.joblist.specs.Decimals.{isDigit, areDigits, isDecimal, decimalFrom, mostNumber, numberIn}
 use Rattle.joblist.specs.Import.{gradeNamed}
 use Rattle.joblist.specs.Export.{needsQuotes, doubled, fieldText, gradeText}

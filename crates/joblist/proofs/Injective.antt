@@ -1,5 +1,5 @@
 -- The views of the answers of import and export are injective: equal views mean equal values.
-use mathlib.Core.Path.{_≡_, refl, sym, _∙_, ap}
+use mathlib.Core.Path.{_≡_, refl, ap}
 use Prim.Native.Nat.{ℕ}
 use native.Mathlib.Omega.{arith}
 use Rattle.joblist.specs.Import.{ImportEffect}

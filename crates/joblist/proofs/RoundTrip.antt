@@ -1,13 +1,12 @@
 -- Importing the text that the export writes gives the list's jobs.
 use mathlib.Core.Path.{_≡_, refl, sym, _∙_, ap}
-use mathlib.Core.Bool.{true, not, _&&_}
+use mathlib.Core.Bool.{true}
 use mathlib.Core.List.{List, [], _∷_, _++_, append-assoc, append-nil}
 use Prim.Native.Nat.{ℕ, zero, suc, _+_, _-_, _^_, _≤_, _<_}
-use native.Mathlib.Nat.{zero-add, add-zero}
 use native.Mathlib.Omega.{arith}
 use borrow.Author.Tests.{le-leb, leb-true, ltb-true}
-use lib.Dec.{leb, ltb, eqb}
-use lib.ListN.{length, getD, take, drop, length-append, length-drop, length-map, List·getD-map, List·getD-append}
+use lib.Dec.{leb, ltb}
+use lib.ListN.{length, take, drop, length-append, length-drop, length-map, List·getD-map}
 use lib.Seq.{take-suc, drop-at, length-take-le, getD-take}
 use Rattle.base.proofs.Logic.{both, below-or-last}
 use Rattle.base.proofs.Below.{every-all}
@@ -17,11 +16,11 @@ use Rattle.plan.specs.Refusal.{wrongLine, wrongHeader}
 use Rattle.plan.specs.Rules.{jobIn, noJob, nameAllowed, isAbsent, gradeAllowed, windowAllowed, sizeAllowed, jobsHold}
 use Rattle.plan.specs.declared.kinds.Job.{Job}
 use Rattle.plan.specs.declared.kinds.JobList.{JobList}
-use Rattle.fields.specs.Parsers.{Parsed, got}
+use Rattle.fields.specs.Parsers.{got}
 use Rattle.fields.proofs.BytesAt.{Stands, stands-first, stands-rest, stands-as}
 use Rattle.text.specs.Text.{decimal, nameText}
-use Rattle.joblist.specs.Grammar.{comma, lineEnd, field, begins}
-use Rattle.joblist.specs.Decimals.{isDecimal, mostNumber}
+use Rattle.joblist.specs.Grammar.{comma, lineEnd, field}
+use Rattle.joblist.specs.Decimals.{mostNumber}
 use Rattle.joblist.specs.Import.{exactly, item, nameItem, gradeItem, numberItem, Line, line, oneJob, namesOf, allLines, header, jobText, listOf, ImportEffect, importedFrom, imported}
 use Rattle.joblist.specs.Export.{fieldText, gradeText, lineText, linesText, listText}
 use Rattle.joblist.proofs.LineLoop.{lines-over, lines-step}

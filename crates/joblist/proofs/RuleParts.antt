@@ -3,12 +3,12 @@ use mathlib.Core.Path.{_≡_}
 use mathlib.Core.Bool.{true, not, _&&_}
 use Prim.Native.Nat.{ℕ, _≤_, _<_, _^_}
 use native.Mathlib.Omega.{arith}
-use borrow.Author.Tests.{leb-true, ltb-true}
-use lib.Dec.{leb, ltb}
+use borrow.Author.Tests.{leb-true}
+use lib.Dec.{leb}
 use Rattle.base.specs.Below.{every}
 use Rattle.base.proofs.Logic.{both}
 use Rattle.base.proofs.Below.{every-at}
-use Rattle.plan.specs.Edition.{mostJobs, mostDeadline, mostSize}
+use Rattle.plan.specs.Edition.{mostJobs, mostSize}
 use Rattle.plan.specs.Rules.{jobIn, countedIn, nameAllowed, sameName, gradeAllowed, windowAllowed, sizeAllowed, countHolds, namesHold, namesDiffer, gradesHold, boundsHold, jobsHold}
 use Rattle.plan.specs.declared.kinds.JobList.{JobList}
 

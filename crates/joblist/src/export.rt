@@ -17,7 +17,7 @@ ghost use mathlib.Core.List.{[], _∷_, _++_};
 ghost use Prim.Native.Nat.{ℕ, _+_, _*_, _≤_, _<_, _^_};
 ghost use lib.ListN.{length};
 ghost use Rattle.plan.specs.Edition.{mostJobs};
-ghost use Rattle.plan.specs.Rules.{countedIn, jobIn};
+ghost use Rattle.plan.specs.Rules.{jobIn};
 ghost use Rattle.text.specs.Text.{decimal, nameText};
 ghost use Rattle.text.specs.inner.Growth.{Grown};
 ghost use Rattle.joblist.specs.Grammar.{comma, lineEnd};

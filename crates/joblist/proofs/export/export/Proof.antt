@@ -1,7 +1,6 @@
 -- `joblist::export::export` meets its contract: a list that breaks no rule is written whole, or not at all.
 use mathlib.Core.Path.{_≡_, sym}
 use mathlib.Core.Bool.{true}
-use mathlib.Core.List.{[]}
 use Prim.Native.Nat.{_≤_}
 use native.Mathlib.Omega.{arith}
 use borrow.Author.Needs.{needs}
