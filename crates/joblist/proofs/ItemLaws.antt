@@ -91,7 +91,7 @@ module _ (ends : List ℕ) (from : ℕ) (text : List ℕ) (at : ℕ) where
         rw (f .1, t) (ap (λ (x : Seen). code.Item x next) (f .2))
 
   -- The bytes of an item that was read are bytes.
-  item-small : {l : List ℕ} {next : ℕ} → item ends from text at ≡ got l next → Octets l
+  pub item-small : {l : List ℕ} {next : ℕ} → item ends from text at ≡ got l next → Octets l
   unfolding item
   item-small e =
       let t = through (standing from at (field (drop at text))) e in

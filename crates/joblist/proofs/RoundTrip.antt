@@ -6,8 +6,8 @@ use Prim.Native.Nat.{ℕ, zero, suc, _+_, _-_, _^_, _≤_, _<_}
 use native.Mathlib.Omega.{arith}
 use borrow.Author.Tests.{le-leb, leb-true, ltb-true}
 use lib.Dec.{leb, ltb}
-use lib.ListN.{length, take, drop, length-append, length-drop, length-map, List·getD-map}
-use lib.Seq.{take-suc, drop-at, length-take-le, getD-take}
+use lib.ListN.{length, take, drop, replicate, length-append, length-drop, length-map, length-replicate, List·getD-map}
+use lib.Seq.{take-suc, take-at, drop-at, length-take-le, getD-take}
 use Rattle.base.proofs.Logic.{both, below-or-last}
 use Rattle.base.proofs.Below.{every-all}
 use Rattle.base.proofs.Padding.{getD-pad}
@@ -16,7 +16,7 @@ use Rattle.plan.specs.Refusal.{wrongLine, wrongHeader}
 use Rattle.plan.specs.Rules.{jobIn, noJob, nameAllowed, isAbsent, gradeAllowed, windowAllowed, sizeAllowed, jobsHold}
 use Rattle.plan.specs.declared.kinds.Job.{Job}
 use Rattle.plan.specs.declared.kinds.JobList.{JobList}
-use Rattle.fields.specs.Parsers.{got}
+use Rattle.fields.specs.Parsers.{Parsed, got, no}
 use Rattle.fields.proofs.BytesAt.{Stands, stands-first, stands-rest, stands-as}
 use Rattle.text.specs.Text.{decimal, nameText}
 use Rattle.joblist.specs.Grammar.{comma, lineEnd, field}
@@ -24,6 +24,7 @@ use Rattle.joblist.specs.Decimals.{mostNumber}
 use Rattle.joblist.specs.Import.{exactly, item, nameItem, gradeItem, numberItem, Line, line, oneJob, namesOf, allLines, header, jobText, listOf, ImportEffect, importedFrom, imported}
 use Rattle.joblist.specs.Export.{fieldText, gradeText, lineText, linesText, listText}
 use Rattle.joblist.proofs.LineLoop.{lines-over, lines-step}
+use Rattle.joblist.proofs.Soundness.{text-taken}
 use Rattle.joblist.proofs.RuleParts.{Meets, meets}
 use Rattle.joblist.proofs.ExportLaws.{list-text}
 use Rattle.joblist.proofs.FieldBack.{printable, Ends, comma-ends, line-ends, field-back, begins-self, decimal-back, decimal-printable, number-back, name-printable, name-back, grade-back, grade-printable}
@@ -247,3 +248,19 @@ import-after-export-jobs list holds records named i h =
     let all = take (list .count) (list .jobs) in
     ap (λ (x : ImportEffect). jobIn (x .list) i) (import-after-export list holds records named)
     ∙ getD-pad all (mostJobs - length all) i noJob ∙ getD-take (list .count) (list .jobs) i noJob h
+
+-- What the import takes, written by the export, is taken again and gives the same list.
+pub export-after-import : (text : List ℕ) → imported text .answer ≡ [] → imported (listText (imported text .list)) ≡ imported text
+unfolding imported
+export-after-import text e = by (jobText text 0) refl e
+  where
+    by : (s : Parsed (List Job)) → jobText text 0 ≡ s → importedFrom s .answer ≡ [] → importedFrom (jobText (listText (importedFrom s .list)) 0) ≡ importedFrom s
+    by (got jobs next) h e =
+        let t = text-taken text h in
+        let list = listOf jobs in
+        let pad = replicate (mostJobs - length jobs) noJob in
+        let records : length (list .jobs) ≡ mostJobs
+        = length-append jobs pad ∙ omega (arith, t .few, length-replicate {A = Job} (mostJobs - length jobs) noJob) in
+        import-after-export list (t .holds) records (λ i b. rw (getD-pad jobs (mostJobs - length jobs) i noJob) (t .eight i b))
+        ∙ ap (λ l. record { answer = []; list = listOf l }) (take-at jobs pad (length jobs) refl)
+    by (no k) h e = absurd (let z : _≡_ {A = ℕ} 0 1 = cc in omega arith)

@@ -1,10 +1,10 @@
--- What the import takes meets rules 5 to 9.
+-- What the import takes meets rules 5 to 9, and is a list as the code has it: all records, and names of eight bytes.
 use mathlib.Core.Path.{_≡_, refl, sym, _∙_, ap}
 use mathlib.Core.Bool.{Bool, true, false, not, cond, _&&_}
 use mathlib.Core.List.{List, [], _∷_, _++_}
-use Prim.Native.Nat.{ℕ, zero, suc, _+_, _-_, _≤_, _<_}
+use Prim.Native.Nat.{ℕ, zero, suc, _+_, _-_, _^_, _≤_, _<_}
 use native.Mathlib.Omega.{arith}
-use borrow.Author.Tests.{leb-true, le-leb}
+use borrow.Author.Tests.{leb-true, le-leb, eqb-true}
 use lib.Dec.{leb, eqb}
 use lib.ListN.{length, getD, List·getD-append, List·getD-map, length-map}
 use lib.Seq.{getD-at}
@@ -12,13 +12,16 @@ use Rattle.base.proofs.Below.{every-at, every-all}
 use Rattle.base.proofs.Logic.{below-or-last}
 use Rattle.base.proofs.Padding.{getD-pad}
 use Rattle.plan.specs.Kinds.{Bytes}
-use Rattle.plan.specs.Edition.{mostJobs}
-use Rattle.plan.specs.Refusal.{wrongJobCount, wrongNameByte, nameTaken, wrongGrade, wrongJobBounds, wrongHeader}
+use Rattle.plan.specs.Edition.{nameBytes, mostJobs}
+use Rattle.plan.specs.Refusal.{wrongJobCount, wrongNameByte, nameTaken, wrongGrade, wrongJobBounds, wrongLine, wrongHeader}
 use Rattle.plan.specs.Rules.{nameAllowed, isAbsent, gradeAllowed, windowAllowed, sizeAllowed, sameName, noJob, namesHold, namesDiffer, gradesHold, boundsHold, jobsHold}
 use Rattle.plan.specs.declared.kinds.Job.{Job}
 use Rattle.fields.specs.Parsers.{Parsed, got, no, Parser, onward}
+use Rattle.fields.proofs.ByteLaws.{value-below}
 use Rattle.fields.proofs.ParserLaws.{through, past, same-value}
-use Rattle.joblist.specs.Import.{exactly, line, oneJob, namesOf, allLines, header, jobText, listOf, importedFrom, imported}
+use Rattle.joblist.specs.Grammar.{comma, lineEnd}
+use Rattle.joblist.specs.Import.{exactly, item, nameItem, gradeItem, numberItem, Line, line, oneJob, namesOf, allLines, header, jobText, listOf, importedFrom, imported}
+use Rattle.joblist.proofs.ItemLaws.{item-small}
 use Rattle.joblist.proofs.LineLoop.{length-snoc}
 
 -- The job at an index.
@@ -35,9 +38,30 @@ record Passes (earlier : List ℕ) (j : Job) : Type 0 where
   absent : isAbsent earlier (j .name .0) ≡ true
   graded : gradeAllowed (j .grade) ≡ true
   bounded : inBounds j ≡ true
+  eight : j .name .0 < 256 ^ 8
 
 passes-as : {earlier : List ℕ} {j k : Job} → Passes earlier j → j ≡ k → Passes earlier k
 passes-as p e = rw e at p
+
+-- A name that is read has eight bytes.
+name-eight : (from : ℕ) (text : List ℕ) (at : ℕ) {x next : ℕ} → nameItem from text at ≡ got x next → x < 256 ^ 8
+unfolding nameItem
+name-eight from text at e =
+    let t = through (item (comma ∷ []) from text at) e in
+    let p = past (eqb (length (t .value)) nameBytes) wrongLine from text (t .next) (t .on) in
+    let below = value-below (t .value) (item-small (comma ∷ []) from text at (t .is)) in
+    let long : length (t .value) ≡ 8 = eqb-true (length (t .value)) nameBytes (p .is) in
+    rw (sym (same-value (p .on))) (rw long at below)
+
+line-eight : (text : List ℕ) (at : ℕ) {l : Line} {next : ℕ} → line text at ≡ got l next → l .name < 256 ^ 8
+unfolding line
+line-eight text at e =
+    let t₁ = through (nameItem at text at) e in
+    let t₂ = through (gradeItem at text (t₁ .next)) (t₁ .on) in
+    let t₃ = through (numberItem (comma ∷ []) at text (t₂ .next)) (t₂ .on) in
+    let t₄ = through (numberItem (comma ∷ []) at text (t₃ .next)) (t₃ .on) in
+    let t₅ = through (numberItem lineEnd at text (t₄ .next)) (t₄ .on) in
+    rw (ap (λ (l : Line). l .name) (sym (same-value (t₅ .on)))) (name-eight at text at (t₁ .is))
 
 job-passes : (earlier text : List ℕ) (at : ℕ) {j : Job} {next : ℕ} → oneJob earlier text at ≡ got j next → Passes earlier j
 unfolding oneJob
@@ -48,7 +72,7 @@ job-passes earlier text at e =
     let t₂ = past (isAbsent earlier (l .name)) nameTaken at text (t .next) (t₁ .on) in
     let t₃ = past (gradeAllowed (l .grade)) wrongGrade (l .gradeAt) text (t .next) (t₂ .on) in
     let t₄ = past (windowAllowed (l .release) (l .deadline) && sizeAllowed (l .size)) wrongJobBounds (l .releaseAt) text (t .next) (t₃ .on) in
-    passes-as (record { allowed = t₁ .is; absent = t₂ .is; graded = t₃ .is; bounded = t₄ .is }) (same-value (t₄ .on))
+    passes-as (record { allowed = t₁ .is; absent = t₂ .is; graded = t₃ .is; bounded = t₄ .is; eight = line-eight text at (t .is) }) (same-value (t₄ .on))
 
 -- All jobs of a list pass rules 6 to 9.
 record Fine (jobs : List Job) : Type 0 where
@@ -56,6 +80,7 @@ record Fine (jobs : List Job) : Type 0 where
   apart : (i : ℕ) → i < length jobs → (k : ℕ) → k < i → not (sameName (jobAt jobs k .name .0) (jobAt jobs i .name .0)) ≡ true
   graded : (i : ℕ) → i < length jobs → gradeAllowed (jobAt jobs i .grade) ≡ true
   bounded : (i : ℕ) → i < length jobs → inBounds (jobAt jobs i) ≡ true
+  eight : (i : ℕ) → i < length jobs → jobAt jobs i .name .0 < 256 ^ 8
 
 fine-none : Fine []
 fine-none =
@@ -64,6 +89,7 @@ fine-none =
       apart = λ i h k l. absurd (omega arith);
       graded = λ i h. absurd (omega arith);
       bounded = λ i h. absurd (omega arith);
+      eight = λ i h. absurd (omega arith);
     }
 
 -- One job more.
@@ -97,6 +123,9 @@ module _ (jobs : List Job) (j : Job) where
             (λ e. rw (back i e, front k m) (new-name (p .absent) k m));
         graded = on-all (λ x. gradeAllowed (x .grade)) (so .graded) (p .graded);
         bounded = on-all inBounds (so .bounded) (p .bounded);
+        eight = λ i h.
+            below-or-last i (length jobs) (rw length-snoc at h)
+            (λ b. rw (front i b) (so .eight i b)) (λ e. rw (back i e) (p .eight));
       }
 
 -- Lines that are read keep all jobs fine, and there is room for them.
@@ -146,14 +175,25 @@ module _ (jobs : List Job) (so : Fine jobs) (some : 1 ≤ length jobs) (few : le
   fine-holds =
       rw (le-leb 1 (length jobs) some, le-leb (length jobs) mostJobs few, names-hold, names-differ, grades-hold, bounds-hold) refl
 
-text-holds : (text : List ℕ) {jobs : List Job} {next : ℕ} → jobText text 0 ≡ got jobs next → jobsHold (listOf jobs) ≡ true
+-- What a text that is read gives.
+pub record Taken (jobs : List Job) : Type 0 where
+  pub holds : jobsHold (listOf jobs) ≡ true
+  pub few : length jobs ≤ mostJobs
+  pub eight : (i : ℕ) → i < length jobs → getD jobs i noJob .name .0 < 256 ^ 8
+
+taken-as : {jobs all : List Job} → Taken jobs → jobs ≡ all → Taken all
+taken-as t e = rw e at t
+
+pub text-taken : (text : List ℕ) {jobs : List Job} {next : ℕ} → jobText text 0 ≡ got jobs next → Taken jobs
 unfolding jobText
-text-holds text e =
+text-taken text e =
     let t₁ = through (exactly header wrongHeader 0 text 0) e in
     let t₂ = through (allLines mostJobs [] text (t₁ .next)) (t₁ .on) in
     let t₃ = past (leb 1 (length (t₂ .value))) wrongJobCount (t₂ .next) text (t₂ .next) (t₂ .on) in
     let f = lines-fine mostJobs [] text (t₁ .next) (t₂ .value) (t₂ .next) (t₂ .is) fine-none in
-    rw (same-value (t₃ .on)) at (fine-holds (t₂ .value) (f .0) (leb-true 1 (length (t₂ .value)) (t₃ .is)) (omega (arith, f .1)))
+    let few : length (t₂ .value) ≤ mostJobs = omega (arith, f .1) in
+    taken-as (record { holds = fine-holds (t₂ .value) (f .0) (leb-true 1 (length (t₂ .value)) (t₃ .is)) few; few = few; eight = f .0 .eight })
+    (same-value (t₃ .on))
 
 -- An import with an empty report has read jobs that meet rules 5 to 9.
 pub import-holds : (text : Bytes) → imported text .answer ≡ [] → jobsHold (imported text .list) ≡ true
@@ -161,5 +201,5 @@ unfolding imported
 import-holds text e = by (jobText text 0) refl e
   where
     by : (s : Parsed (List Job)) → jobText text 0 ≡ s → importedFrom s .answer ≡ [] → jobsHold (importedFrom s .list) ≡ true
-    by (got jobs next) h e = text-holds text h
+    by (got jobs next) h e = text-taken text h .holds
     by (no k) h e = absurd (let z : _≡_ {A = ℕ} 0 1 = cc in omega arith)
