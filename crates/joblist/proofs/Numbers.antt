@@ -16,7 +16,7 @@ use Rattle.plan.specs.declared.kinds.JobList.{JobList}
 use Rattle.fields.specs.Parsers.{Parsed, got, no, Parser, onward, test}
 use Rattle.joblist.specs.Grammar.{comma, lineEnd, Found, found, broken, field, begins}
 use Rattle.joblist.specs.Decimals.{isDecimal}
-use Rattle.joblist.specs.Import.{exactly, standing, item, nameItem, gradeItem, numberItem, line, oneJob, namesOf, allLines, header, jobText, importedFrom, imported}
+use Rattle.joblist.specs.Import.{exactly, standing, item, nameItem, gradeItem, numberItem, line, oneJob, namesOf, allLines, header, jobText, listOf, importedFrom, imported}
 use Rattle.joblist.specs.Export.{wrote, refused, listText, ExportEffect, withheld, exported}
 
 -- Whether a number is in a list.
@@ -149,3 +149,30 @@ export-numbers list out number e = by (not (jobsHold list)) (ltb (length out) (l
     by true b e = let n : number ≡ unsound = cc in rw n refl
     by false true e = let n : number ≡ bufferTooShort = cc in rw n refl
     by false false e = absurd (let z : _≡_ {A = ℕ} 0 1 = cc in omega arith)
+
+-- A refused export leaves the output as it was.
+pub export-refused-leaves : (list : JobList) (out : Bytes) (number : ℕ) → exported list out .answer ≡ refused number → exported list out .out ≡ out
+unfolding exported
+export-refused-leaves list out number e = by (not (jobsHold list)) (ltb (length out) (length (listText list))) e
+  where
+    by : (a b : Bool)
+        → cond {A = ExportEffect} a (withheld unsound out)
+        (cond b (withheld bufferTooShort out)
+        (record { answer = wrote (length (listText list)); out = listText list ++ drop (length (listText list)) out })) .answer
+        ≡ refused number
+        → cond {A = ExportEffect} a (withheld unsound out)
+        (cond b (withheld bufferTooShort out)
+        (record { answer = wrote (length (listText list)); out = listText list ++ drop (length (listText list)) out })) .out
+        ≡ out
+    by true b e = refl
+    by false true e = refl
+    by false false e = absurd (let z : _≡_ {A = ℕ} 0 1 = cc in omega arith)
+
+-- A refused import yields no jobs.
+pub import-refused-yields-none : (bytes : Bytes) (number : ℕ) (rest : Report) → imported bytes .answer ≡ number ∷ rest → imported bytes .list ≡ listOf []
+unfolding imported
+import-refused-yields-none bytes number rest e = by (jobText bytes 0) e
+  where
+    by : (s : Parsed (List Job)) → importedFrom s .answer ≡ number ∷ rest → importedFrom s .list ≡ listOf []
+    by (got jobs next) e = absurd (let z : _≡_ {A = ℕ} 0 1 = cc in omega arith)
+    by (no k) e = refl

@@ -1,6 +1,6 @@
 -- Importing the text that the export writes gives the list's jobs.
 use mathlib.Core.Path.{_≡_, refl, sym, _∙_, ap}
-use mathlib.Core.Bool.{true}
+use mathlib.Core.Bool.{Bool, true, false, not, cond}
 use mathlib.Core.List.{List, [], _∷_, _++_, append-assoc, append-nil}
 use Prim.Native.Nat.{ℕ, zero, suc, _+_, _-_, _^_, _≤_, _<_}
 use native.Mathlib.Omega.{arith}
@@ -12,7 +12,7 @@ use Rattle.base.proofs.Logic.{both, below-or-last}
 use Rattle.base.proofs.Below.{every-all}
 use Rattle.base.proofs.Padding.{getD-pad}
 use Rattle.plan.specs.Edition.{mostJobs, mostDeadline, mostSize}
-use Rattle.plan.specs.Refusal.{wrongLine, wrongHeader}
+use Rattle.plan.specs.Refusal.{unsound, bufferTooShort, wrongLine, wrongHeader}
 use Rattle.plan.specs.Rules.{jobIn, noJob, nameAllowed, isAbsent, gradeAllowed, windowAllowed, sizeAllowed, jobsHold}
 use Rattle.plan.specs.declared.kinds.Job.{Job}
 use Rattle.plan.specs.declared.kinds.JobList.{JobList}
@@ -22,7 +22,7 @@ use Rattle.text.specs.Text.{decimal, nameText}
 use Rattle.joblist.specs.Grammar.{comma, lineEnd, field}
 use Rattle.joblist.specs.Decimals.{mostNumber}
 use Rattle.joblist.specs.Import.{exactly, item, nameItem, gradeItem, numberItem, Line, line, oneJob, namesOf, allLines, header, jobText, listOf, ImportEffect, importedFrom, imported}
-use Rattle.joblist.specs.Export.{fieldText, gradeText, lineText, linesText, listText}
+use Rattle.joblist.specs.Export.{fieldText, gradeText, lineText, linesText, listText, ExportEffect, wrote, withheld, exported}
 use Rattle.joblist.proofs.LineLoop.{lines-over, lines-step}
 use Rattle.joblist.proofs.Soundness.{text-taken}
 use Rattle.joblist.proofs.RuleParts.{Meets, meets}
@@ -225,7 +225,8 @@ module _ (list : JobList) (m : Meets list) (records : length (list .jobs) ≡ mo
         le-leb 1 (length all) (omega (arith, long, m .some)),
       ) refl
 
--- A list that meets rules 5 to 9, with all its records and names of eight bytes, is read back as it was written.
+-- The text of a list that meets rules 5 to 9 is read back: the list's count and its counted jobs; records
+-- from the count on are zero. Every list of the code has all its records and names of eight bytes.
 pub import-after-export : (list : JobList) → jobsHold list ≡ true → length (list .jobs) ≡ mostJobs
     → ((i : ℕ) → i < list .count → jobIn list i .name .0 < 256 ^ 8)
     → _≡_ {A = ImportEffect} (imported (listText list)) (record { answer = []; list = listOf (take (list .count) (list .jobs)) })
@@ -249,10 +250,34 @@ import-after-export-jobs list holds records named i h =
     ap (λ (x : ImportEffect). jobIn (x .list) i) (import-after-export list holds records named)
     ∙ getD-pad all (mostJobs - length all) i noJob ∙ getD-take (list .count) (list .jobs) i noJob h
 
--- What the import takes, written by the export, is taken again and gives the same list.
-pub export-after-import : (text : List ℕ) → imported text .answer ≡ [] → imported (listText (imported text .list)) ≡ imported text
+-- The export, by the results of its two tests.
+abbrev exportedBy : (bad short : Bool) (bytes out : List ℕ) → ExportEffect
+exportedBy bad short bytes out =
+    cond bad (withheld unsound out)
+    (cond short (withheld bufferTooShort out) (record { answer = wrote (length bytes); out = bytes ++ drop (length bytes) out }))
+
+-- What the export leaves in its output is imported: the same count, and the same counted jobs.
+pub exported-and-imported : (list : JobList) (out : List ℕ) (n : ℕ) → length (list .jobs) ≡ mostJobs
+    → ((i : ℕ) → i < list .count → jobIn list i .name .0 < 256 ^ 8) → exported list out .answer ≡ wrote n
+    → _≡_ {A = ImportEffect} (imported (take n (exported list out .out))) (record { answer = []; list = listOf (take (list .count) (list .jobs)) })
+unfolding exported
+exported-and-imported list out n records named e =
+    by (jobsHold list) refl (ltb (length out) (length (listText list))) e
+  where
+    by : (holds : Bool) → jobsHold list ≡ holds → (short : Bool)
+        → exportedBy (not holds) short (listText list) out .answer ≡ wrote n
+        → _≡_ {A = ImportEffect} (imported (take n (exportedBy (not holds) short (listText list) out .out))) (record { answer = []; list = listOf (take (list .count) (list .jobs)) })
+    by true h false e =
+        let long : length (listText list) ≡ n = cc in
+        ap imported (take-at (listText list) (drop (length (listText list)) out) n long)
+        ∙ import-after-export list h records named
+    by true h true e = absurd (let z : _≡_ {A = ℕ} 0 1 = cc in omega arith)
+    by false h short e = absurd (let z : _≡_ {A = ℕ} 0 1 = cc in omega arith)
+
+-- What the import takes, written as text, is taken again and gives the same list.
+pub import-again : (text : List ℕ) → imported text .answer ≡ [] → imported (listText (imported text .list)) ≡ imported text
 unfolding imported
-export-after-import text e = by (jobText text 0) refl e
+import-again text e = by (jobText text 0) refl e
   where
     by : (s : Parsed (List Job)) → jobText text 0 ≡ s → importedFrom s .answer ≡ [] → importedFrom (jobText (listText (importedFrom s .list)) 0) ≡ importedFrom s
     by (got jobs next) h e =

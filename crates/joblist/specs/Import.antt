@@ -1,18 +1,18 @@
 -- Reading a job list: its header, then a line for each job. Each refusal says at which offset.
-use mathlib.Core.Bool.{Bool, true, false, cond, _&&_, _||_}
+use mathlib.Core.Bool.{Bool, cond, _&&_}
 use mathlib.Core.List.{List, [], _∷_, _++_, map}
 use Prim.Native.Nat.{ℕ, zero, suc, _+_, _-_}
 use lib.Dec.{leb, eqb}
 use lib.ListN.{length, drop, replicate}
 use Rattle.plan.specs.Kinds.{Bytes, Number, Offset}
 use Rattle.plan.specs.Edition.{nameBytes, mostJobs}
-use Rattle.plan.specs.Refusal.{Refusal, refusalAt, wrongJobCount, wrongNameByte, nameTaken, wrongGrade, wrongJobBounds, wrongLine, wrongHeader}
+use Rattle.plan.specs.Refusal.{refusalAt, wrongJobCount, wrongNameByte, nameTaken, wrongGrade, wrongJobBounds, wrongLine, wrongHeader}
 use Rattle.plan.specs.Report.{Report}
 use Rattle.plan.specs.Rules.{lo, hi, nameAllowed, isAbsent, gradeAllowed, windowAllowed, sizeAllowed, noJob}
 use Rattle.plan.specs.declared.kinds.Job.{Job}
 use Rattle.plan.specs.declared.kinds.JobList.{JobList}
 use Rattle.fields.specs.Bytes.{value}
-use Rattle.fields.specs.Parsers.{Parsed, got, no, Parser, _>>=_, _>>_, done, here, fileLength, test}
+use Rattle.fields.specs.Parsers.{Parsed, got, no, Parser, _>>=_, _>>_, done, here, test}
 use Rattle.text.specs.Text.{text}
 use Rattle.joblist.specs.Grammar.{comma, lineEnd, Found, found, broken, field, begins}
 use Rattle.joblist.specs.Decimals.{isDecimal, numberIn}

@@ -34,7 +34,7 @@ const LONGEST_LINE: usize = LONGEST_NAME + 2 + 3 * (1 + MOST_DIGITS) + 2;
 // The number of bytes of the header.
 const HEADER_BYTES: usize = 34;
 
-// The greatest length of a job list.
+// No job list is longer.
 const LONGEST_TEXT: usize = HEADER_BYTES + Edition::MOST_JOBS * LONGEST_LINE;
 
 // The text's length, or the refusal number.

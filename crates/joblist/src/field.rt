@@ -17,7 +17,8 @@ const CARRIAGE_RETURN: u8 = 13;
 
 const LINE_FEED: u8 = 10;
 
-// A longer field is as wrong for every use as one of this length.
+// Lengths from this one on are not told apart: a name has eight bytes, a grade one and a number at least
+// one, so nothing asks for more.
 const LONGEST: usize = Edition::NAME_BYTES + 1;
 
 // A greater number is as wrong for every use as this one.

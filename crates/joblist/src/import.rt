@@ -101,6 +101,7 @@ fn refused(refusal: Refusal) -> Imported
     }
 }
 
+// Reads a job list: the header, then a line for each job. A text that is refused gives no jobs.
 pub fn import(text: &[u8]) -> Imported
     ensures { λ r. ⌜ Imports (now (text .entry)) r ⌝ }
 {

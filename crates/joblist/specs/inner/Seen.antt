@@ -12,7 +12,8 @@ use Rattle.joblist.specs.declared.field.FieldRead.the-variants as field
 use Rattle.joblist.specs.Grammar.{Found, found, broken}
 use Rattle.joblist.specs.Decimals.{isDigit, mostNumber}
 
--- The lengths of fields are told apart up to this one: no use of a field allows a longer one than a name.
+-- The lengths of fields are told apart up to this one: a name has eight bytes, a grade one and a number at
+-- least one, so nothing asks for more.
 abbrev pub longest : ℕ
 longest = nameBytes + 1
 
