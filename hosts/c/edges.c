@@ -1,6 +1,7 @@
-/* What gateway.h says at the edges: buffers of length 0 that are NULL, offsets of files that end early, speeds above 16 bits, answers in
- * words. It prints each sentence that does not hold; the exit status is then 1. */
+/* What gateway.h says at the edges: buffers of length 0 that are NULL, offsets of files and texts that end early, a job list inside a plan,
+ * speeds above 16 bits, answers in words. It prints each sentence that does not hold; the exit status is then 1. */
 #include <stdio.h>
+#include <string.h>
 
 #include "gateway.h"
 
@@ -10,6 +11,10 @@ static uint32_t table[GATEWAY_TABLE_PLACES];
 static uint32_t run[GATEWAY_RUN_WORDS];
 static uint32_t grants[GATEWAY_MOST_JOBS];
 static uint64_t location[GATEWAY_LOCATION_WORDS];
+static uint64_t list[GATEWAY_LIST_WORDS];
+static const char header[] = "name,grade,release,size,deadline\r\n";
+static const char line[] = "mirror-A,H,0,1,1\r\n";
+static uint8_t text[sizeof header + sizeof line - 2];
 static int failed;
 
 static void expect(int holds, const char *sentence)
@@ -25,7 +30,7 @@ static void too_short(uint32_t answer, const char *call)
     expect(answer == GATEWAY_BUFFER_TOO_SHORT, call);
 }
 
-/* One essential job of one unit, allotted: 21 is no ground to refuse it. */
+/* One essential job of one unit, allotted: 21 is no ground to refuse it. The text is that of its job. */
 static void make_plan(void)
 {
     plan[GATEWAY_INDEX_NORMAL_RATE] = 2;
@@ -37,6 +42,8 @@ static void make_plan(void)
     plan[GATEWAY_INDEX_JOB_SIZE(0)] = 1;
     plan[GATEWAY_INDEX_JOB_DEADLINE(0)] = 1;
     table[GATEWAY_INDEX_ALLOTMENT(0, 0)] = 1;
+    memcpy(text, header, sizeof header - 1);
+    memcpy(text + sizeof header - 1, line, sizeof line - 1);
 }
 
 static void reading_of_nothing(void)
@@ -107,13 +114,51 @@ static void slots_of_nothing(void)
     too_short(gateway_outcome(plan, GATEWAY_PLAN_WORDS, NULL, 0, 0), "outcome: no run");
 }
 
+static void importing_of_nothing(void)
+{
+    size_t offset = 1;
+    too_short(gateway_import(text, sizeof text, NULL, 0, &offset), "import: no list");
+    expect(offset == 1, "import: too few words for a list leave the offset");
+    expect(gateway_import(NULL, 0, list, GATEWAY_LIST_WORDS, &offset) == GATEWAY_WRONG_HEADER, "import: an empty text is refused by 24");
+    expect(offset == 0, "import: an empty text is wrong at its beginning");
+    expect(gateway_import(text, sizeof header - 1, list, GATEWAY_LIST_WORDS, &offset) == GATEWAY_WRONG_JOB_COUNT, "import: no line is refused by 5");
+    expect(offset == sizeof header - 1, "import: a line that is missing would begin at the end");
+    expect(gateway_import(text, sizeof text - 1, list, GATEWAY_LIST_WORDS, &offset) == GATEWAY_WRONG_LINE, "import: a line that is cut is refused by 23");
+    expect(offset == sizeof header - 1, "import: a line that is cut is wrong at its beginning");
+}
+
+static void exporting_of_nothing(void)
+{
+    size_t written = 1;
+    too_short(gateway_export(NULL, 0, out, GATEWAY_LONGEST_LIST, &written), "export: no list");
+    expect(written == 1, "export: too few words for a list leave the length");
+    too_short(gateway_export(plan + GATEWAY_INDEX_JOB_COUNT, GATEWAY_LIST_WORDS, NULL, 0, &written), "export: no room");
+    expect(written == 0, "export: a refused list has no text");
+    expect(gateway_export(list, GATEWAY_LIST_WORDS, NULL, 0, &written) == GATEWAY_UNSOUND, "export: a list without jobs is refused by 21, room or not");
+}
+
+/* The list is the part of the plan from its count on: imported to there, the jobs are the plan's, and its rates stay. */
+static void list_inside_a_plan(void)
+{
+    size_t offset = 1, written = 0;
+    uint64_t before[GATEWAY_PLAN_WORDS];
+    expect(GATEWAY_INDEX_JOB_COUNT + GATEWAY_LIST_WORDS == GATEWAY_PLAN_WORDS, "list: it goes up to the plan's end");
+    expect(gateway_export(plan + GATEWAY_INDEX_JOB_COUNT, GATEWAY_LIST_WORDS, out, sizeof text, &written) == GATEWAY_DONE, "export: just enough room");
+    expect(written == sizeof text && memcmp(out, text, sizeof text) == 0, "export: the text of the plan's job");
+    memcpy(before, plan, sizeof plan);
+    memset(plan + GATEWAY_INDEX_JOB_COUNT, 0xFF, sizeof list);
+    expect(gateway_import(text, sizeof text, plan + GATEWAY_INDEX_JOB_COUNT, GATEWAY_LIST_WORDS, &offset) == GATEWAY_DONE, "import: the text is taken");
+    expect(offset == 0, "import: a text that is taken has no offset");
+    expect(memcmp(plan, before, sizeof plan) == 0, "import: the plan is what it was");
+}
+
 static void speeds_and_words(void)
 {
     expect(gateway_speed(0, plan) == 0 && gateway_speed(1, plan) == 1 && gateway_speed(2, plan) == 2, "speed: up to the normal rate as measured");
     expect(gateway_speed(3, plan) == 2 && gateway_speed(UINT64_C(65537), plan) == 2, "speed: the normal rate if more is measured");
     plan[GATEWAY_INDEX_NORMAL_RATE] = UINT64_MAX;
     expect(gateway_speed(UINT64_MAX, plan) == UINT16_MAX, "speed: at most 65,535 whatever the plan says");
-    expect(gateway_words(GATEWAY_BUFFER_TOO_SHORT + 1) == gateway_words(GATEWAY_OPEN + 1), "words: a number that is no answer");
+    expect(gateway_words(GATEWAY_WRONG_HEADER + 1) == gateway_words(GATEWAY_OPEN + 1), "words: a number that is no answer");
 }
 
 int main(void)
@@ -127,6 +172,9 @@ int main(void)
     writing_of_nothing();
     judging_of_nothing();
     slots_of_nothing();
+    importing_of_nothing();
+    exporting_of_nothing();
+    list_inside_a_plan();
     speeds_and_words();
     return failed;
 }

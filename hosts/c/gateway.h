@@ -1,14 +1,15 @@
-/* For hosts in C and C++: plan files, judging and slots, on memory that the host lends.
+/* For hosts in C and C++: plan files, judging, slots and job lists, on memory that the host lends.
  *
- * Every call answers a number: 0 when it is done, a refusal's number from 1 to 22 (enum gateway_refusal), or a number from 256 on for the
+ * Every call answers a number: 0 when it is done, a refusal's number from 1 to 24 (enum gateway_refusal), or a number from 256 on for the
  * results that are named below. Every buffer is a pointer and then its length, counted in elements. What a call is not said to change stays.
  *
- * No call relies on checks by the host: every content of the lent memory means exactly one plan or run, or is refused by 21. What no call
- * can check is the host's part: each pointer is valid for its length and aligned, buffers that are written overlap no other, and a single
- * number's pointer is valid. A call keeps no pointer and has no state of its own, so calls on different memory may run at the same time.
+ * No call relies on checks by the host: every content of the lent memory means exactly one plan, run or job list, or is refused by 21. What
+ * no call can check is the host's part: each pointer is valid for its length and aligned, buffers that are written overlap no other, and a
+ * single number's pointer is valid. A call keeps no pointer and has no state of its own, so calls on different memory may run at the same
+ * time.
  *
- * A buffer of length 0 may be NULL: nothing is read or written through it. An empty file is refused by 1, and any other empty buffer is too
- * short (22; gateway_name answers 0). A single number's pointer (offset, written, slack) is never NULL.
+ * A buffer of length 0 may be NULL: nothing is read or written through it. An empty file is refused by 1, an empty text of a job list by 24,
+ * and any other empty buffer is too short (22; gateway_name answers 0). A single number's pointer (offset, written, slack) is never NULL.
  *
  * A name that begins GATEWAY_INDEX_ is an index into a buffer and never the value there: run[GATEWAY_INDEX_CLOCK] is the clock. */
 #ifndef GATEWAY_H
@@ -26,6 +27,8 @@ extern "C" {
 #define GATEWAY_MOST_INTERVALS 63
 /* The largest plan file, in bytes. */
 #define GATEWAY_LARGEST_FILE 30956
+/* No text of a job list is longer, in bytes: neither one that gateway_export writes nor one that gateway_import takes. */
+#define GATEWAY_LONGEST_LIST 1794
 /* The bytes of a job's name. */
 #define GATEWAY_NAME_BYTES 8
 
@@ -44,6 +47,11 @@ extern "C" {
 #define GATEWAY_INDEX_JOB_RELEASE(i) (GATEWAY_INDEX_JOB_NAME(i) + 2)
 #define GATEWAY_INDEX_JOB_SIZE(i) (GATEWAY_INDEX_JOB_NAME(i) + 3)
 #define GATEWAY_INDEX_JOB_DEADLINE(i) (GATEWAY_INDEX_JOB_NAME(i) + 4)
+
+/* A job list lives in 161 words of 64 bits: the job count, then for each of 32 jobs its five words as in a plan. So the words of a plan from
+ * GATEWAY_INDEX_JOB_COUNT on are the list of its jobs, and a host may lend that part of a plan: plan + GATEWAY_INDEX_JOB_COUNT. What is said of
+ * a plan's words that are too large, and of jobs from the count on, holds for a list's. */
+#define GATEWAY_LIST_WORDS (1 + GATEWAY_JOB_WORDS * GATEWAY_MOST_JOBS)
 
 /* The table is made of words of 32 bits, one for each job and interval: job i's units in interval j are at this index. */
 #define GATEWAY_TABLE_PLACES (GATEWAY_MOST_JOBS * GATEWAY_MOST_INTERVALS)
@@ -85,7 +93,9 @@ enum gateway_refusal {
     GATEWAY_CLOCK_AT_END = 19,
     GATEWAY_SPEED_ABOVE_NORMAL = 20,
     GATEWAY_UNSOUND = 21,
-    GATEWAY_BUFFER_TOO_SHORT = 22
+    GATEWAY_BUFFER_TOO_SHORT = 22,
+    GATEWAY_WRONG_LINE = 23,
+    GATEWAY_WRONG_HEADER = 24
 };
 
 /* Results that are no refusals. */
@@ -145,6 +155,22 @@ uint32_t gateway_step(const uint64_t *plan, size_t plan_length, const uint32_t *
  * In: plan, run and the job's position. Answers GATEWAY_MET, GATEWAY_DISCARDED, GATEWAY_MISSED, GATEWAY_OPEN, 22 or 21. No buffer is changed. */
 uint32_t gateway_outcome(const uint64_t *plan, size_t plan_length, const uint32_t *run, size_t run_length, size_t position);
 
+/* Reads a job list as text: comma-separated lines by RFC 4180, after the header name,grade,release,size,deadline.
+ * In: the text's bytes. Out: the list, and *offset, which says where a refused text is wrong. Answers 0 or 5 to 9 or 22 to 24.
+ * 0: every word of the list is written, those of jobs from the count on are 0, and *offset is 0.
+ * 5 to 9, 23, 24: the list's words are all 0. *offset is counted from the text's first byte: 24 the text itself, so 0; 5 the line that is one
+ *   too many, or the text's length if there is no line; 23 the line that is wrong; 6 and 7 the name's field; 8 the grade's; 9 the release's, be
+ *   it release, size or deadline that is wrong. A field in quotes begins with its quote. It is never more than text_length.
+ * 22 (list under GATEWAY_LIST_WORDS): nothing is touched, *offset neither.
+ * Words beyond are not touched, ever. */
+uint32_t gateway_import(const uint8_t *text, size_t text_length, uint64_t *list, size_t list_length, size_t *offset);
+
+/* Writes the text of a job list. gateway_import takes it, and gives the same jobs in the same order.
+ * In: the list. Out: the text's bytes in out, and their number in *written. Answers 0, 21 or 22.
+ * 22 (list under GATEWAY_LIST_WORDS): nothing is touched. 21 (the list breaks a rule from 5 to 9), and then 22 (out shorter than the text):
+ * *written is 0 and out stays. GATEWAY_LONGEST_LIST bytes are always enough. Bytes past the text stay. */
+uint32_t gateway_export(const uint64_t *list, size_t list_length, uint8_t *out, size_t out_length, size_t *written);
+
 /* The calls end here. What follows is the header's own, and the archive does not have it. */
 
 /* The speed to step with if the link will carry `measured` whole units in the slot: that number, but no more than the plan's normal rate. A
@@ -181,11 +207,13 @@ static inline const char *gateway_words(uint32_t answer)
         "the floor cannot carry what is essential in time",
         "the run is over",
         "the speed is more than the normal rate",
-        "the plan or the run is not sound",
-        "a lent buffer has too few elements"
+        "the plan, the run or the job list is not sound",
+        "a lent buffer has too few elements",
+        "a line of the job list is not well formed",
+        "the job list does not begin with its header"
     };
     static const char *const results[] = { "no job is essential", "met", "discarded", "missed", "open" };
-    if (answer <= GATEWAY_BUFFER_TOO_SHORT)
+    if (answer <= GATEWAY_WRONG_HEADER)
         return refusals[answer];
     if (answer >= GATEWAY_NONE_ESSENTIAL && answer <= GATEWAY_OPEN)
         return results[answer - GATEWAY_NONE_ESSENTIAL];

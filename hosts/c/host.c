@@ -2,15 +2,20 @@
  * a refused file is wrong it says on standard error.
  * With --check it reads a plan file alone, and says what the plan asks, whether it is accepted, how much slack it has, whether it is written
  * again as the same file, and how each transfer of an accepted plan ends at the floor. Then the exit status is 0 for an accepted plan and 1
- * for any other. With --refusals it prints what each refusal says. */
+ * for any other.
+ * With --import it reads a job list as text, and says which jobs it has and whether they are exported as the same text. Then the exit status is
+ * 0 for a text that is taken and 1 for any other. With --refusals it prints what each refusal says. */
 #include <stdio.h>
+#include <stdlib.h>
 #include <string.h>
 
 #include "gateway.h"
 
 #define OPENING_BYTES 5
+#define FIRST_ROOM 4096
 
 static uint8_t file[GATEWAY_LARGEST_FILE];
+static uint8_t *text;
 static uint8_t again[GATEWAY_LARGEST_FILE];
 static uint64_t plan[GATEWAY_PLAN_WORDS];
 static uint32_t table[GATEWAY_TABLE_PLACES];
@@ -95,12 +100,18 @@ static int night(void)
     return 0;
 }
 
-static void print_plan(size_t file_length)
+/* The first byte of a name is the highest of its word. */
+static void print_name_word(uint64_t name)
 {
-    printf("rates: normal %u, floor %u\n", (unsigned)plan[GATEWAY_INDEX_NORMAL_RATE], (unsigned)plan[GATEWAY_INDEX_FLOOR]);
+    for (int i = GATEWAY_NAME_BYTES - 1; i >= 0; i--)
+        putchar((int)(name >> 8 * i & 0xFF));
+}
+
+static void print_jobs(void)
+{
     for (size_t i = 0; i < plan[GATEWAY_INDEX_JOB_COUNT]; i++) {
         printf("job %u: ", (unsigned)i);
-        print_name(file_length, i);
+        print_name_word(plan[GATEWAY_INDEX_JOB_NAME(i)]);
         printf(" %s, release %u, size %u, deadline %u\n", plan[GATEWAY_INDEX_JOB_GRADE(i)] ? "HI" : "LO", (unsigned)plan[GATEWAY_INDEX_JOB_RELEASE(i)],
             (unsigned)plan[GATEWAY_INDEX_JOB_SIZE(i)], (unsigned)plan[GATEWAY_INDEX_JOB_DEADLINE(i)]);
     }
@@ -155,15 +166,20 @@ static void print_floor_night(size_t file_length)
     print_outcomes(file_length);
 }
 
+static int print_refused(uint32_t refused)
+{
+    printf("refused %u: %s (byte %zu)\n", (unsigned)refused, gateway_words(refused), offset);
+    return 1;
+}
+
 static int check(void)
 {
     size_t length = read_file();
     uint32_t refused = gateway_read(file, length, plan, GATEWAY_PLAN_WORDS, table, GATEWAY_TABLE_PLACES, &offset);
-    if (refused != GATEWAY_DONE) {
-        printf("refused %u: %s (byte %u)\n", (unsigned)refused, gateway_words(refused), (unsigned)offset);
-        return 1;
-    }
-    print_plan(length);
+    if (refused != GATEWAY_DONE)
+        return print_refused(refused);
+    printf("rates: normal %u, floor %u\n", (unsigned)plan[GATEWAY_INDEX_NORMAL_RATE], (unsigned)plan[GATEWAY_INDEX_FLOOR]);
+    print_jobs();
     refused = gateway_judge(plan, GATEWAY_PLAN_WORDS, table, GATEWAY_TABLE_PLACES, location, GATEWAY_LOCATION_WORDS);
     print_verdict(refused);
     print_slack();
@@ -174,9 +190,40 @@ static int check(void)
     return 0;
 }
 
+/* All of standard input. Also a text that is longer than any list's is refused for what stands in it, and never cut. */
+static size_t read_text(void)
+{
+    size_t length = 0, room = 0;
+    do {
+        room = 2 * room + FIRST_ROOM;
+        text = realloc(text, room);
+        if (!text) {
+            fputs("host-c: there is too little memory for the job list\n", stderr);
+            exit(2);
+        }
+        length += fread(text + length, 1, room - length, stdin);
+    } while (length == room);
+    return length;
+}
+
+/* The jobs go where a plan has them: a plan's words from the count on are the list of its jobs. */
+static int import(void)
+{
+    size_t length = read_text(), written;
+    uint64_t *list = plan + GATEWAY_INDEX_JOB_COUNT;
+    uint32_t refused = gateway_import(text, length, list, GATEWAY_LIST_WORDS, &offset);
+    if (refused != GATEWAY_DONE)
+        return print_refused(refused);
+    print_jobs();
+    refused = gateway_export(list, GATEWAY_LIST_WORDS, again, GATEWAY_LONGEST_LIST, &written);
+    int same = refused == GATEWAY_DONE && written == length && memcmp(text, again, length) == 0;
+    printf("exported again: %s %u bytes\n", same ? "the same" : "other", (unsigned)written);
+    return 0;
+}
+
 static int print_refusals(void)
 {
-    for (uint32_t number = GATEWAY_WRONG_VERSION; number <= GATEWAY_BUFFER_TOO_SHORT; number++)
+    for (uint32_t number = GATEWAY_WRONG_VERSION; number <= GATEWAY_WRONG_HEADER; number++)
         printf("%u %s\n", (unsigned)number, gateway_words(number));
     return 0;
 }
@@ -187,8 +234,10 @@ int main(int count, char **words)
         return night();
     if (count == 2 && strcmp(words[1], "--check") == 0)
         return check();
+    if (count == 2 && strcmp(words[1], "--import") == 0)
+        return import();
     if (count == 2 && strcmp(words[1], "--refusals") == 0)
         return print_refusals();
-    fputs("usage: host-c < PLAN-AND-SPEEDS\n       host-c --check < PLAN\n       host-c --refusals\n", stderr);
+    fputs("usage: host-c < PLAN-AND-SPEEDS\n       host-c --check < PLAN\n       host-c --import < JOBS\n       host-c --refusals\n", stderr);
     return 2;
 }

@@ -1,7 +1,8 @@
-//! A safe wrapper over `libgateway.a`, without dependencies: plan files, judging and slots.
+//! A safe wrapper over `libgateway.a`, without dependencies: plan files, judging, slots and job lists.
 //!
 //! A [`Plan`] and a [`Run`] own the memory that the library works on. Every refusal is a [`Refusal`] with its number, its location or its offset
-//! in the file, and its words. Plans and runs can be stored and sent as the words that the library keeps them in.
+//! in the file or text, and its words. Plans and runs can be stored and sent as the words that the library keeps them in, and jobs as
+//! comma-separated text.
 
 /// The bare calls, for a host that lends memory of its own.
 pub mod calls;
@@ -13,6 +14,8 @@ use calls::*;
 
 pub const MOST_INTERVALS: usize = 63;
 pub const LARGEST_FILE: usize = 30_956;
+/// No text of a job list is longer, in bytes: neither one that is exported nor one that is taken.
+pub const LONGEST_LIST: usize = 1_794;
 pub const NAME_BYTES: usize = 8;
 
 pub const TABLE_PLACES: usize = MOST_JOBS * MOST_INTERVALS;
@@ -25,7 +28,7 @@ pub mod index {
     pub const CARRIED: usize = super::calls::MARK_WORDS;
 }
 
-// Where a plan's words say what.
+// Where a plan's words say what. From the count on they are the list of its jobs.
 const NORMAL_RATE: usize = 0;
 const FLOOR: usize = 1;
 const JOB_COUNT: usize = 2;
@@ -61,6 +64,8 @@ pub mod refusal {
     pub const SPEED_ABOVE_NORMAL: u8 = 20;
     pub const UNSOUND: u8 = 21;
     pub const BUFFER_TOO_SHORT: u8 = 22;
+    pub const WRONG_LINE: u8 = 23;
+    pub const WRONG_HEADER: u8 = 24;
 
     /// What a refusal's number says, as `gateway_words` of `gateway.h` says it.
     pub fn words(number: u8) -> &'static str {
@@ -85,8 +90,10 @@ pub mod refusal {
             BELOW_FLOOR_RULE => "the floor cannot carry what is essential in time",
             CLOCK_AT_END => "the run is over",
             SPEED_ABOVE_NORMAL => "the speed is more than the normal rate",
-            UNSOUND => "the plan or the run is not sound",
+            UNSOUND => "the plan, the run or the job list is not sound",
             BUFFER_TOO_SHORT => "a lent buffer has too few elements",
+            WRONG_LINE => "a line of the job list is not well formed",
+            WRONG_HEADER => "the job list does not begin with its header",
             _ => "the library gives no such number",
         }
     }
@@ -102,7 +109,7 @@ pub enum Location {
     IntervalAndDeadline(usize, u32),
 }
 
-/// A refusal: its number, the location that it names, and the offset at which a plan file is wrong.
+/// A refusal: its number, the location that it names, and the offset at which a plan file or the text of a job list is wrong.
 #[derive(Clone, Copy, Debug, PartialEq, Eq)]
 pub struct Refusal {
     number: u8,
@@ -134,6 +141,11 @@ impl Refusal {
         Refusal { number, location: Location::Nowhere, offset: has_offset.then_some(offset) }
     }
 
+    /// The import's refusal of a text; it comes with an offset, since enough words are lent.
+    fn of_text(number: u32, offset: usize) -> Refusal {
+        Refusal { number: number as u8, location: Location::Nowhere, offset: Some(offset) }
+    }
+
     pub fn number(&self) -> u8 {
         self.number
     }
@@ -142,8 +154,8 @@ impl Refusal {
         self.location
     }
 
-    /// Where a plan file is wrong, counted from its first byte: the first byte of the field in hand, as `gateway.h` says it for each number.
-    /// Every refusal from 1 to 14 of [`Plan::read`] has it, and no other.
+    /// Where a plan file or a text is wrong, counted from its first byte: the first byte of the field in hand, or of the line, as `gateway.h`
+    /// says it for each number. Every refusal of [`Plan::read`] and of [`import_jobs`] has it, and no other.
     pub fn offset(&self) -> Option<usize> {
         self.offset
     }
@@ -191,7 +203,8 @@ pub struct Job {
 impl Job {
     /// The name as text. Bytes that no name may have are escaped.
     pub fn name_text(&self) -> String {
-        self.name.escape_ascii().to_string()
+        let shown = |&byte: &u8| if byte.is_ascii_graphic() { char::from(byte).to_string() } else { byte.escape_ascii().to_string() };
+        self.name.iter().map(shown).collect()
     }
 
     fn to_words(self) -> [u64; JOB_WORDS] {
@@ -268,10 +281,7 @@ impl Plan {
         let mut plan = Plan { words: [0; PLAN_WORDS], table: [0; TABLE_PLACES] };
         plan.words[NORMAL_RATE] = normal_rate.into();
         plan.words[FLOOR] = floor.into();
-        plan.words[JOB_COUNT] = jobs.len() as u64;
-        for (job, words) in jobs.iter().zip(plan.words[HEAD_WORDS..].chunks_exact_mut(JOB_WORDS)) {
-            words.copy_from_slice(&job.to_words());
-        }
+        put_jobs(&mut plan.words[JOB_COUNT..], jobs);
         Ok(plan)
     }
 
@@ -376,7 +386,7 @@ impl Plan {
     }
 
     fn job_words(&self) -> impl Iterator<Item = &[u64]> {
-        self.words[HEAD_WORDS..].chunks_exact(JOB_WORDS).take(self.job_count())
+        job_words(&self.words[JOB_COUNT..])
     }
 
     /// The allotment of a job in an interval; none where the table has no such place.
@@ -416,6 +426,41 @@ pub fn name(file: &[u8], position: usize) -> Option<&[u8]> {
     // SAFETY: the pointer is valid for the length beside it.
     let at = unsafe { gateway_name(file.as_ptr(), file.len(), position) };
     if at == 0 { None } else { file.get(at..at + NAME_BYTES) }
+}
+
+/// The words of each counted job in a list's words.
+fn job_words(list: &[u64]) -> impl Iterator<Item = &[u64]> {
+    list[1..].chunks_exact(JOB_WORDS).take(list[0] as usize)
+}
+
+/// Puts the count and the jobs, as many as there is room for, into a list's words.
+fn put_jobs(list: &mut [u64], jobs: &[Job]) {
+    list[0] = jobs.len() as u64;
+    for (job, words) in jobs.iter().zip(list[1..].chunks_exact_mut(JOB_WORDS)) {
+        words.copy_from_slice(&job.to_words());
+    }
+}
+
+/// The jobs of a job list's comma-separated text, in the order of its lines. A refusal has its [`offset`](Refusal::offset).
+pub fn import_jobs(text: &[u8]) -> Result<Vec<Job>, Refusal> {
+    let mut list = [0; LIST_WORDS];
+    let mut offset = 0;
+    // SAFETY: each pointer is valid for the length beside it; list and offset are fresh.
+    let number = unsafe { gateway_import(text.as_ptr(), text.len(), list.as_mut_ptr(), LIST_WORDS, &mut offset) };
+    if number == DONE { Ok(job_words(&list).filter_map(Job::from_words).collect()) } else { Err(Refusal::of_text(number, offset)) }
+}
+
+/// The comma-separated text of a job list, which [`import_jobs`] takes. Jobs that break a rule from 5 to 9 are refused by 21, as are none and
+/// more than [`MOST_JOBS`].
+pub fn export_jobs(jobs: &[Job]) -> Result<Vec<u8>, Refusal> {
+    let mut list = [0; LIST_WORDS];
+    put_jobs(&mut list, jobs);
+    let mut out = vec![0; LONGEST_LIST];
+    let mut written = 0;
+    // SAFETY: each pointer is valid for the length beside it; out and written are fresh.
+    let number = unsafe { gateway_export(list.as_ptr(), LIST_WORDS, out.as_mut_ptr(), out.len(), &mut written) };
+    out.truncate(written);
+    done(number).map(|()| out)
 }
 
 /// A run of a plan.

@@ -2,9 +2,11 @@
 //! Where a refused file is wrong it says on standard error.
 //! With `--check` it reads a plan file alone, and says what the plan asks, whether it is accepted, how much slack it has, whether it is
 //! written again as the same file, and how each transfer of an accepted plan ends at the floor. Then the exit status is 0 for an accepted
-//! plan and 1 for any other. With `--refusals` it prints what each refusal says.
+//! plan and 1 for any other.
+//! With `--import` it reads a job list as text, and says which jobs it has and whether they are exported as the same text. Then the exit status
+//! is 0 for a text that is taken and 1 for any other. With `--refusals` it prints what each refusal says.
 
-use gateway::{refusal, Grade, Plan, Refusal, Run, LARGEST_FILE};
+use gateway::{refusal, Grade, Job, Plan, Refusal, Run, LARGEST_FILE};
 use std::io::{self, Read, Write};
 use std::process::ExitCode;
 
@@ -81,9 +83,8 @@ fn write_outcomes(file: &[u8], run: &Run, plan: &Plan, out: &mut impl Write) -> 
     Ok(())
 }
 
-fn write_plan(plan: &Plan, out: &mut impl Write) -> io::Result<()> {
-    writeln!(out, "rates: normal {}, floor {}", plan.normal_rate(), plan.floor())?;
-    for (i, job) in plan.jobs().enumerate() {
+fn write_jobs(jobs: impl Iterator<Item = Job>, out: &mut impl Write) -> io::Result<()> {
+    for (i, job) in jobs.enumerate() {
         let grade = if job.grade == Grade::Hi { "HI" } else { "LO" };
         writeln!(out, "job {i}: {} {grade}, release {}, size {}, deadline {}", job.name_text(), job.release, job.size, job.deadline)?;
     }
@@ -115,7 +116,8 @@ fn check(file: &[u8], out: &mut impl Write) -> io::Result<bool> {
         Ok(plan) => plan,
         Err(refusal) => return writeln!(out, "{refusal}").map(|()| false),
     };
-    write_plan(&plan, out)?;
+    writeln!(out, "rates: normal {}, floor {}", plan.normal_rate(), plan.floor())?;
+    write_jobs(plan.jobs(), out)?;
     match plan.judge() {
         Ok(()) => writeln!(out, "accepted")?,
         Err(refusal) => writeln!(out, "{refusal}")?,
@@ -132,29 +134,46 @@ fn check(file: &[u8], out: &mut impl Write) -> io::Result<bool> {
     Ok(true)
 }
 
+fn import(text: &[u8], out: &mut impl Write) -> io::Result<bool> {
+    let jobs = match gateway::import_jobs(text) {
+        Ok(jobs) => jobs,
+        Err(refusal) => return writeln!(out, "{refusal}").map(|()| false),
+    };
+    write_jobs(jobs.iter().copied(), out)?;
+    let again = gateway::export_jobs(&jobs).unwrap_or_default();
+    writeln!(out, "exported again: {} {} bytes", if again == text { "the same" } else { "other" }, again.len())?;
+    Ok(true)
+}
+
 fn write_refusals(out: &mut impl Write) -> io::Result<()> {
-    (refusal::WRONG_VERSION..=refusal::BUFFER_TOO_SHORT).try_for_each(|number| writeln!(out, "{number} {}", refusal::words(number)))
+    (refusal::WRONG_VERSION..=refusal::WRONG_HEADER).try_for_each(|number| writeln!(out, "{number} {}", refusal::words(number)))
+}
+
+fn read_input() -> io::Result<Vec<u8>> {
+    let mut input = Vec::new();
+    io::stdin().read_to_end(&mut input)?;
+    Ok(input)
 }
 
 fn main() -> io::Result<ExitCode> {
     let words: Vec<String> = std::env::args().skip(1).collect();
     let mut out = io::stdout().lock();
-    let checks = match words.iter().map(String::as_str).collect::<Vec<_>>()[..] {
-        [] => false,
-        ["--check"] => true,
-        ["--refusals"] => return write_refusals(&mut out).map(|()| ExitCode::SUCCESS),
+    let is_fine = match words.iter().map(String::as_str).collect::<Vec<_>>()[..] {
+        [] => {
+            let input = read_input()?;
+            let (file, speeds) = input.split_at(file_length(&input));
+            night(file, speeds, &mut out).map(|()| true)?
+        }
+        ["--check"] => {
+            let input = read_input()?;
+            check(&input[..file_length(&input)], &mut out)?
+        }
+        ["--import"] => import(&read_input()?, &mut out)?,
+        ["--refusals"] => write_refusals(&mut out).map(|()| true)?,
         _ => {
-            eprintln!("usage: host-rust < PLAN-AND-SPEEDS\n       host-rust --check < PLAN\n       host-rust --refusals");
+            eprintln!("usage: host-rust < PLAN-AND-SPEEDS\n       host-rust --check < PLAN\n       host-rust --import < JOBS\n       host-rust --refusals");
             return Ok(ExitCode::from(2));
         }
     };
-    let mut input = Vec::new();
-    io::stdin().read_to_end(&mut input)?;
-    let (file, speeds) = input.split_at(file_length(&input));
-    if checks {
-        let is_accepted = check(file, &mut out)?;
-        return Ok(ExitCode::from(u8::from(!is_accepted)));
-    }
-    night(file, speeds, &mut out)?;
-    Ok(ExitCode::SUCCESS)
+    Ok(ExitCode::from(u8::from(!is_fine)))
 }

@@ -3,3 +3,4 @@ pub mod ParserLaws
 pub mod OpeningLaws
 pub mod BytesAt
 pub mod RoundTripLaws
+pub mod Only

@@ -21,7 +21,7 @@ use Rattle.plan.specs.Columns.{Columns, columnValues, inColumn}
 use Rattle.plan.specs.declared.kinds.Job.{Job}
 use Rattle.dispatch.specs.Step.{slotSound}
 use Rattle.dispatch.specs.declared.Run.{Run}
-use Rattle.hostmemory.specs.Memory.{planWords, shortPlan, jobStart, jobAt, jobsTo, planIn, planOf, outlineOf, gradeWord, releaseWord, sizeWord, deadlineWord, gradeValues, jobFits, wordsFit}
+use Rattle.hostmemory.specs.Memory.{headWords, planWords, shortPlan, jobIndex, jobStart, jobAt, jobsTo, planIn, planOf, outlineOf, gradeWord, releaseWord, sizeWord, deadlineWord, gradeValues, jobFits, wordsFit}
 use Rattle.hostmemory.specs.Answers.{columnIn, ReadsColumns}
 
 -- The tests so far (a, b) and those of one job (g, r, s, d), regrouped so that the job's stand together.
@@ -47,18 +47,18 @@ fits-next w i grades others e =
     ∙ regroup (ltb grades gradeValues) (ltb others columnValues) (ltb (gradeWord w i) gradeValues) (ltb r columnValues) (ltb s columnValues) (ltb d columnValues)
     ∙ every-next (jobFits w) i e refl
 
--- The first n jobs that words encode are n jobs, and job i is the one whose words begin at `jobStart i`.
-jobs-count : (w : List ℕ) (n : ℕ) → length (jobsTo w n) ≡ n
+-- The first n jobs that words encode are n jobs, and job i is the one whose words begin at its index.
+jobs-count : (w : List ℕ) (from n : ℕ) → length (jobsTo w from n) ≡ n
 unfolding jobsTo
-jobs-count w zero = refl
-jobs-count w (suc n) = omega (arith, length-append (jobsTo w n) (jobAt w (jobStart n) ∷ []), jobs-count w n)
+jobs-count w from zero = refl
+jobs-count w from (suc n) = omega (arith, length-append (jobsTo w from n) (jobAt w (jobIndex from n) ∷ []), jobs-count w from n)
 
-job-read : (w : List ℕ) (n i : ℕ) → i < n → getD (jobsTo w n) i noJob ≡ jobAt w (jobStart i)
+job-read : (w : List ℕ) (from n i : ℕ) → i < n → getD (jobsTo w from n) i noJob ≡ jobAt w (jobIndex from i)
 unfolding jobsTo
-job-read w (suc n) i h =
+job-read w from (suc n) i h =
     below-or-last i n h
-    (λ l. List·getD-append (jobsTo w n) (jobAt w (jobStart n) ∷ []) noJob i (omega (arith, jobs-count w n)) ∙ job-read w n i l)
-    (λ q. rw q (getD-at (jobsTo w n) (jobAt w (jobStart n)) [] noJob n (jobs-count w n)))
+    (λ l. List·getD-append (jobsTo w from n) (jobAt w (jobIndex from n) ∷ []) noJob i (omega (arith, jobs-count w from n)) ∙ job-read w from n i l)
+    (λ q. rw q (getD-at (jobsTo w from n) (jobAt w (jobIndex from n)) [] noJob n (jobs-count w from n)))
 
 -- A counted job of the plan that words encode.
 pub job-of-words : (w : List ℕ) (i : ℕ) → i < counted (planOf w) → jobOf (planOf w) i ≡ jobAt w (jobStart i)
@@ -67,7 +67,7 @@ job-of-words w i h = go (shortPlan w) h
   where
     go : (t : Bool) → i < counted (cond t noPlan (planIn w)) → jobOf (cond t noPlan (planIn w)) i ≡ jobAt w (jobStart i)
     go true h = absurd (omega arith)
-    go false h = job-read w mostJobs i (omega arith)
+    go false h = job-read w headWords mostJobs i (omega arith)
 
 -- The number of counted jobs of the plan that words encode, for too few words and for enough.
 pub counted-short : (w : List ℕ) → length w < planWords → counted (planOf w) ≡ 0

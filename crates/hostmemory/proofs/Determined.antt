@@ -4,12 +4,13 @@ use mathlib.Core.Path.{_≡_, refl, sym, _∙_}
 use mathlib.Core.Bool.{Bool}
 use mathlib.Core.List.{List}
 use Prim.Native.Nat.{ℕ}
+use Rattle.plan.specs.declared.kinds.JobList.{JobList}
 use Rattle.plan.specs.declared.kinds.Plan.{Plan}
 use Rattle.dispatch.specs.Answers.{runAt}
 use Rattle.dispatch.specs.declared.Moment.{Moment}
 use Rattle.dispatch.specs.declared.Run.{Run}
-use Rattle.hostmemory.specs.Memory.{planPut, gradeWord, releaseWord, sizeWord, deadlineWord, wordsFit, runPut}
-use Rattle.hostmemory.specs.Answers.{PutsPlan, PutsRun, PutsParts, columnIn, ReadsColumns}
+use Rattle.hostmemory.specs.Memory.{listPut, planPut, gradeWord, releaseWord, sizeWord, deadlineWord, wordsFit, runPut}
+use Rattle.hostmemory.specs.Answers.{PutsList, PutsPlan, PutsRun, PutsParts, columnIn, ReadsColumns}
 
 -- `hostmemory::plans::put_plan`.
 pub one-plan-put : (words : List ℕ) (p : Plan) (left other : List ℕ) → PutsPlan words p left → PutsPlan words p other → left ≡ other
@@ -17,6 +18,13 @@ one-plan-put words p left other d e = d ∙ sym e
 
 pub some-plan-put : (words : List ℕ) (p : Plan) → (left : List ℕ) × PutsPlan words p left
 some-plan-put words p = (planPut words p, refl)
+
+-- `hostmemory::lists::put_list`.
+pub one-list-put : (words : List ℕ) (list : JobList) (left other : List ℕ) → PutsList words list left → PutsList words list other → left ≡ other
+one-list-put words list left other d e = d ∙ sym e
+
+pub some-list-put : (words : List ℕ) (list : JobList) → (left : List ℕ) × PutsList words list left
+some-list-put words list = (listPut words list, refl)
 
 -- `hostmemory::runs::put_run`.
 pub one-run-put : (words : List ℕ) (run : Run) (left other : List ℕ) → PutsRun words run left → PutsRun words run other → left ≡ other

@@ -1,25 +1,26 @@
--- Round trips: decoding the words of a run or a plan gives it back, and encoding a decoded run
--- gives back words whose marks are 0 or 1.
+-- Round trips: decoding the words of a run, a plan or a job list gives it back, and encoding a decoded run
+-- gives back words whose marks are 0 or 1. The words of a plan from its job count on encode the list of its jobs.
 use mathlib.Core.Path.{_≡_, refl, sym, _∙_, ap}
 use mathlib.Core.Bool.{Bool, true, false, cond}
 use mathlib.Core.List.{List, [], _∷_, _++_, append-assoc}
 use Prim.Native.Nat.{ℕ, zero, suc, _+_, _*_, _≤_, _<_, min}
 use native.Mathlib.Nat.{add-zero}
 use native.Mathlib.Omega.{arith}
-use borrow.Author.Tests.{leb-true, ltb-true, ltb-false, le-ltb}
+use borrow.Author.Tests.{leb-true, ltb-true, ltb-false, lt-ltb, le-ltb}
 use lib.Dec.{leb, ltb, eqb}
 use lib.ListN.{length, getD, take, drop, take-append-drop, List·getD-append}
 use lib.Seq.{sets, length-sets, take-at, take-suc, take-all, length-take-le, getD-append-add}
 use Rattle.plan.specs.Edition.{mostJobs}
-use Rattle.plan.specs.Rules.{jobOf, noJob}
+use Rattle.plan.specs.Rules.{jobsOf, noJob}
+use Rattle.plan.specs.declared.kinds.Job.{Job}
+use Rattle.plan.specs.declared.kinds.JobList.{JobList}
 use Rattle.plan.specs.declared.kinds.Plan.{Plan}
 use Rattle.base.proofs.Logic.{both}
 use Rattle.base.proofs.Stores.{sets-whole}
 use Rattle.dispatch.specs.declared.Run.{Run}
 use Rattle.dispatch.specs.Step.{noRun}
-use Rattle.hostmemory.specs.Memory.{headWords, jobWords, planWords, runWords, most8, most16, most32, jobStart, jobAt, jobsTo, shortRun, planIn, planOf, jobOut, jobsOut, planOut, planPut, marksIn, marksHold, runIn, runOf, markOut, runOut, runPut}
+use Rattle.hostmemory.specs.Memory.{rateWords, countWords, headWords, jobWords, listWords, planWords, runWords, most8, most16, most32, jobIndex, jobAt, jobsTo, shortRun, listIn, listHeld, planIn, planOf, jobOut, jobsOut, listOut, listPut, planOut, planPut, marksIn, marksHold, runIn, runOf, markOut, runOut, runPut, JobsFit, Fits}
 use Rattle.hostmemory.proofs.Writes.{jobs-long}
-use Rattle.hostmemory.specs.Memory.{Fits}
 
 -- A mark is recovered from its word, and a word that is 0 or 1 from its mark.
 mark-back : (b : Bool) → eqb (markOut b) 1 ≡ b
@@ -67,61 +68,62 @@ run-again w m = go (shortRun w) refl m
     go false e m = run-whole-again w m (ltb-false (length w) runWords e)
 
 -- The words of n + 1 jobs are those of the first n, followed by those of job n.
-jobs-split : (p : Plan) (n : ℕ) (rest : List ℕ) → jobsOut p (suc n) ++ rest ≡ jobsOut p n ++ (jobOut (jobOf p n) ++ rest)
+jobs-split : (jobs : List Job) (n : ℕ) (rest : List ℕ) → jobsOut jobs (suc n) ++ rest ≡ jobsOut jobs n ++ (jobOut (getD jobs n noJob) ++ rest)
 unfolding jobsOut
-jobs-split p n rest = append-assoc (jobsOut p n) (jobOut (jobOf p n)) rest
+jobs-split jobs n rest = append-assoc (jobsOut jobs n) (jobOut (getD jobs n noJob)) rest
 
 -- The words of job i among those of n + 1 jobs, given the same for n.
-word-next : (p : Plan) (n i k : ℕ) (rest : List ℕ)
-    → (i < n → getD (jobsOut p n ++ (jobOut (jobOf p n) ++ rest)) (jobWords * i + k) 0 ≡ getD (jobOut (jobOf p i)) k 0) → i < suc n → k < jobWords
-    → getD (jobsOut p (suc n) ++ rest) (jobWords * i + k) 0 ≡ getD (jobOut (jobOf p i)) k 0
-word-next p n i k rest before h f = go (ltb i n) refl
+word-next : (jobs : List Job) (n i k : ℕ) (rest : List ℕ)
+    → (i < n → getD (jobsOut jobs n ++ (jobOut (getD jobs n noJob) ++ rest)) (jobWords * i + k) 0 ≡ getD (jobOut (getD jobs i noJob)) k 0) → i < suc n
+    → k < jobWords → getD (jobsOut jobs (suc n) ++ rest) (jobWords * i + k) 0 ≡ getD (jobOut (getD jobs i noJob)) k 0
+word-next jobs n i k rest before h f = go (ltb i n) refl
   where
-    go : (t : Bool) → ltb i n ≡ t → getD (jobsOut p (suc n) ++ rest) (jobWords * i + k) 0 ≡ getD (jobOut (jobOf p i)) k 0
-    go true e = rw (jobs-split p n rest) (before (ltb-true i n e))
+    go : (t : Bool) → ltb i n ≡ t → getD (jobsOut jobs (suc n) ++ rest) (jobWords * i + k) 0 ≡ getD (jobOut (getD jobs i noJob)) k 0
+    go true e = rw (jobs-split jobs n rest) (before (ltb-true i n e))
     go false e =
         let same : i ≡ n = omega (arith, ltb-false i n e) in
-        ap (λ j. getD (jobsOut p (suc n) ++ rest) (jobWords * j + k) 0) same ∙ ap (λ l. getD l (jobWords * n + k) 0) (jobs-split p n rest)
-        ∙ (rw (jobs-long p n) at (getD-append-add (jobsOut p n) (jobOut (jobOf p n) ++ rest) k 0))
-        ∙ List·getD-append (jobOut (jobOf p n)) rest 0 k f
-        ∙ ap (λ j. getD (jobOut (jobOf p j)) k 0) (sym same)
+        ap (λ j. getD (jobsOut jobs (suc n) ++ rest) (jobWords * j + k) 0) same ∙ ap (λ l. getD l (jobWords * n + k) 0) (jobs-split jobs n rest)
+        ∙ (rw (jobs-long jobs n) at (getD-append-add (jobsOut jobs n) (jobOut (getD jobs n noJob) ++ rest) k 0))
+        ∙ List·getD-append (jobOut (getD jobs n noJob)) rest 0 k f
+        ∙ ap (λ j. getD (jobOut (getD jobs j noJob)) k 0) (sym same)
 
 -- Word k of job i is at index `jobWords * i + k`.
-word-of : (p : Plan) (n i k : ℕ) (rest : List ℕ) → i < n → k < jobWords
-    → getD (jobsOut p n ++ rest) (jobWords * i + k) 0 ≡ getD (jobOut (jobOf p i)) k 0
-word-of p zero i k rest h f = absurd (omega arith)
-word-of p (suc n) i k rest h f = word-next p n i k rest (λ l. word-of p n i k (jobOut (jobOf p n) ++ rest) l f) h f
+word-of : (jobs : List Job) (n i k : ℕ) (rest : List ℕ) → i < n → k < jobWords
+    → getD (jobsOut jobs n ++ rest) (jobWords * i + k) 0 ≡ getD (jobOut (getD jobs i noJob)) k 0
+word-of jobs zero i k rest h f = absurd (omega arith)
+word-of jobs (suc n) i k rest h f = word-next jobs n i k rest (λ l. word-of jobs n i k (jobOut (getD jobs n noJob) ++ rest) l f) h f
 
--- Indexing the words after the rates and the count.
-behind-head : (a b c : ℕ) (l : List ℕ) (x k : ℕ) → getD (a ∷ b ∷ c ∷ l) (headWords + x + k) 0 ≡ getD l (x + k) 0
-behind-head a b c l x k =
-    let e : headWords + x + k ≡ suc (suc (suc (x + k))) = omega arith in
-    rw e refl
-
-module _ (p : Plan) (fit : Fits p) (a b c : ℕ) (rest : List ℕ) where
+-- Decoding the words of jobs that stand after `head` gives the jobs.
+module _ (jobs : List Job) (fit : JobsFit jobs) (head rest : List ℕ) where
   abbrev words : List ℕ
-  words = a ∷ b ∷ c ∷ (jobsOut p mostJobs ++ rest)
+  words = head ++ (jobsOut jobs mostJobs ++ rest)
 
-  word-back : (i k : ℕ) → i < mostJobs → k < jobWords → getD words (jobStart i + k) 0 ≡ getD (jobOut (jobOf p i)) k 0
-  word-back i k h f = behind-head a b c (jobsOut p mostJobs ++ rest) (jobWords * i) k ∙ word-of p mostJobs i k rest h f
+  word-back : (i k : ℕ) → i < mostJobs → k < jobWords → getD words (jobIndex (length head) i + k) 0 ≡ getD (jobOut (getD jobs i noJob)) k 0
+  word-back i k h f =
+      let e : jobIndex (length head) i + k ≡ length head + (jobWords * i + k) = omega arith in
+      ap (λ x. getD words x 0) e ∙ getD-append-add head (jobsOut jobs mostJobs ++ rest) (jobWords * i + k) 0 ∙ word-of jobs mostJobs i k rest h f
 
-  job-back : (i : ℕ) → i < mostJobs → jobAt words (jobStart i) ≡ jobOf p i
+  job-back : (i : ℕ) → i < mostJobs → jobAt words (jobIndex (length head) i) ≡ getD jobs i noJob
   job-back i h =
-      let e₀ : getD words (jobStart i) 0 ≡ jobOf p i .name .0 = ap (λ at. getD words at 0) (sym (add-zero (jobStart i))) ∙ word-back i 0 h (omega arith) in
-      let m₁ : min (jobOf p i .grade) most8 ≡ jobOf p i .grade = omega (arith, fit .grade i) in
-      let m₂ : min (jobOf p i .release .0) most32 ≡ jobOf p i .release .0 = omega (arith, fit .release i) in
-      let m₄ : min (jobOf p i .deadline .0) most32 ≡ jobOf p i .deadline .0 = omega (arith, fit .deadline i) in
+      let j = getD jobs i noJob in
+      let from = jobIndex (length head) i in
+      let e₀ : getD words from 0 ≡ j .name .0 = ap (λ at. getD words at 0) (sym (add-zero from)) ∙ word-back i 0 h (omega arith) in
+      let m₁ : min (j .grade) most8 ≡ j .grade = omega (arith, fit .grade i) in
+      let m₂ : min (j .release .0) most32 ≡ j .release .0 = omega (arith, fit .release i) in
+      let m₄ : min (j .deadline .0) most32 ≡ j .deadline .0 = omega (arith, fit .deadline i) in
       let e₁ = ap (λ x. min x most8) (word-back i 1 h (omega arith)) ∙ m₁ in
       let e₂ = ap (λ x. min x most32) (word-back i 2 h (omega arith)) ∙ m₂ in
       let e₃ = word-back i 3 h (omega arith) in
       let e₄ = ap (λ x. min x most32) (word-back i 4 h (omega arith)) ∙ m₄ in
       λ t. record { name = record { 0 = e₀ t }; grade = e₁ t; release = record { 0 = e₂ t }; size = record { 0 = e₃ t }; deadline = record { 0 = e₄ t } }
 
-  jobs-back : (n : ℕ) → n ≤ mostJobs → jobsTo words n ≡ take n (p .jobs)
+  jobs-to : (n : ℕ) → n ≤ mostJobs → jobsTo words (length head) n ≡ take n jobs
   unfolding jobsTo
-  jobs-back zero h = refl
-  jobs-back (suc n) h =
-      rw (jobs-back n (omega arith), job-back n h, take-suc (p .jobs) n noJob (omega (arith, fit .all))) refl
+  jobs-to zero h = refl
+  jobs-to (suc n) h = rw (jobs-to n (omega arith), job-back n h, take-suc jobs n noJob (omega (arith, fit .all))) refl
+
+  jobs-back : jobsTo words (length head) mostJobs ≡ jobs
+  jobs-back = jobs-to mostJobs (omega arith) ∙ take-all mostJobs jobs (omega (arith, fit .all))
 
 -- Decoding the words of a plan gives that plan.
 plan-whole-back : (w : List ℕ) (p : Plan) → Fits p → planWords ≤ length w → planIn (sets w 0 (planOut p)) ≡ p
@@ -129,12 +131,47 @@ unfolding planIn planOut
 plan-whole-back w p fit h =
     let n : min (p .n .0) most16 ≡ p .n .0 = omega (arith, fit .n) in
     let d : min (p .d .0) most16 ≡ p .d .0 = omega (arith, fit .d) in
-    let out = p .n .0 ∷ p .d .0 ∷ p .count ∷ jobsOut p mostJobs in
-    let rest = drop (length out) w in
-    let jobs = jobs-back p fit (p .n .0) (p .d .0) (p .count) rest mostJobs (omega arith) ∙ take-all mostJobs (p .jobs) (omega (arith, fit .all)) in
-    rw (sets-whole out w (omega (arith, jobs-long p mostJobs)), n, d, jobs) refl
+    let out = p .n .0 ∷ p .d .0 ∷ p .count ∷ jobsOut (p .jobs) mostJobs in
+    let jobs = jobs-back (p .jobs) (fit .jobs) (p .n .0 ∷ p .d .0 ∷ p .count ∷ []) (drop (length out) w) in
+    rw (sets-whole out w (omega (arith, jobs-long (p .jobs) mostJobs)), n, d, jobs) refl
 
 pub plan-back : (w : List ℕ) (p : Plan) → Fits p → planWords ≤ length w → planOf (planPut w p) ≡ p
 unfolding planOf planPut
 plan-back w p fit h =
     rw (le-ltb (length w) planWords h, length-sets w 0 (planOut p), le-ltb (length w) planWords h) (plan-whole-back w p fit h)
+
+-- The same for a job list.
+list-whole-back : (w : List ℕ) (l : JobList) → JobsFit (l .jobs) → listWords ≤ length w → listIn (sets w 0 (listOut l)) ≡ l
+unfolding listIn
+list-whole-back w l fit h =
+    let jobs = jobs-back (l .jobs) fit (l .count ∷ []) (drop (length (listOut l)) w) in
+    rw (sets-whole (listOut l) w (omega (arith, jobs-long (l .jobs) mostJobs)), jobs) refl
+
+pub list-back : (w : List ℕ) (l : JobList) → JobsFit (l .jobs) → listWords ≤ length w → listHeld (listPut w l) ≡ l
+unfolding listHeld listPut
+list-back w l fit h =
+    rw (le-ltb (length w) listWords h, length-sets w 0 (listOut l), le-ltb (length w) listWords h) (list-whole-back w l fit h)
+
+-- A job whose words stand k words further on.
+job-further : (a b : ℕ) (w : List ℕ) (at : ℕ) → jobAt (a ∷ b ∷ w) (rateWords + at) ≡ jobAt w at
+job-further a b w at =
+    let e : (k : ℕ) → rateWords + at + k ≡ suc (suc (at + k)) = λ k. omega arith in
+    let e₀ : rateWords + at ≡ suc (suc at) = omega arith in
+    rw (e 1, e 2, e 3, e 4, e₀) refl
+
+jobs-further : (a b : ℕ) (w : List ℕ) (n : ℕ) → jobsTo (a ∷ b ∷ w) headWords n ≡ jobsTo w countWords n
+unfolding jobsTo
+jobs-further a b w zero = refl
+jobs-further a b w (suc n) =
+    let e : jobIndex headWords n ≡ rateWords + jobIndex countWords n = omega arith in
+    rw (jobs-further a b w n, e, job-further a b w (jobIndex countWords n)) refl
+
+-- The words of a plan from its job count on encode the list of its jobs.
+pub list-in-plan : (a b : ℕ) (w : List ℕ) → jobsOf (planOf (a ∷ b ∷ w)) ≡ listHeld w
+unfolding planOf planIn listHeld listIn
+list-in-plan a b w = go (ltb (length w) listWords) refl
+  where
+    go : (t : Bool) → ltb (length w) listWords ≡ t → jobsOf (planOf (a ∷ b ∷ w)) ≡ listHeld w
+    go true e = rw (lt-ltb (length (a ∷ b ∷ w)) planWords (omega (arith, ltb-true (length w) listWords e)), e) refl
+    go false e =
+        rw (le-ltb (length (a ∷ b ∷ w)) planWords (omega (arith, ltb-false (length w) listWords e)), e, jobs-further a b w mostJobs) refl

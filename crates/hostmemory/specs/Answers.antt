@@ -7,15 +7,20 @@ use Rattle.base.specs.Fill.{filled}
 use Rattle.plan.specs.Kinds.{Row, Words}
 use Rattle.plan.specs.Rules.{counted}
 use Rattle.plan.specs.Columns.{inColumn}
+use Rattle.plan.specs.declared.kinds.JobList.{JobList}
 use Rattle.plan.specs.declared.kinds.Plan.{Plan}
 use Rattle.dispatch.specs.Answers.{runAt}
 use Rattle.dispatch.specs.declared.Moment.{Moment}
 use Rattle.dispatch.specs.declared.Run.{Run}
-use Rattle.hostmemory.specs.Memory.{planOf, planPut, gradeWord, releaseWord, sizeWord, deadlineWord, wordsFit, runPut}
+use Rattle.hostmemory.specs.Memory.{planOf, listPut, planPut, gradeWord, releaseWord, sizeWord, deadlineWord, wordsFit, runPut}
 
 -- The contract of `put_plan`: the words at exit are `planPut` of those at entry.
 abbrev pub PutsPlan : (words : Words) (p : Plan) (left : List ℕ) → Type 0
 PutsPlan words p left = left ≡ planPut words p
+
+-- The contract of `put_list`: the words at exit are `listPut` of those at entry.
+abbrev pub PutsList : (words : Words) (list : JobList) (left : List ℕ) → Type 0
+PutsList words list left = left ≡ listPut words list
 
 -- The contract of `put_run`: the words at exit are `runPut` of those at entry.
 abbrev pub PutsRun : (words : Words) (run : Run) (left : List ℕ) → Type 0

@@ -1,4 +1,4 @@
--- The memory that a host lends: the plan and the run that its words encode, and the words of each.
+-- The memory that a host lends: the plan, the job list and the run that its words encode, and the words of each.
 use mathlib.Core.Bool.{Bool, false, cond, _&&_}
 use mathlib.Core.List.{List, [], _∷_, _++_}
 use Prim.Native.Nat.{ℕ, zero, suc, _+_, _*_, _^_, min}
@@ -8,29 +8,41 @@ use lib.Seq.{sets}
 use Rattle.plan.specs.Kinds.{Offset, Position, Words}
 use Rattle.plan.specs.Edition.{mostJobs}
 use Rattle.base.specs.Below.{every}
-use Rattle.plan.specs.Rules.{jobOf, counted}
+use Rattle.plan.specs.JobLists.{listOf}
+use Rattle.plan.specs.Rules.{noJob, noPlan, jobsOf, counted}
 use Rattle.plan.specs.Columns.{columnValues}
 use Rattle.plan.specs.declared.kinds.Job.{Job}
+use Rattle.plan.specs.declared.kinds.JobList.{JobList}
 use Rattle.plan.specs.declared.kinds.Outline.{Outline}
 use Rattle.plan.specs.declared.kinds.Plan.{Plan}
-use Rattle.plan.specs.Rules.{noPlan}
 use Rattle.dispatch.specs.declared.Moment.{Moment}
 use Rattle.dispatch.specs.declared.Run.{Run}
 use Rattle.dispatch.specs.Step.{noRun}
 use mathlib.Core.Path.{_≡_}
 use Prim.Native.Nat.{_≤_}
 
+-- The number of words of the rates, and of a job count.
+abbrev pub rateWords : ℕ
+rateWords = 2
+
+abbrev pub countWords : ℕ
+countWords = 1
+
 -- The number of words before a plan's jobs: both rates and the job count.
 abbrev pub headWords : ℕ
-headWords = 3
+headWords = rateWords + countWords
 
 -- The number of words of a job: name, grade, release, size and deadline.
 abbrev pub jobWords : ℕ
 jobWords = 5
 
--- The number of words of a plan.
+-- The number of words of a job list: the job count and `mostJobs` jobs.
+abbrev pub listWords : ℕ
+listWords = countWords + mostJobs * jobWords
+
+-- The number of words of a plan: both rates, and the list of its jobs.
 abbrev pub planWords : ℕ
-planWords = headWords + mostJobs * jobWords
+planWords = rateWords + listWords
 
 -- The number of words before a run's carried units: the clock and both marks.
 abbrev pub markWords : ℕ
@@ -43,6 +55,10 @@ runWords = markWords + mostJobs
 -- Whether there are too few words for a plan.
 abbrev pub shortPlan : Words → Bool
 shortPlan w = ltb (length w) planWords
+
+-- Whether there are too few words for a job list.
+abbrev pub shortList : Words → Bool
+shortList w = ltb (length w) listWords
 
 -- Whether there are too few words for a run.
 abbrev pub shortRun : Words → Bool
@@ -64,9 +80,12 @@ most16 = 65_535
 abbrev pub most32 : ℕ
 most32 = 4_294_967_295
 
--- The index at which the words of job i begin.
+-- The index at which the words of job i begin, if those of the jobs begin at `from`; and in a plan.
+abbrev pub jobIndex : (from : Offset) (i : Position) → ℕ
+jobIndex from i = from + jobWords * i
+
 abbrev pub jobStart : Position → ℕ
-jobStart i = headWords + jobWords * i
+jobStart = jobIndex headWords
 
 -- The job that the words from index `at` on encode; a word that is not there counts as 0.
 abbrev pub jobAt : (w : Words) (at : Offset) → Job
@@ -79,10 +98,18 @@ jobAt w at =
       deadline = record { 0 = min (getD w (at + 4) 0) most32 };
     }
 
--- The first n jobs that words encode.
-unfoldable pub jobsTo : (w : Words) (n : ℕ) → List Job
-jobsTo w zero = []
-jobsTo w (suc n) = jobsTo w n ++ (jobAt w (jobStart n) ∷ [])
+-- The first n jobs that the words from index `from` on encode.
+unfoldable pub jobsTo : (w : Words) (from : Offset) (n : ℕ) → List Job
+jobsTo w from zero = []
+jobsTo w from (suc n) = jobsTo w from n ++ (jobAt w (jobIndex from n) ∷ [])
+
+-- The job list that words encode, if there are enough of them.
+unfoldable pub listIn : Words → JobList
+listIn w = record { count = getD w 0 0; jobs = jobsTo w countWords mostJobs }
+
+-- The job list that words encode; too few words encode a list of no jobs.
+unfoldable pub listHeld : Words → JobList
+listHeld w = cond (shortList w) (listOf []) (listIn w)
 
 -- The plan that words encode, if there are enough of them.
 unfoldable pub planIn : Words → Plan
@@ -91,7 +118,7 @@ planIn w =
       n = record { 0 = min (getD w 0 0) most16 };
       d = record { 0 = min (getD w 1 0) most16 };
       count = getD w 2 0;
-      jobs = jobsTo w mostJobs;
+      jobs = jobsTo w headWords mostJobs;
     }
 
 -- The plan that words encode; too few words encode a plan of zeros.
@@ -138,14 +165,22 @@ wordsFit w = every (jobFits w) (counted (planOf w))
 abbrev pub jobOut : Job → List ℕ
 jobOut j = j .name .0 ∷ j .grade ∷ j .release .0 ∷ j .size .0 ∷ j .deadline .0 ∷ []
 
--- The words of a plan's first n jobs.
-unfoldable pub jobsOut : (p : Plan) (n : ℕ) → List ℕ
-jobsOut p zero = []
-jobsOut p (suc n) = jobsOut p n ++ jobOut (jobOf p n)
+-- The words of the first n of some jobs.
+unfoldable pub jobsOut : (jobs : List Job) (n : ℕ) → List ℕ
+jobsOut jobs zero = []
+jobsOut jobs (suc n) = jobsOut jobs n ++ jobOut (getD jobs n noJob)
 
--- The words of a plan: both rates, the count and `mostJobs` jobs.
+-- The words of a job list: the count and `mostJobs` jobs.
+abbrev pub listOut : JobList → Words
+listOut l = l .count ∷ jobsOut (l .jobs) mostJobs
+
+-- The words after a job list is written to them; too few words are unchanged.
+unfoldable pub listPut : (w : Words) (l : JobList) → Words
+listPut w l = cond (shortList w) w (sets w 0 (listOut l))
+
+-- The words of a plan: both rates, and the list of its jobs.
 unfoldable pub planOut : Plan → Words
-planOut p = p .n .0 ∷ p .d .0 ∷ p .count ∷ jobsOut p mostJobs
+planOut p = p .n .0 ∷ p .d .0 ∷ listOut (jobsOf p)
 
 -- The words after a plan is written to them; too few words are unchanged.
 unfoldable pub planPut : (w : Words) (p : Plan) → Words
@@ -189,12 +224,16 @@ runOut r = r .clock .0 ∷ markOut (r .slow) ∷ markOut (r .below) ∷ r .carri
 unfoldable pub runPut : (w : Words) (r : Run) → Words
 runPut w r = cond (shortRun w) w (sets w 0 (runOut r))
 
--- The rates, grades, releases and deadlines of a plan have the widths of their types, and it has
--- `mostJobs` records. Every plan of the code fits.
+-- The grades, releases and deadlines of some jobs have the widths of their types, and there are `mostJobs`
+-- records. All jobs of the code fit.
+pub record JobsFit (jobs : List Job) : Type 0 where
+  pub all : length jobs ≡ mostJobs
+  pub grade : (i : ℕ) → getD jobs i noJob .grade ≤ most8
+  pub release : (i : ℕ) → getD jobs i noJob .release .0 ≤ most32
+  pub deadline : (i : ℕ) → getD jobs i noJob .deadline .0 ≤ most32
+
+-- The rates of a plan have the widths of their types, and its jobs fit. Every plan of the code fits.
 pub record Fits (p : Plan) : Type 0 where
   pub n : p .n .0 ≤ most16
   pub d : p .d .0 ≤ most16
-  pub all : length (p .jobs) ≡ mostJobs
-  pub grade : (i : ℕ) → jobOf p i .grade ≤ most8
-  pub release : (i : ℕ) → jobOf p i .release .0 ≤ most32
-  pub deadline : (i : ℕ) → jobOf p i .deadline .0 ≤ most32
+  pub jobs : JobsFit (p .jobs)

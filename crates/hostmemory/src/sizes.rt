@@ -4,12 +4,18 @@ use plan::edition::Edition;
 pub struct Sizes();
 
 impl Sizes {
+    // Both rates.
+    pub const RATES: usize = 2;
+    // The job count.
+    pub const COUNT: usize = 1;
     // Both rates and the job count.
-    pub const HEAD: usize = 3;
+    pub const HEAD: usize = Self::RATES + Self::COUNT;
     // Name, grade, release, size and deadline.
     pub const JOB: usize = 5;
 
-    pub const PLAN: usize = Self::HEAD + Edition::MOST_JOBS * Self::JOB;
+    pub const LIST: usize = Self::COUNT + Edition::MOST_JOBS * Self::JOB;
+
+    pub const PLAN: usize = Self::RATES + Self::LIST;
     // The clock and both marks.
     pub const MARKS: usize = 3;
 

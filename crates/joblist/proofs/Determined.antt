@@ -6,7 +6,8 @@ use Rattle.plan.specs.Kinds.{Bytes}
 use Rattle.plan.specs.declared.kinds.Job.{Job}
 use Rattle.plan.specs.declared.kinds.JobList.{JobList}
 use Rattle.fields.specs.Parsers.{Parsed, got, no}
-use Rattle.joblist.specs.Import.{jobText, listOf, importedFrom, imported}
+use Rattle.plan.specs.JobLists.{listOf}
+use Rattle.joblist.specs.Import.{jobText, importedFrom, imported}
 use Rattle.joblist.specs.Export.{ExportEffect, exported}
 use Rattle.joblist.specs.Export as export
 use Rattle.joblist.specs.Answers.{importView, Imports, Exports}

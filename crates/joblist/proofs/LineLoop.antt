@@ -1,33 +1,19 @@
 -- Laws of the loop that reads the lines.
 use mathlib.Core.Path.{_≡_, refl, sym, _∙_, ap}
-use mathlib.Core.List.{List, [], _∷_, _++_, append-assoc}
+use mathlib.Core.List.{List, [], _∷_, _++_}
 use Prim.Native.Nat.{ℕ, zero, suc, _-_, _≤_, _<_}
 use native.Mathlib.Omega.{arith}
 use borrow.Author.Tests.{le-leb, lt-leb}
-use lib.ListN.{length, take, set, replicate, length-append, length-set}
-use lib.Seq.{take-suc-set, set-at}
+use lib.ListN.{length, take, set, replicate, length-set}
+use lib.Seq.{take-suc-set}
 use Rattle.plan.specs.Edition.{mostJobs}
 use Rattle.plan.specs.Refusal.{Refusal, refusalAt, wrongJobCount}
-use Rattle.plan.specs.Rules.{noJob}
 use Rattle.plan.specs.declared.kinds.Job.{Job}
 use Rattle.plan.specs.declared.kinds.JobList.{JobList}
 use Rattle.fields.specs.Parsers.{got, no}
-use Rattle.joblist.specs.Import.{namesOf, oneJob, allLines, listOf}
-
-pub length-snoc : (jobs : List Job) (j : Job) → length (jobs ++ (j ∷ [])) ≡ suc (length jobs)
-length-snoc jobs j = simp length-append (omega arith)
-
-names-snoc : (jobs : List Job) (j : Job) → namesOf (jobs ++ (j ∷ [])) ≡ namesOf jobs ++ (j .name .0 ∷ [])
-names-snoc [] j = refl
-names-snoc (x ∷ jobs) j = ap (λ l. x .name .0 ∷ l) (names-snoc jobs j)
-
--- Storing a record at index i, after i jobs, appends the job.
-room-next : (jobs : List Job) (j : Job) (i : ℕ) → length jobs ≡ i → i < mostJobs → set (listOf jobs .jobs) i j ≡ listOf (jobs ++ (j ∷ [])) .jobs
-room-next jobs j i n h =
-    let m : mostJobs - length jobs ≡ suc (mostJobs - length (jobs ++ (j ∷ []))) = rw length-snoc (omega arith) in
-    ap (λ k. set (jobs ++ replicate k noJob) i j) m
-    ∙ set-at jobs noJob (replicate (mostJobs - length (jobs ++ (j ∷ []))) noJob) j i n
-    ∙ sym (append-assoc jobs (j ∷ []) (replicate (mostJobs - length (jobs ++ (j ∷ []))) noJob))
+use Rattle.plan.specs.JobLists.{namesOf, listOf}
+use Rattle.plan.proofs.JobLists.{length-snoc, records-next, names-snoc}
+use Rattle.joblist.specs.Import.{oneJob, allLines}
 
 -- `allLines` at the end of the text, with no room left, with a line whose job is read, and with one that
 -- is refused.
@@ -97,7 +83,7 @@ module _ {text : List ℕ} {at : ℕ} {names : List ℕ} {list : JobList} {next 
             long = length-set names i (j .name .0) ∙ so .long;
             kept = take-suc-set names i (j .name .0) (omega (arith, so .long)) ∙ ap (λ l. l ++ (j .name .0 ∷ [])) (so .kept)
                 ∙ sym (names-snoc (so .jobs) j);
-            made = ap (λ l. set l i j) (so .made) ∙ room-next (so .jobs) j i (so .many) fits;
+            made = ap (λ l. set l i j) (so .made) ∙ records-next (so .jobs) j i (so .many) fits;
             left =
                 sym (lines-step (so .jobs) text next h (mostJobs - suc i) (rw (so .kept) at e))
                 ∙ ap (λ n. allLines n (so .jobs) text next) (sym (room-on fits)) ∙ so .left;

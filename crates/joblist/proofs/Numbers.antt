@@ -1,6 +1,6 @@
 -- Import and export refuse only by the numbers that the rules give them.
 use mathlib.Core.Path.{_≡_, refl}
-use mathlib.Core.Bool.{Bool, true, false, not, cond, _&&_, _||_}
+use mathlib.Core.Bool.{Bool, true, false, not, cond, _&&_}
 use mathlib.Core.List.{List, [], _∷_, _++_}
 use Prim.Native.Nat.{ℕ, zero, suc, _+_}
 use native.Mathlib.Omega.{arith}
@@ -8,127 +8,105 @@ use lib.Dec.{leb, ltb, eqb}
 use lib.ListN.{length, drop}
 use Rattle.plan.specs.Kinds.{Bytes}
 use Rattle.plan.specs.Edition.{nameBytes, mostJobs}
-use Rattle.plan.specs.Refusal.{refusalAt, wrongJobCount, wrongNameByte, nameTaken, wrongGrade, wrongJobBounds, wrongLine, wrongHeader, unsound, bufferTooShort}
-use Rattle.plan.specs.Report.{Report}
+use Rattle.plan.specs.Refusal.{wrongJobCount, wrongNameByte, nameTaken, wrongGrade, wrongJobBounds, wrongLine, wrongHeader, unsound, bufferTooShort}
+use Rattle.plan.specs.Report.{Report, isOneOf}
+use Rattle.plan.specs.JobLists.{namesOf, listOf}
 use Rattle.plan.specs.Rules.{nameAllowed, isAbsent, gradeAllowed, windowAllowed, sizeAllowed, jobsHold}
 use Rattle.plan.specs.declared.kinds.Job.{Job}
 use Rattle.plan.specs.declared.kinds.JobList.{JobList}
 use Rattle.fields.specs.Parsers.{Parsed, got, no, Parser, onward, test}
+use Rattle.fields.proofs.Only.{Only, only-onward, only-cond, only-test}
 use Rattle.joblist.specs.Grammar.{comma, lineEnd, Found, found, broken, field, begins}
 use Rattle.joblist.specs.Decimals.{isDecimal}
-use Rattle.joblist.specs.Import.{exactly, standing, item, nameItem, gradeItem, numberItem, line, oneJob, namesOf, allLines, header, jobText, listOf, importedFrom, imported}
+use Rattle.joblist.specs.Import.{exactly, standing, item, nameItem, gradeItem, numberItem, line, oneJob, allLines, header, jobText, importedFrom, imported}
 use Rattle.joblist.specs.Export.{wrote, refused, listText, ExportEffect, withheld, exported}
-
--- Whether a number is in a list.
-abbrev pub isOneOf : List ℕ → ℕ → Bool
-isOneOf [] x = false
-isOneOf (y ∷ l) x = eqb x y || isOneOf l x
 
 -- The refusals of the import: 24, 5, 23, and 6 to 9.
 abbrev pub importNumbers : List ℕ
 importNumbers = wrongHeader ∷ wrongJobCount ∷ wrongLine ∷ wrongNameByte ∷ nameTaken ∷ wrongGrade ∷ wrongJobBounds ∷ []
 
--- A parser's result is refused only by these. Composition and tests preserve this.
-abbrev Only : {A : Type 0} → Parsed A → Type 0
-Only (got a next) = Unit {0}
-Only (no k) = isOneOf importNumbers (k .number) ≡ true
-
-only-onward : {A B : Type 0} (s : Parsed A) (rest : A → Parser B) (text : List ℕ) → Only s → ((a : A) (next : ℕ) → Only (rest a text next))
-    → Only (onward s rest text)
-only-onward (got a next) rest text h r = r a next
-only-onward (no k) rest text h r = h
-
-only-cond : {A : Type 0} (b : Bool) (number offset : ℕ) (a : A) (next : ℕ) → isOneOf importNumbers number ≡ true
-    → Only (cond b (got a next) (no (refusalAt number offset)))
-only-cond true number offset a next h = tt
-only-cond false number offset a next h = h
-
-only-test : (b : Bool) (number from : ℕ) (text : List ℕ) (at : ℕ) → isOneOf importNumbers number ≡ true → Only (test b number from text at)
-only-test true number from text at h = tt
-only-test false number from text at h = h
-
 module _ (text : List ℕ) where
-  exactly-only : (bytes : List ℕ) (number from at : ℕ) → isOneOf importNumbers number ≡ true → Only (exactly bytes number from text at)
+  exactly-only : (bytes : List ℕ) (number from at : ℕ) → isOneOf importNumbers number ≡ true → Only importNumbers (exactly bytes number from text at)
   unfolding exactly
-  exactly-only bytes number from at h = only-cond (begins bytes (drop at text)) number from tt (at + length bytes) h
+  exactly-only bytes number from at h = only-cond importNumbers (begins bytes (drop at text)) number from tt (at + length bytes) h
 
-  standing-only : (from at : ℕ) (f : Found) → Only (standing from at f)
+  standing-only : (from at : ℕ) (f : Found) → Only importNumbers (standing from at f)
   standing-only from at (found l used) = tt
   standing-only from at broken = refl
 
-  item-only : (ends : List ℕ) (from at : ℕ) → Only (item ends from text at)
+  item-only : (ends : List ℕ) (from at : ℕ) → Only importNumbers (item ends from text at)
   unfolding item
   item-only ends from at =
-      only-onward (standing from at (field (drop at text))) _ text (standing-only from at (field (drop at text)))
-      (λ l next. only-onward (exactly ends wrongLine from text next) _ text (exactly-only ends wrongLine from next refl) (λ _ _. tt))
+      only-onward importNumbers (standing from at (field (drop at text))) _ text (standing-only from at (field (drop at text)))
+      (λ l next. only-onward importNumbers (exactly ends wrongLine from text next) _ text (exactly-only ends wrongLine from next refl) (λ _ _. tt))
 
-  name-only : (from at : ℕ) → Only (nameItem from text at)
+  name-only : (from at : ℕ) → Only importNumbers (nameItem from text at)
   unfolding nameItem
   name-only from at =
-      only-onward (item (comma ∷ []) from text at) _ text (item-only (comma ∷ []) from at)
-      (λ l next. only-onward (test (eqb (length l) nameBytes) wrongLine from text next) _ text
-      (only-test (eqb (length l) nameBytes) wrongLine from text next refl) (λ _ _. tt))
+      only-onward importNumbers (item (comma ∷ []) from text at) _ text (item-only (comma ∷ []) from at)
+      (λ l next. only-onward importNumbers (test (eqb (length l) nameBytes) wrongLine from text next) _ text
+      (only-test importNumbers (eqb (length l) nameBytes) wrongLine from text next refl) (λ _ _. tt))
 
-  grade-only : (from at : ℕ) → Only (gradeItem from text at)
+  grade-only : (from at : ℕ) → Only importNumbers (gradeItem from text at)
   unfolding gradeItem
-  grade-only from at = only-onward (item (comma ∷ []) from text at) _ text (item-only (comma ∷ []) from at) (λ _ _. tt)
+  grade-only from at = only-onward importNumbers (item (comma ∷ []) from text at) _ text (item-only (comma ∷ []) from at) (λ _ _. tt)
 
-  number-only : (ends : List ℕ) (from at : ℕ) → Only (numberItem ends from text at)
+  number-only : (ends : List ℕ) (from at : ℕ) → Only importNumbers (numberItem ends from text at)
   unfolding numberItem
   number-only ends from at =
-      only-onward (item ends from text at) _ text (item-only ends from at)
-      (λ l next. only-onward (test (isDecimal l) wrongLine from text next) _ text
-      (only-test (isDecimal l) wrongLine from text next refl) (λ _ _. tt))
+      only-onward importNumbers (item ends from text at) _ text (item-only ends from at)
+      (λ l next. only-onward importNumbers (test (isDecimal l) wrongLine from text next) _ text
+      (only-test importNumbers (isDecimal l) wrongLine from text next refl) (λ _ _. tt))
 
-  line-only : (at : ℕ) → Only (line text at)
+  line-only : (at : ℕ) → Only importNumbers (line text at)
   unfolding line
   line-only at =
-      only-onward (nameItem at text at) _ text (name-only at at)
-      (λ _ a₁. only-onward (gradeItem at text a₁) _ text (grade-only at a₁)
-      (λ _ a₂. only-onward (numberItem (comma ∷ []) at text a₂) _ text (number-only (comma ∷ []) at a₂)
-      (λ _ a₃. only-onward (numberItem (comma ∷ []) at text a₃) _ text (number-only (comma ∷ []) at a₃)
-      (λ _ a₄. only-onward (numberItem lineEnd at text a₄) _ text (number-only lineEnd at a₄) (λ _ _. tt)))))
+      only-onward importNumbers (nameItem at text at) _ text (name-only at at)
+      (λ _ a₁. only-onward importNumbers (gradeItem at text a₁) _ text (grade-only at a₁)
+      (λ _ a₂. only-onward importNumbers (numberItem (comma ∷ []) at text a₂) _ text (number-only (comma ∷ []) at a₂)
+      (λ _ a₃. only-onward importNumbers (numberItem (comma ∷ []) at text a₃) _ text (number-only (comma ∷ []) at a₃)
+      (λ _ a₄. only-onward importNumbers (numberItem lineEnd at text a₄) _ text (number-only lineEnd at a₄) (λ _ _. tt)))))
 
-  job-only : (earlier : List ℕ) (at : ℕ) → Only (oneJob earlier text at)
+  job-only : (earlier : List ℕ) (at : ℕ) → Only importNumbers (oneJob earlier text at)
   unfolding oneJob
   job-only earlier at =
-      only-onward (line text at) _ text (line-only at)
+      only-onward importNumbers (line text at) _ text (line-only at)
       (λ l next.
       let ok : Bool = windowAllowed (l .release) (l .deadline) && sizeAllowed (l .size) in
-      only-onward (test (nameAllowed (l .name)) wrongNameByte at text next) _ text (only-test (nameAllowed (l .name)) wrongNameByte at text next refl)
-      (λ _ n₁. only-onward (test (isAbsent earlier (l .name)) nameTaken at text n₁) _ text (only-test (isAbsent earlier (l .name)) nameTaken at text n₁ refl)
-      (λ _ n₂. only-onward (test (gradeAllowed (l .grade)) wrongGrade (l .gradeAt) text n₂) _ text
-      (only-test (gradeAllowed (l .grade)) wrongGrade (l .gradeAt) text n₂ refl)
-      (λ _ n₃. only-onward (test ok wrongJobBounds (l .releaseAt) text n₃) _ text (only-test ok wrongJobBounds (l .releaseAt) text n₃ refl) (λ _ _. tt)))))
+      only-onward importNumbers (test (nameAllowed (l .name)) wrongNameByte at text next) _ text (only-test importNumbers (nameAllowed (l .name)) wrongNameByte at text next refl)
+      (λ _ n₁. only-onward importNumbers (test (isAbsent earlier (l .name)) nameTaken at text n₁) _ text (only-test importNumbers (isAbsent earlier (l .name)) nameTaken at text n₁ refl)
+      (λ _ n₂. only-onward importNumbers (test (gradeAllowed (l .grade)) wrongGrade (l .gradeAt) text n₂) _ text
+      (only-test importNumbers (gradeAllowed (l .grade)) wrongGrade (l .gradeAt) text n₂ refl)
+      (λ _ n₃. only-onward importNumbers (test ok wrongJobBounds (l .releaseAt) text n₃) _ text (only-test importNumbers ok wrongJobBounds (l .releaseAt) text n₃ refl) (λ _ _. tt)))))
 
-  lines-only : (room : ℕ) (jobs : List Job) (at : ℕ) → Only (allLines room jobs text at)
+  lines-only : (room : ℕ) (jobs : List Job) (at : ℕ) → Only importNumbers (allLines room jobs text at)
   unfolding allLines
   lines-only zero jobs at =
-      only-onward (test (leb (length text) at) wrongJobCount at text at) _ text
-      (only-test (leb (length text) at) wrongJobCount at text at refl) (λ _ _. tt)
+      only-onward importNumbers (test (leb (length text) at) wrongJobCount at text at) _ text
+      (only-test importNumbers (leb (length text) at) wrongJobCount at text at refl) (λ _ _. tt)
   lines-only (suc room) jobs at = by (leb (length text) at) (λ j next. lines-only room (jobs ++ (j ∷ [])) next)
     where
-      by : (b : Bool) → ((j : Job) (next : ℕ) → Only (allLines room (jobs ++ (j ∷ [])) text next))
-          → Only
+      by : (b : Bool) → ((j : Job) (next : ℕ) → Only importNumbers (allLines room (jobs ++ (j ∷ [])) text next))
+          → Only importNumbers
           (cond {A = Parser (List Job)} b (λ (file : List ℕ) (from : ℕ). got jobs from)
           (λ (file : List ℕ) (from : ℕ). onward (oneJob (namesOf jobs) file from) (λ j. allLines room (jobs ++ (j ∷ []))) file) text at)
       by true rest = tt
-      by false rest = only-onward (oneJob (namesOf jobs) text at) _ text (job-only (namesOf jobs) at) rest
+      by false rest = only-onward importNumbers (oneJob (namesOf jobs) text at) _ text (job-only (namesOf jobs) at) rest
 
-  text-only : Only (jobText text 0)
+  text-only : Only importNumbers (jobText text 0)
   unfolding jobText
   text-only =
-      only-onward (exactly header wrongHeader 0 text 0) _ text (exactly-only header wrongHeader 0 0 refl)
-      (λ _ at. only-onward (allLines mostJobs [] text at) _ text (lines-only mostJobs [] at)
-      (λ jobs end. only-onward (test (leb 1 (length jobs)) wrongJobCount end text end) _ text
-      (only-test (leb 1 (length jobs)) wrongJobCount end text end refl) (λ _ _. tt)))
+      only-onward importNumbers (exactly header wrongHeader 0 text 0) _ text (exactly-only header wrongHeader 0 0 refl)
+      (λ _ at. only-onward importNumbers (allLines mostJobs [] text at) _ text (lines-only mostJobs [] at)
+      (λ jobs end. only-onward importNumbers (test (leb 1 (length jobs)) wrongJobCount end text end) _ text
+      (only-test importNumbers (leb 1 (length jobs)) wrongJobCount end text end refl) (λ _ _. tt)))
 
 -- A report of the import is empty, or its number is one of these.
 pub import-numbers : (text : Bytes) (number : ℕ) (rest : Report) → imported text .answer ≡ number ∷ rest → isOneOf importNumbers number ≡ true
 unfolding imported
 import-numbers text number rest e = by (jobText text 0) (text-only text) e
   where
-    by : (s : Parsed (List Job)) → Only s → importedFrom s .answer ≡ number ∷ rest → isOneOf importNumbers number ≡ true
+    by : (s : Parsed (List Job)) → Only importNumbers s → importedFrom s .answer ≡ number ∷ rest → isOneOf importNumbers number ≡ true
     by (got jobs next) h e = absurd (let z : _≡_ {A = ℕ} 0 1 = cc in omega arith)
     by (no k) h e = let n : number ≡ k .number = cc in rw n h
 

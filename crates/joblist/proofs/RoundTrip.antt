@@ -21,7 +21,8 @@ use Rattle.fields.proofs.BytesAt.{Stands, stands-first, stands-rest, stands-as}
 use Rattle.text.specs.Text.{decimal, nameText}
 use Rattle.joblist.specs.Grammar.{comma, lineEnd, field}
 use Rattle.joblist.specs.Decimals.{mostNumber}
-use Rattle.joblist.specs.Import.{exactly, item, nameItem, gradeItem, numberItem, Line, line, oneJob, namesOf, allLines, header, jobText, listOf, ImportEffect, importedFrom, imported}
+use Rattle.plan.specs.JobLists.{namesOf, listOf}
+use Rattle.joblist.specs.Import.{exactly, item, nameItem, gradeItem, numberItem, Line, line, oneJob, allLines, header, jobText, ImportEffect, importedFrom, imported}
 use Rattle.joblist.specs.Export.{fieldText, gradeText, lineText, linesText, listText, ExportEffect, wrote, withheld, exported}
 use Rattle.joblist.proofs.LineLoop.{lines-over, lines-step}
 use Rattle.joblist.proofs.Soundness.{text-taken}

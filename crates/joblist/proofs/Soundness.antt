@@ -20,9 +20,10 @@ use Rattle.fields.specs.Parsers.{Parsed, got, no, Parser, onward}
 use Rattle.fields.proofs.ByteLaws.{value-below}
 use Rattle.fields.proofs.ParserLaws.{through, past, same-value}
 use Rattle.joblist.specs.Grammar.{comma, lineEnd}
-use Rattle.joblist.specs.Import.{exactly, item, nameItem, gradeItem, numberItem, Line, line, oneJob, namesOf, allLines, header, jobText, listOf, importedFrom, imported}
+use Rattle.plan.specs.JobLists.{namesOf, listOf}
+use Rattle.joblist.specs.Import.{exactly, item, nameItem, gradeItem, numberItem, Line, line, oneJob, allLines, header, jobText, importedFrom, imported}
 use Rattle.joblist.proofs.ItemLaws.{item-small}
-use Rattle.joblist.proofs.LineLoop.{length-snoc}
+use Rattle.plan.proofs.JobLists.{length-snoc}
 
 -- The job at an index.
 abbrev jobAt : List Job → ℕ → Job

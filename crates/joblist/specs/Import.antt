@@ -1,14 +1,15 @@
 -- Reading a job list: its header, then a line for each job. Each refusal says at which offset.
 use mathlib.Core.Bool.{Bool, cond, _&&_}
-use mathlib.Core.List.{List, [], _∷_, _++_, map}
-use Prim.Native.Nat.{ℕ, zero, suc, _+_, _-_}
+use mathlib.Core.List.{List, [], _∷_, _++_}
+use Prim.Native.Nat.{ℕ, zero, suc, _+_}
 use lib.Dec.{leb, eqb}
-use lib.ListN.{length, drop, replicate}
+use lib.ListN.{length, drop}
 use Rattle.plan.specs.Kinds.{Bytes, Number, Offset}
 use Rattle.plan.specs.Edition.{nameBytes, mostJobs}
 use Rattle.plan.specs.Refusal.{refusalAt, wrongJobCount, wrongNameByte, nameTaken, wrongGrade, wrongJobBounds, wrongLine, wrongHeader}
 use Rattle.plan.specs.Report.{Report}
-use Rattle.plan.specs.Rules.{lo, hi, nameAllowed, isAbsent, gradeAllowed, windowAllowed, sizeAllowed, noJob}
+use Rattle.plan.specs.Rules.{lo, hi, nameAllowed, isAbsent, gradeAllowed, windowAllowed, sizeAllowed}
+use Rattle.plan.specs.JobLists.{namesOf, listOf}
 use Rattle.plan.specs.declared.kinds.Job.{Job}
 use Rattle.plan.specs.declared.kinds.JobList.{JobList}
 use Rattle.fields.specs.Bytes.{value}
@@ -111,10 +112,6 @@ oneJob earlier = do
   test (windowAllowed (l .release) (l .deadline) && sizeAllowed (l .size)) wrongJobBounds (l .releaseAt)
   done (jobOn l)
 
--- The names of a list of jobs.
-abbrev pub namesOf : List Job → List ℕ
-namesOf jobs = map (λ (j : Job). j .name .0) jobs
-
 -- Whether the text ends here.
 abbrev pub atEnd : Parser Bool
 atEnd file at = got (leb (length file) at) at
@@ -145,10 +142,6 @@ jobText = do
   end ← here
   test (leb 1 (length jobs)) wrongJobCount end
   done jobs
-
--- A list of these jobs, then zero records up to `mostJobs`.
-abbrev pub listOf : List Job → JobList
-listOf jobs = record { count = length jobs; jobs = jobs ++ replicate (mostJobs - length jobs) noJob }
 
 -- What a call of the import leaves: its report (empty for a list that was read, otherwise the refusal number
 -- and the offset), and the jobs.

@@ -6,11 +6,8 @@ use crate::line::read_job;
 use fields::field::Passed;
 use fields::field::passed_refusal;
 use plan::edition::Edition;
-use plan::kinds::Job;
 use plan::kinds::JobList;
-use plan::kinds::Name;
-use plan::kinds::Slots;
-use plan::kinds::Units;
+use plan::kinds::no_job;
 use plan::refusal::Refusal;
 use plan::refusal::WRONG_HEADER;
 use plan::refusal::WRONG_JOB_COUNT;
@@ -18,7 +15,8 @@ ghost use mathlib.Core.Path.{_≡_};
 ghost use mathlib.Core.List.{[]};
 ghost use Rattle.plan.specs.Edition.{mostJobs};
 ghost use Rattle.fields.specs.Parsers.{no};
-ghost use Rattle.joblist.specs.Import.{allLines, listOf, importedFrom};
+ghost use Rattle.plan.specs.JobLists.{listOf};
+ghost use Rattle.joblist.specs.Import.{allLines, importedFrom};
 ghost use Rattle.joblist.specs.Answers.{importView, Imports};
 ghost use Rattle.joblist.specs.inner.Parts.{LinesAnswer};
 
@@ -41,14 +39,7 @@ struct Lines {
 fn no_jobs() -> JobList
     ensures { λ r. ⌜ r ≡ listOf [] ⌝ }
 {
-    let none = Job {
-        name: Name(0),
-        grade: 0,
-        release: Slots(0),
-        size: Units(0),
-        deadline: Slots(0),
-    };
-    let jobs = [none; Edition::MOST_JOBS];
+    let jobs = [no_job(); Edition::MOST_JOBS];
     JobList { count: 0, jobs }
 }
 

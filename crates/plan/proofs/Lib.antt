@@ -9,3 +9,4 @@ pub mod VersionLimits
 pub mod ColumnLaws
 pub mod MarkLaws
 pub mod PlanOn
+pub mod JobLists

@@ -4,6 +4,7 @@ pub mod Versions
 pub mod Refusal
 pub mod Report
 pub mod Rules
+pub mod JobLists
 pub mod Boundaries
 pub mod Table
 pub mod Same

@@ -1,7 +1,8 @@
 -- The report of a call that can be refused: a refusal number with the location that it names.
-use mathlib.Core.Bool.{Bool, true, false}
+use mathlib.Core.Bool.{Bool, true, false, _||_}
 use mathlib.Core.List.{List, [], _∷_}
 use Prim.Native.Nat.{ℕ, zero, suc}
+use lib.Dec.{eqb}
 use Rattle.plan.specs.Kinds.{Number}
 
 -- A refusal number followed by the location it names; empty if there is no refusal.
@@ -36,3 +37,8 @@ doneNumber = 0
 abbrev pub numberOf : Report → Number
 numberOf [] = doneNumber
 numberOf (number ∷ places) = number
+
+-- Whether a number is one of some.
+abbrev pub isOneOf : List ℕ → ℕ → Bool
+isOneOf [] x = false
+isOneOf (y ∷ l) x = eqb x y || isOneOf l x

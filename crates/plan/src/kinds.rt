@@ -2,6 +2,7 @@
 use crate::edition::Edition;
 ghost use mathlib.Core.Path.{_≡_};
 ghost use Prim.Native.Nat.{_*_};
+ghost use Rattle.plan.specs.Rules.{noJob};
 
 // A number of slots: a time or a length of time.
 pub struct Slots(pub u32);
@@ -49,6 +50,19 @@ pub struct Outline {
     pub n: Rate,
     pub d: Rate,
     pub count: usize,
+}
+
+// The record of zeros.
+pub fn no_job() -> Job
+    ensures { λ r. ⌜ r ≡ noJob ⌝ }
+{
+    Job {
+        name: Name(0),
+        grade: LO,
+        release: Slots(0),
+        size: Units(0),
+        deadline: Slots(0),
+    }
 }
 
 // A stored 32-bit number as units.

@@ -17,10 +17,11 @@ use Rattle.plan.specs.declared.kinds.Job.{Job}
 use Rattle.base.proofs.Below.{every-at}
 use Rattle.fields.specs.Parsers.{got, field, checked, recordLength}
 use Rattle.planfields.specs.Records.{jobName, oneJob}
-use Rattle.planfile.specs.Reader.{namesOf, allJobs}
+use Rattle.plan.specs.JobLists.{namesOf}
+use Rattle.planfile.specs.Reader.{allJobs}
 use Rattle.planfile.specs.inner.Parts.{Distinct}
 use Rattle.fields.proofs.ParserLaws.{through, past, checked-is, same-value, same-next}
-use Rattle.planfile.proofs.JobLoop.{names-snoc, length-snoc}
+use Rattle.plan.proofs.JobLists.{names-snoc, length-snoc}
 
 pub absent-each : (l : List ℕ) (x k : ℕ) → isAbsent l x ≡ true → k < length l → getD l k 0 ≡ x → ⊥
 unfolding isAbsent

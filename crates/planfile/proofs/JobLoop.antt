@@ -4,41 +4,17 @@ use mathlib.Core.List.{List, [], _∷_, _++_, append-assoc}
 use Prim.Native.Nat.{ℕ, zero, suc, _-_, _≤_, _<_}
 use native.Mathlib.Nat.{sub-zero}
 use native.Mathlib.Omega.{arith}
-use lib.ListN.{length, getD, take, drop, set, replicate, length-append, length-map, length-replicate, length-drop}
+use lib.ListN.{length, getD, take, drop, set, length-append, length-drop}
 use lib.Seq.{take-at, drop-cons, set-at}
 use Rattle.plan.specs.Refusal.{Refusal}
 use Rattle.plan.specs.Edition.{mostJobs}
-use Rattle.plan.specs.Rules.{noJob}
 use Rattle.plan.specs.declared.kinds.Job.{Job}
 use Rattle.plan.specs.declared.kinds.Plan.{Plan}
 use Rattle.fields.specs.Parsers.{got, no}
 use Rattle.planfields.specs.Records.{oneJob, Head}
-use Rattle.planfile.specs.Reader.{namesOf, allJobs, planFrom}
-
--- Jobs, padded with zero records to length `mostJobs`.
-abbrev pub inRoom : List Job → List Job
-inRoom jobs = jobs ++ replicate (mostJobs - length jobs) noJob
-
-pub room-length : (jobs : List Job) → length jobs ≤ mostJobs → length (inRoom jobs) ≡ mostJobs
-room-length jobs h = simp (length-append, length-replicate) (omega arith)
-
-pub length-snoc : (jobs : List Job) (j : Job) → length (jobs ++ (j ∷ [])) ≡ suc (length jobs)
-length-snoc jobs j = simp length-append (omega arith)
-
--- Storing a record at index i, after i jobs, appends the job.
-pub room-next : (jobs : List Job) (j : Job) (i : ℕ) → length jobs ≡ i → i < mostJobs → set (inRoom jobs) i j ≡ inRoom (jobs ++ (j ∷ []))
-room-next jobs j i n h =
-    let m : mostJobs - length jobs ≡ suc (mostJobs - length (jobs ++ (j ∷ []))) = rw length-snoc (omega arith) in
-    ap (λ k. set (jobs ++ replicate k noJob) i j) m
-    ∙ set-at jobs noJob (replicate (mostJobs - length (jobs ++ (j ∷ []))) noJob) j i n
-    ∙ sym (append-assoc jobs (j ∷ []) (replicate (mostJobs - length (jobs ++ (j ∷ []))) noJob))
-
-pub names-snoc : (jobs : List Job) (j : Job) → namesOf (jobs ++ (j ∷ [])) ≡ namesOf jobs ++ (j .name .0 ∷ [])
-names-snoc [] j = refl
-names-snoc (x ∷ jobs) j = ap (λ l. x .name .0 ∷ l) (names-snoc jobs j)
-
-pub names-length : (jobs : List Job) → length (namesOf jobs) ≡ length jobs
-names-length jobs = length-map jobs (λ (j : Job). j .name .0)
+use Rattle.plan.specs.JobLists.{namesOf, recordsOf}
+use Rattle.plan.proofs.JobLists.{length-snoc, records-next, names-snoc, names-length}
+use Rattle.planfile.specs.Reader.{allJobs, planFrom}
 
 -- Storing a name at index i, after i names, appends the name.
 pub names-next : (jobs : List Job) (j : Job) (i : ℕ) (first : List ℕ) → length jobs ≡ i → i < length first
@@ -55,7 +31,7 @@ pub record JobsRead (file : List ℕ) (at : ℕ) (first : List ℕ) (count : ℕ
   pub jobs : List Job
   pub many : length jobs ≡ i
   pub kept : names ≡ namesOf jobs ++ drop i first
-  pub made : plan ≡ record { n = blank .n; d = blank .d; count = blank .count; jobs = inRoom jobs }
+  pub made : plan ≡ record { n = blank .n; d = blank .d; count = blank .count; jobs = recordsOf jobs }
   pub left : allJobs (count - i) jobs file next ≡ allJobs count [] file at
 
 -- `allJobs` with a next job that is read, with one that is refused, and with none left.
@@ -101,7 +77,7 @@ module _ {file : List ℕ} {at : ℕ} {first : List ℕ} {count : ℕ} {blank : 
         kept = rw (so .kept) (names-next (so .jobs) j i first (so .many) (omega arith));
         made = rw (so .made) (ap
             (λ l. record { n = blank .n; d = blank .d; count = blank .count; jobs = l })
-            (room-next (so .jobs) j i (so .many) fits));
+            (records-next (so .jobs) j i (so .many) fits));
         left =
             sym (jobs-step (count - suc i) (so .jobs) file next (rw earlier at e))
             ∙ ap (λ n. allJobs n (so .jobs) file next) (sym (count-on more)) ∙ so .left;

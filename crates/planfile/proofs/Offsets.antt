@@ -14,7 +14,8 @@ use Rattle.plan.specs.declared.kinds.Job.{Job}
 use Rattle.fields.specs.Parsers.{Parsed, got, no, field, checked, opening, ended}
 use Rattle.planfields.specs.Layout.{jobLength, nameAt}
 use Rattle.planfields.specs.Records.{Head, head, oneJob}
-use Rattle.planfile.specs.Reader.{namesOf, allJobs, Preamble, preamble, allRows, Contents, planFile, readFile}
+use Rattle.plan.specs.JobLists.{namesOf}
+use Rattle.planfile.specs.Reader.{allJobs, Preamble, preamble, allRows, Contents, planFile, readFile}
 use Rattle.planfile.specs.inner.Parts.{countOf}
 use Rattle.fields.proofs.ParserLaws.{through, past, checked-is, same-value, same-next, field-extent}
 use Rattle.fields.proofs.OpeningLaws.{length-is, opening-read}

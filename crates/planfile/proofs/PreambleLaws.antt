@@ -14,7 +14,8 @@ use Rattle.plan.specs.declared.kinds.Job.{Job}
 use Rattle.plan.specs.declared.kinds.Plan.{Plan}
 use Rattle.fields.specs.Parsers.{Parsed, got, no, checked}
 use Rattle.planfields.specs.Records.{Head, head}
-use Rattle.planfile.specs.Reader.{namesOf, allJobs, planFrom, Preamble, preamble}
+use Rattle.plan.specs.JobLists.{namesOf}
+use Rattle.planfile.specs.Reader.{allJobs, planFrom, Preamble, preamble}
 use Rattle.fields.specs.Answers.{fieldView}
 use Rattle.planfile.specs.inner.Parts.{Distinct, JobsAnswer, PreambleAnswer}
 use Rattle.fields.specs.declared.field.Field.{Field}
@@ -25,7 +26,7 @@ use Rattle.planfile.specs.declared.preamble.PlanPassed.{PlanPassed}
 use Rattle.plan.proofs.BoundaryOrder.{boundaries-few}
 use Rattle.plan.proofs.VersionLimits.{count-some, count-fits}
 use Rattle.planfile.proofs.Offsets.{head-read}
-use Rattle.planfile.proofs.JobLoop.{names-length}
+use Rattle.plan.proofs.JobLists.{names-length}
 use Rattle.planfile.proofs.DistinctNames.{jobs-apart}
 use Rattle.fields.proofs.ParserLaws.{through, same-value}
 

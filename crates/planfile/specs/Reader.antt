@@ -1,27 +1,24 @@
 -- Reading a plan file (the head, the jobs, the rows, the end),
 -- and what the reader and the name lookup leave.
 use mathlib.Core.Bool.{true, not, cond}
-use mathlib.Core.List.{List, [], _∷_, _++_, map}
-use Prim.Native.Nat.{ℕ, zero, suc, _+_, _*_, _-_}
+use mathlib.Core.List.{List, [], _∷_, _++_}
+use Prim.Native.Nat.{ℕ, zero, suc, _+_}
 use lib.Dec.{leb, ltb, eqb}
 use lib.ListN.{length, take, drop, set, replicate}
 use Rattle.plan.specs.Kinds.{Bytes, Offset, Position, Table}
-use Rattle.plan.specs.Edition.{mostJobs, mostIntervals, places, nameBytes}
+use Rattle.plan.specs.Edition.{mostIntervals, places, nameBytes}
 use Rattle.plan.specs.Versions.{rowsAllowedIn}
 use Rattle.planfields.specs.Layout.{rowLength, nameAt}
 use Rattle.plan.specs.Refusal.{tooManyRows, rowWithoutJob, rowWithoutInterval, rowWithoutUnits, rowOutOfOrder, bufferTooShort}
 use Rattle.plan.specs.Report.{Report}
-use Rattle.plan.specs.Rules.{sameName, noJob, noPlan}
+use Rattle.plan.specs.JobLists.{namesOf, recordsOf}
+use Rattle.plan.specs.Rules.{sameName, noPlan}
 use Rattle.plan.specs.Boundaries.{intervals}
 use Rattle.plan.specs.Table.{place}
 use Rattle.plan.specs.declared.kinds.Job.{Job}
 use Rattle.plan.specs.declared.kinds.Plan.{Plan}
 use Rattle.fields.specs.Parsers.{Parsed, got, no, Parser, _>>=_, _>>_, done, here, test, field, checked, recordLength, ended}
 use Rattle.planfields.specs.Records.{Head, head, oneJob}
-
--- The names of a list of jobs.
-abbrev pub namesOf : List Job → List ℕ
-namesOf jobs = map (λ (j : Job). j .name .0) jobs
 
 -- n jobs in sequence, appended to those already read; none of the n may have the name of one before
 -- it.
@@ -82,7 +79,7 @@ planFrom h jobs =
       n = record { 0 = h .n };
       d = record { 0 = h .d };
       count = h .count;
-      jobs = jobs ++ replicate (mostJobs - length jobs) noJob;
+      jobs = recordsOf jobs;
     }
 
 -- What the preamble holds: the plan, the names of its jobs, and the row count.

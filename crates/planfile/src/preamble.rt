@@ -4,12 +4,9 @@ use fields::field::Passed;
 use fields::field::passed_refusal;
 use fields::opening::LengthRule;
 use plan::edition::Edition;
-use plan::kinds::Job;
-use plan::kinds::Name;
 use plan::kinds::Plan;
 use plan::kinds::Rate;
-use plan::kinds::Slots;
-use plan::kinds::Units;
+use plan::kinds::no_job;
 use planfields::head::Head;
 use planfields::head::HeadRead;
 use planfields::head::head_refusal;
@@ -44,14 +41,7 @@ pub struct Preamble {
 fn plan_with(head: Head) -> Plan
     ensures { λ r. ⌜ r ≡ planFrom (headOf head) [] ⌝ }
 {
-    let none = Job {
-        name: Name(0),
-        grade: 0,
-        release: Slots(0),
-        size: Units(0),
-        deadline: Slots(0),
-    };
-    let jobs = [none; Edition::MOST_JOBS];
+    let jobs = [no_job(); Edition::MOST_JOBS];
     let n = head.n;
     let d = head.d;
     Plan {

@@ -32,7 +32,7 @@ use Rattle.gateway.specs.Calls.{HostJudgeEffect, HostStartEffect, HostReadEffec
 use Rattle.gateway.proofs.RefusedStep.{refused-step-stays}
 use Rattle.promises.proofs.Cases.{tableOf, planE, tableE}
 use Rattle.promises.proofs.RefusalNumbers.{reader-numbers, writer-numbers, judge-numbers, slack-numbers, step-numbers, outcome-numbers}
-use Rattle.promises.specs.Numbers.{isOneOf}
+use Rattle.plan.specs.Report.{isOneOf}
 use Rattle.promises.proofs.RefusalEffects.{reader-22-leaves, reader-other-leaves, writer-refused-leaves}
 use Rattle.promises.proofs.SameSlot.{same-slot, same-outcome, elseE, elseTable, same-E}
 use Rattle.promises.proofs.SameVerdict.{same-verdict, same-slack, started-same}

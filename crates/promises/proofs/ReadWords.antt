@@ -6,7 +6,7 @@ use Prim.Native.Nat.{ℕ, _-_, _≤_, _<_}
 use native.Mathlib.Omega.{arith}
 use borrow.Author.Tests.{le-ltb, ltb-false, eqb-true}
 use lib.Dec.{eqb}
-use lib.ListN.{length, getD, length-map, List·getD-eq-default}
+use lib.ListN.{length, length-map, List·getD-eq-default}
 use Rattle.base.proofs.Below.{every-at}
 use Rattle.base.proofs.Logic.{if-true, if-less}
 use Rattle.base.proofs.Padding.{getD-pad}
@@ -26,7 +26,7 @@ use Rattle.hostmemory.specs.Memory.{most8, most32, planWords, shortPlan, Fits, 
 use Rattle.hostmemory.proofs.RoundTrip.{plan-back}
 use Rattle.gateway.specs.Calls.{HostReadEffect, readWords, readCall}
 use Rattle.gateway.specs.Answers.{HostReads}
-use Rattle.promises.specs.Numbers.{isOneOf}
+use Rattle.plan.specs.Report.{isOneOf}
 use Rattle.promises.proofs.Cases.{planE, fileE}
 use Rattle.promises.proofs.Demand2.{taken-is, read-E, octets-E}
 use Rattle.promises.proofs.RefusalNumbers.{reader-numbers}
@@ -55,10 +55,12 @@ module _ (p : Plan) (rules : rulesHold p ≡ true) (zeros : (i : ℕ) → counte
       record {
         n = omega (arith, within .rate);
         d = omega (arith, within .rates, within .rate);
-        all = all;
-        grade = each (λ j. j .grade) most8 grade-small (omega arith);
-        release = each (λ j. j .release .0) most32 (λ i h. omega (arith, within .windows i h, within .deadlines i h)) (omega arith);
-        deadline = each (λ j. j .deadline .0) most32 (λ i h. omega (arith, within .deadlines i h)) (omega arith);
+        jobs = record {
+          all = all;
+          grade = each (λ j. j .grade) most8 grade-small (omega arith);
+          release = each (λ j. j .release .0) most32 (λ i h. omega (arith, within .windows i h, within .deadlines i h)) (omega arith);
+          deadline = each (λ j. j .deadline .0) most32 (λ i h. omega (arith, within .deadlines i h)) (omega arith);
+        };
       }
 
 -- The plan of a file that is read is such a plan.

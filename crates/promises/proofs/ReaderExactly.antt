@@ -4,7 +4,7 @@ use mathlib.Core.Path.{_≡_, refl, sym, _∙_, ap}
 use mathlib.Core.Logic.{inl, inr}
 use mathlib.Core.Bool.{Bool, true, false, not, cond, _&&_}
 use mathlib.Core.List.{List, [], _∷_, _++_}
-use Prim.Native.Nat.{ℕ, zero, suc, _+_, _*_, _≤_, _<_}
+use Prim.Native.Nat.{ℕ, zero, suc, _+_, _≤_, _<_}
 use native.Mathlib.Nat.{add-zero, add-suc, suc-add, zero-add}
 use native.Mathlib.Omega.{arith}
 use borrow.Author.Tests.{leb-true, le-leb, eqb-true, eqb-false}
@@ -24,9 +24,10 @@ use Rattle.fields.specs.Bytes.{value}
 use Rattle.fields.specs.Parsers.{Parsed, got, no, Parser, onward, test, field, checked, recordLength, refusedAs, isVersion, version, extent, opening, ended}
 use Rattle.planfields.specs.Layout.{openingBytes, headerBytes, jobLength, rowLength}
 use Rattle.planfields.specs.Records.{Head, head, jobName, oneJob}
-use Rattle.planfile.specs.Reader.{namesOf, allJobs, position, Row, rowJob, oneRow, allRows, Contents, planFrom, Preamble, preamble, planFile, readFile, ReadEffect, leaves, reader}
+use Rattle.plan.specs.JobLists.{namesOf}
+use Rattle.planfile.specs.Reader.{allJobs, position, Row, rowJob, oneRow, allRows, Contents, planFrom, Preamble, preamble, planFile, readFile, ReadEffect, leaves, reader}
 use Rattle.planfile.proofs.WholeFile.{reader-long}
-use Rattle.promises.specs.FileFaults.{valueAt, cutAt, unlessAt, fieldFaults, lengthFaults, headFaults, headIn, nameFrom, gradeFrom, releaseFrom, sizeFrom, deadlineFrom, afterJob, jobFrom, jobAt, jobsIn, jobFaultsAt, jobFaults, intervalFrom, unitsFrom, afterRow, rowFrom, rowIn, rowFaultsAt, lowestAt, rowFaults, tableIn, fileJobs, filePlan, rowCountFrom, rowsFrom, rowsSaid, endOf, fileFault, InsideFile, lastRead, lengthFrom, normalFrom, floorFrom, countFrom}
+use Rattle.promises.specs.FileFaults.{valueAt, cutAt, unlessAt, fieldFaults, lengthFaults, headFaults, headIn, nameFrom, gradeFrom, releaseFrom, sizeFrom, deadlineFrom, afterJob, jobFrom, jobAt, jobsIn, jobFaultsAt, jobFaults, intervalFrom, unitsFrom, afterRow, rowFrom, rowIn, rowFaultsAt, lowestAt, rowFaults, tableIn, fileJobs, filePlan, rowsFrom, rowsSaid, endOf, fileFault, InsideFile, lastRead, lengthFrom, normalFrom, floorFrom, countFrom}
 
 -- A parser's result by a report: the value and the next offset if the report is empty, otherwise the refusal
 -- that it names.

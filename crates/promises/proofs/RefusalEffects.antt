@@ -35,7 +35,7 @@ use Rattle.lines.specs.Lines.{strayLine, outcomeLine}
 use Rattle.text.specs.Text.{text}
 use Rattle.promises.proofs.Cases.{planWith, tableOf, planE, tableE, fileE, P3, capitalMirror}
 use Rattle.promises.proofs.RefusalNumbers.{Only, fileNumbers, file-only, P3-refused, E-too-fast, line-without-room}
-use Rattle.promises.specs.Numbers.{isOneOf}
+use Rattle.plan.specs.Report.{isOneOf}
 use Rattle.promises.proofs.Demand2.{read-E}
 
 -- Reader: 22 leaves the table unchanged, and a plan of zeros.

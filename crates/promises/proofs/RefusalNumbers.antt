@@ -10,7 +10,7 @@ use Rattle.base.specs.Sum.{sum}
 use Rattle.plan.specs.Edition.{mostIntervals, places}
 use Rattle.plan.specs.Versions.{newestVersion, countAllowedIn, rowsAllowedIn}
 use Rattle.planfields.specs.Layout.{jobLength, rowLength}
-use Rattle.plan.specs.Refusal.{refusalAt, wrongVersion, wrongExtent, wrongRecordLength, wrongRates, wrongJobCount, wrongNameByte, nameTaken, wrongGrade, wrongJobBounds, tooManyRows, rowWithoutJob, rowWithoutInterval, rowWithoutUnits, rowOutOfOrder, outsideWindow, wrongTotal, overCapacity, belowFloorRule, clockAtEnd, speedAboveNormal, unsound, bufferTooShort}
+use Rattle.plan.specs.Refusal.{wrongVersion, wrongExtent, wrongRecordLength, wrongRates, wrongJobCount, wrongNameByte, nameTaken, wrongGrade, wrongJobBounds, tooManyRows, rowWithoutJob, rowWithoutInterval, rowWithoutUnits, rowOutOfOrder, outsideWindow, wrongTotal, overCapacity, belowFloorRule, clockAtEnd, speedAboveNormal, unsound, bufferTooShort}
 use Rattle.base.specs.Below
 use Rattle.plan.specs.Rules.{counted, size, deadline, isHi, ratesAllowed, nameAllowed, isAbsent, gradeAllowed, windowAllowed, sizeAllowed, namesHold, namesDiffer, gradesHold, boundsHold, rulesHold}
 use Rattle.plan.specs.Boundaries.{insert, boundariesTo, boundary, intervals, lastDeadline}
@@ -18,10 +18,11 @@ use Rattle.plan.specs.Table.{place, noStray, sound}
 use Rattle.plan.specs.declared.kinds.Job.{Job}
 use Rattle.plan.specs.declared.kinds.Plan.{Plan}
 use Rattle.fields.specs.Bytes.{bytes, value}
-use Rattle.fields.specs.Parsers.{Parsed, got, no, Parser, onward, test, field, checked, recordLength, refusedAs, isVersion, version, extent, opening, ended}
+use Rattle.fields.specs.Parsers.{Parsed, got, no, test, field, checked, recordLength, refusedAs, isVersion, version, extent, opening, ended}
 use Rattle.planfields.specs.Records.{head, jobName, oneJob}
 use Rattle.plan.specs.Rules.{noPlan}
-use Rattle.planfile.specs.Reader.{namesOf, allJobs, position, rowJob, oneRow, allRows, Contents, preamble, planFile, readFile, leaves, reader}
+use Rattle.plan.specs.JobLists.{namesOf}
+use Rattle.planfile.specs.Reader.{allJobs, position, rowJob, oneRow, allRows, Contents, preamble, planFile, readFile, leaves, reader}
 use Rattle.planwriter.specs.Writing as writing
 use Rattle.planwriter.specs.Writing.{wrote, withheld, written, writer}
 use Rattle.judge.specs.Constraints.{intervalLength, total, load}
@@ -37,30 +38,12 @@ use Rattle.lines.specs.Answers as line
 use Rattle.lines.specs.Answers.{refusal, printed}
 use Rattle.lines.specs.Lines.{strayLine}
 use Rattle.promises.proofs.Cases.{planWith, tableOf, planE, tableE, P3, P4}
-use Rattle.promises.specs.Numbers.{isOneOf}
+use Rattle.plan.specs.Report.{isOneOf}
+use Rattle.fields.proofs.Only.{Only, only-onward, only-cond, only-test}
 
 -- Equal reports have equal numbers.
 same-number : {m n : ℕ} {a b : Report} → m ∷ a ≡ n ∷ b → m ≡ n
 same-number e = cc
-
--- A parser's result is refused only by the listed numbers. Composition and tests preserve this.
-abbrev pub Only : {A : Type 0} → List ℕ → Parsed A → Type 0
-Only numbers (got a next) = Unit {0}
-Only numbers (no k) = isOneOf numbers (k .number) ≡ true
-
-only-onward : {A B : Type 0} (numbers : List ℕ) (s : Parsed A) (rest : A → Parser B) (file : List ℕ) → Only numbers s
-    → ((a : A) (next : ℕ) → Only numbers (rest a file next)) → Only numbers (onward s rest file)
-only-onward numbers (got a next) rest file h r = r a next
-only-onward numbers (no k) rest file h r = h
-
-only-cond : {A : Type 0} (numbers : List ℕ) (b : Bool) (number offset : ℕ) (a : A) (next : ℕ) → isOneOf numbers number ≡ true
-    → Only numbers (cond b (got a next) (no (refusalAt number offset)))
-only-cond numbers true number offset a next h = tt
-only-cond numbers false number offset a next h = h
-
-only-test : (numbers : List ℕ) (b : Bool) (number from : ℕ) (file : List ℕ) (at : ℕ) → isOneOf numbers number ≡ true → Only numbers (test b number from file at)
-only-test numbers true number from file at h = tt
-only-test numbers false number from file at h = h
 
 -- The refusals of reading a plan file: 1 to 14.
 abbrev pub fileNumbers : List ℕ

@@ -19,7 +19,8 @@ use Rattle.base.proofs.Logic.{below-or-last}
 use Rattle.plan.proofs.Reports.{or-none, or-empty}
 use Rattle.fields.specs.Parsers.{isVersion}
 use Rattle.planfields.specs.Layout.{openingBytes, headerBytes, jobLength, rowLength, rowCountBytes}
-use Rattle.planfile.specs.Reader.{namesOf, position, reader}
+use Rattle.plan.specs.JobLists.{namesOf}
+use Rattle.planfile.specs.Reader.{position, reader}
 use Rattle.promises.specs.FileFaults.{lengthFrom, valueAt, cutAt, unlessAt, fieldFaults, headFaults, headIn, nameFrom, jobFrom, jobAt, jobsIn, jobFaultsAt, jobFaults, intervalFrom, unitsFrom, rowFrom, rowIn, rowFaultsAt, lowestAt, fileJobs, filePlan, rowCountFrom, rowsFrom, rowsSaid, endOf, preambleFault, fileRowFaults, fileFault, WrongInHead, WrongInJob, WrongRowCount, WrongInRow, WrongAt}
 use Rattle.promises.specs.FileFaults.{head-version, head-length-field, head-normal-cut, head-floor-cut, head-rates, head-count-cut, head-count-other}
 use Rattle.promises.specs.FileFaults.{job-length-cut, job-length-other, job-name-cut, job-name-byte, job-name-taken, job-grade-cut, job-grade-other, job-release-cut, job-size-cut, job-deadline-cut, job-bounds}

@@ -23,7 +23,8 @@ use Rattle.fields.specs.Bytes.{value}
 use Rattle.fields.specs.Parsers.{isVersion}
 use Rattle.planfields.specs.Layout.{openingBytes, headerBytes, jobLength, rowLength, rowCountBytes}
 use Rattle.planfields.specs.Records.{Head}
-use Rattle.planfile.specs.Reader.{namesOf, position, planFrom, Row}
+use Rattle.plan.specs.JobLists.{namesOf}
+use Rattle.planfile.specs.Reader.{position, planFrom, Row}
 
 -- The number in the w bytes at an offset, highest first; of fewer bytes if the file ends before.
 abbrev pub valueAt : (file : Bytes) (w : ℕ) (at : Offset) → ℕ

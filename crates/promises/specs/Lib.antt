@@ -1,6 +1,5 @@
 pub mod Night
 pub mod Demands
-pub mod Numbers
 pub mod HostNight
 pub mod Grounds
 pub mod FileFaults

@@ -17,14 +17,15 @@ use Rattle.plan.specs.Rules.{nameAllowed, isAbsent, gradeAllowed, windowAllowed
 use Rattle.plan.specs.declared.kinds.Job.{Job}
 use Rattle.plan.specs.declared.kinds.Plan.{Plan}
 use Rattle.base.proofs.Logic.{both}
-use Rattle.fields.specs.Bytes.{bytes}
 use Rattle.fields.specs.Parsers.{got}
 use Rattle.planfields.specs.Records.{jobName, oneJob}
-use Rattle.planfile.specs.Reader.{namesOf, allJobs}
+use Rattle.plan.specs.JobLists.{namesOf}
+use Rattle.planfile.specs.Reader.{allJobs}
 use Rattle.planwriter.specs.Writing.{jobBytes, jobsBytes}
 use Rattle.fields.proofs.ByteLaws.{Octets}
 use Rattle.fields.proofs.ParserLaws.{through, same-value, same-next}
-use Rattle.planfile.proofs.JobLoop.{length-snoc, jobs-step, jobs-done}
+use Rattle.plan.proofs.JobLists.{length-snoc}
+use Rattle.planfile.proofs.JobLoop.{jobs-step, jobs-done}
 use Rattle.fields.proofs.BytesAt.{Stands, stands-none, stands-then, stands-first, stands-rest, stands-at}
 use Rattle.fields.proofs.RoundTripLaws.{Law, law-as, here-law, then-law, test-law, done-law, field-law, checked-law, length-law}
 

@@ -13,7 +13,8 @@ use Rattle.plan.specs.declared.kinds.Job.{Job}
 use Rattle.plan.specs.declared.kinds.Plan.{Plan}
 use Rattle.plan.proofs.Names.{prefix-at}
 use Rattle.planfields.specs.Records.{Head}
-use Rattle.planfile.specs.Reader.{namesOf, planFrom}
+use Rattle.plan.specs.JobLists.{namesOf}
+use Rattle.planfile.specs.Reader.{planFrom}
 use Rattle.planwriter.specs.Writing.{rowAt, rowsBytes}
 use Rattle.base.proofs.Padding.{getD-pad}
 

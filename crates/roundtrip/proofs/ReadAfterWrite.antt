@@ -26,7 +26,8 @@ use Rattle.plan.proofs.VersionLimits.{count-written}
 use Rattle.fields.specs.Bytes.{bytes}
 use Rattle.fields.specs.Parsers.{got, field, checked, opening}
 use Rattle.planfields.specs.Records.{Head, head}
-use Rattle.planfile.specs.Reader.{namesOf, allJobs, planFrom, preamble, allRows, readFile}
+use Rattle.plan.specs.JobLists.{namesOf}
+use Rattle.planfile.specs.Reader.{allJobs, planFrom, preamble, allRows, readFile}
 use Rattle.planwriter.specs.Writing.{jobsBytes, rowBytes, rowsBytes, rowCount, body, written}
 use Rattle.planwriter.specs.inner.Writable.{Writable}
 use Rattle.fields.proofs.ByteLaws.{length-bytes}

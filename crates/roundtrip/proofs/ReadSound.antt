@@ -21,11 +21,12 @@ use Rattle.base.proofs.Below.{every-ext, every-all}
 use Rattle.fields.specs.Parsers.{got}
 use Rattle.planfields.specs.Records.{oneJob}
 use Rattle.plan.proofs.VersionLimits.{count-in-hand}
-use Rattle.planfile.specs.Reader.{namesOf, allJobs, planFrom, Contents, readFile}
+use Rattle.plan.specs.JobLists.{namesOf}
+use Rattle.planfile.specs.Reader.{allJobs, planFrom, Contents, readFile}
 use Rattle.planwriter.specs.Writing.{written}
 use Rattle.fields.proofs.ByteLaws.{Octets}
 use Rattle.fields.proofs.ParserLaws.{through, same-value}
-use Rattle.planfile.proofs.JobLoop.{length-snoc, room-length}
+use Rattle.plan.proofs.JobLists.{length-snoc, records-length}
 use Rattle.planwriter.proofs.WrittenFile.{counted-is}
 use Rattle.roundtrip.proofs.JobRoundTrip.{Readable, job-law}
 use Rattle.roundtrip.proofs.KeptPlan.{names-prefix, kept}
@@ -133,7 +134,7 @@ read-proper file octets {held} e =
     (record {
       is = sound-read file octets r;
       exact = ap length (f .is) ∙ f .long;
-      records = room-length (r .jobs) (omega (arith, many, r .fine .few));
+      records = records-length (r .jobs) (omega (arith, many, r .fine .few));
       named = λ i h. each file octets r i (rw (count-is file octets r) h) .fits;
       entries = λ k. rw (f .is) (f .small k);
     })

@@ -22,7 +22,8 @@ use Rattle.plan.proofs.VersionLimits.{version-written}
 use Rattle.fields.specs.Bytes.{bytes}
 use Rattle.fields.specs.Parsers.{got, checked, ended}
 use Rattle.planfields.specs.Records.{Head, head}
-use Rattle.planfile.specs.Reader.{namesOf, allJobs, planFrom, Preamble, preamble, allRows, Contents, planFile, readFile}
+use Rattle.plan.specs.JobLists.{namesOf}
+use Rattle.planfile.specs.Reader.{allJobs, planFrom, Preamble, preamble, allRows, Contents, planFile, readFile}
 use Rattle.planwriter.specs.Writing.{rowsBytes, rowCount, body, written}
 use Rattle.fields.proofs.ByteLaws.{Octets}
 use Rattle.fields.proofs.ParserLaws.{through, checked-is, same-value, same-next}

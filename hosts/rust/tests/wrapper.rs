@@ -1,6 +1,7 @@
-//! The wrapper as a project of one's own sees it: what goes in comes out, and what no plan or run can be is refused in words.
+//! The wrapper as a project of one's own sees it: what goes in comes out, and what no plan, run or job list can be is refused in words.
 
-use gateway::{index, refusal, Grade, Job, Outcome, Plan, Run, MOST_JOBS, PLAN_WORDS, RUN_WORDS, TABLE_PLACES};
+use gateway::{export_jobs, import_jobs, index, refusal, Grade, Job, Outcome, Plan, Refusal, Run};
+use gateway::{LONGEST_LIST, MOST_JOBS, PLAN_WORDS, RUN_WORDS, TABLE_PLACES};
 
 const ESSENTIAL: usize = 1;
 
@@ -171,4 +172,72 @@ fn a_plan_in_hand_is_refused_at_no_byte() {
     // The same number as the reader's, but no file.
     let too_many = Plan::new(2, 1, &[jobs()[0]; MOST_JOBS + 1]).unwrap_err();
     assert_eq!((too_many.number(), too_many.offset()), (refusal::WRONG_JOB_COUNT, None));
+}
+
+/// The text of plan E's jobs.
+const TEXT: &str = "name,grade,release,size,deadline\r\nMirror-A,L,0,6,5\r\nmirror-A,H,1,8,10\r\n";
+
+/// The refusal of the text in which one part is another.
+fn refused_with(part: &str, other: &str) -> Refusal {
+    assert!(TEXT.contains(part));
+    import_jobs(TEXT.replace(part, other).as_bytes()).unwrap_err()
+}
+
+#[test]
+fn jobs_are_exported_and_imported_again() {
+    assert_eq!(export_jobs(&jobs()).unwrap(), TEXT.as_bytes());
+    assert_eq!(import_jobs(TEXT.as_bytes()), Ok(jobs().to_vec()));
+    let quoted = TEXT.replace("mirror-A,H,1", r#""mirror-A","H","1""#);
+    assert_eq!(import_jobs(quoted.as_bytes()), Ok(jobs().to_vec()));
+    let of_plan: Vec<Job> = plan_e().jobs().collect();
+    assert_eq!(export_jobs(&of_plan).unwrap(), TEXT.as_bytes());
+}
+
+#[test]
+fn a_name_is_in_quotes_only_if_it_must_be() {
+    let named = |name: &[u8; 8]| Job { name: *name, ..jobs()[0] };
+    let exported = export_jobs(&[named(b"a,\"b\",c\""), named(b"a;'b\\'c+")]).unwrap();
+    let lines = String::from_utf8(exported.clone()).unwrap();
+    assert!(lines.ends_with("\r\n\"a,\"\"b\"\",c\"\"\",L,0,6,5\r\na;'b\\'c+,L,0,6,5\r\n"), "{lines}");
+    let imported = import_jobs(&exported).unwrap();
+    assert_eq!([imported[0].name_text(), imported[1].name_text()], ["a,\"b\",c\"", "a;'b\\'c+"]);
+}
+
+/// The second line begins at byte 52, its name there, its grade at 61 and its release at 63.
+#[test]
+fn a_refused_text_says_at_which_byte() {
+    let places = [
+        (refused_with("name", "Name"), refusal::WRONG_HEADER, 0),
+        (refused_with("10\r\n", "10\n"), refusal::WRONG_LINE, 52),
+        (refused_with("mirror-A", "mirror A"), refusal::WRONG_NAME_BYTE, 52),
+        (refused_with("mirror-A", "Mirror-A"), refusal::NAME_TAKEN, 52),
+        (refused_with("H", "HH"), refusal::WRONG_GRADE, 61),
+        (refused_with("8,10", "8,1"), refusal::WRONG_JOB_BOUNDS, 63),
+    ];
+    for (refused, number, offset) in places {
+        assert_eq!((refused.number(), refused.offset()), (number, Some(offset)), "{refused}");
+    }
+    assert_eq!(refused_with("H", "HH").to_string(), "refused 8: a grade is neither LO nor HI (byte 61)");
+    let empty = import_jobs(&[]).unwrap_err();
+    assert_eq!(empty.to_string(), "refused 24: the job list does not begin with its header (byte 0)");
+    let no_line = import_jobs(TEXT[..34].as_bytes()).unwrap_err();
+    assert_eq!((no_line.number(), no_line.offset()), (refusal::WRONG_JOB_COUNT, Some(34)));
+}
+
+#[test]
+fn jobs_that_no_list_has_are_refused_at_no_byte() {
+    let number = |jobs: &[Job]| {
+        let refused = export_jobs(jobs).unwrap_err();
+        assert_eq!(refused.offset(), None);
+        refused.number()
+    };
+    assert_eq!(number(&[]), refusal::UNSOUND);
+    assert_eq!(number(&[jobs()[0]; 2]), refusal::UNSOUND);
+    assert_eq!(number(&[Job { size: u64::MAX, ..jobs()[0] }]), refusal::UNSOUND);
+    let mut many: Vec<Job> = (0..=MOST_JOBS as u8).map(|i| Job { name: [b'a' + i % 26, b'0' + i / 26, b'-', b'-', b'-', b'-', b'-', b'-'], ..jobs()[0] }).collect();
+    assert_eq!(number(&many), refusal::UNSOUND);
+    many.pop();
+    let exported = export_jobs(&many).unwrap();
+    assert!(exported.len() <= LONGEST_LIST);
+    assert_eq!(import_jobs(&exported), Ok(many));
 }

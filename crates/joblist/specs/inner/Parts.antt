@@ -7,6 +7,7 @@ use Prim.Native.Nat.{ℕ}
 use lib.Dec.{eqb}
 use Rattle.plan.specs.Refusal.{Refusal, noRefusal}
 use Rattle.plan.specs.Rules.{lo, hi}
+use Rattle.plan.specs.JobLists.{listOf}
 use Rattle.plan.specs.declared.kinds.Job.{Job}
 use Rattle.fields.specs.declared.field.Passed.the-variants as passed
 use Rattle.fields.specs.Parsers.{Parsed, got, no}
@@ -73,5 +74,5 @@ jobRefusal (job.Refused refusal) = refusal
 -- The contract of `read_lines`: the offset after the last line and the jobs; after a refusal, only the
 -- refusal.
 abbrev pub LinesAnswer : Parsed (List Job) → Lines → Type 0
-LinesAnswer (got jobs next) r = (r .answer ≡ passed.Next next) × (r .list ≡ rule.listOf jobs)
+LinesAnswer (got jobs next) r = (r .answer ≡ passed.Next next) × (r .list ≡ listOf jobs)
 LinesAnswer (no refusal) r = r .answer ≡ passed.Refused refusal

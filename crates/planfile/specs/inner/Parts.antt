@@ -6,6 +6,7 @@ use Prim.Native.Nat.{ℕ, _<_}
 use lib.ListN.{length, getD, drop, replicate}
 use Rattle.plan.specs.Edition.{places}
 use Rattle.plan.specs.Refusal.{Refusal, noRefusal}
+use Rattle.plan.specs.JobLists.{namesOf}
 use Rattle.plan.specs.declared.kinds.Job.{Job}
 use Rattle.fields.specs.declared.field.Field.the-variants as field
 use Rattle.fields.specs.declared.field.Passed.{Passed}
@@ -36,7 +37,7 @@ rowRefusal (row.Refused refusal) = refusal
 -- and the names stored over the prefix of `first`; after a refusal, only the refusal.
 abbrev pub JobsAnswer : Head → List ℕ → Parsed (List Job) → PlanPassed → List ℕ → Type 0
 JobsAnswer h first (got jobs next) r names =
-    (r .answer ≡ passed.Next next) × (r .plan ≡ rule.planFrom h jobs) × (names ≡ rule.namesOf jobs ++ drop (h .count) first)
+    (r .answer ≡ passed.Next next) × (r .plan ≡ rule.planFrom h jobs) × (names ≡ namesOf jobs ++ drop (h .count) first)
 JobsAnswer h first (no refusal) r names = r .answer ≡ passed.Refused refusal
 
 -- The contract of `read_preamble`: the row count, the plan and the names;

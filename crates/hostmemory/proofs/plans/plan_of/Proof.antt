@@ -1,94 +1,27 @@
--- `hostmemory::plans::plan_of` meets its contract: too few words encode zeros. Loop
--- invariant: the first i jobs are decoded.
-use mathlib.Core.Path.{_≡_, refl, sym, _∙_, ap}
-use Prim.Native.Nat.{_-_, _≤_}
-use native.Mathlib.Numerals.{add-one}
-use native.Mathlib.Omega.{arith}
-use lib.ListN.{length, take, length-set}
-use lib.Seq.{take-suc-set, take-all}
-use Rattle.plan.specs.Edition.{mostJobs}
-use Rattle.hostmemory.specs.Memory.{jobsTo, planIn, planOf}
-use borrow.Author.Needs.{needs}
+-- `hostmemory::plans::plan_of` meets its contract: too few words encode zeros.
+use mathlib.Core.Path.{refl}
 use borrow.Author.Tests.{lt-ltb, le-ltb}
+use Rattle.hostmemory.specs.Memory.{planIn, planOf}
+use borrow.Author.Needs.{needs}
 use Rattle.hostmemory.proofs.plans.plan_of.Statement.{statement}
 use Rattle.hostmemory.proofs.plans.plan_of.Tie as tie
 
-abbrev Inv-loop : tie.InvT-loop
-Inv-loop words n d count jobs₀ i₀ jobs i = (i ≤ mostJobs) × (length jobs ≡ mostJobs) × (take i jobs ≡ jobsTo words i)
-
-abbrev μ-loop : tie.MeasureT-loop
-μ-loop words n d count jobs₀ i₀ jobs i = mostJobs - i
-
-outline-in-requires : tie.Need-outline-in-requires Inv-loop μ-loop
+outline-in-requires : tie.Need-outline-in-requires
 outline-in-requires c κs = search needs
 
-no-job-requires : tie.Need-no-job-requires Inv-loop μ-loop
+no-job-requires : tie.Need-no-job-requires
 no-job-requires c κs = search needs
 
-returns : tie.Need-returns Inv-loop μ-loop
+returns : tie.Need-returns
 unfolding planOf
-returns c = rw (c .before .before .before .before .outline-in .ensures, lt-ltb _ _ (c .if1 .taken), c .before .no-job .ensures) refl
+returns c = rw (c .before .before .before .before .outline-in .ensures, lt-ltb _ _ (c .before .if1 .taken), c .no-job .ensures) refl
 
-loop-holds : tie.Need-loop-holds Inv-loop μ-loop
-unfolding jobsTo
-loop-holds c = (omega arith, refl, refl)
+jobs-in-requires : tie.Need-jobs-in-requires
+jobs-in-requires c κs = search needs
 
-mul-job-at : tie.Need-mul-job-at Inv-loop μ-loop
-mul-job-at c = search needs
-
-add-job-at : tie.Need-add-job-at Inv-loop μ-loop
-add-job-at c = search needs
-
-job-at-requires : tie.Need-job-at-requires Inv-loop μ-loop
-job-at-requires c κs = search needs
-
-mul-jobs : tie.Need-mul-jobs Inv-loop μ-loop
-mul-jobs c = search needs
-
-array-set-from-jobs : tie.Need-array-set-from-jobs Inv-loop μ-loop
-array-set-from-jobs c = search needs
-
-add-i : tie.Need-add-i Inv-loop μ-loop
-add-i c = search needs
-
-loop-less : tie.Need-loop-less Inv-loop μ-loop
-loop-less c = omega arith
-
-loop-again : tie.Need-loop-again Inv-loop μ-loop
-unfolding jobsTo
-loop-again c =
-    let l = c .before .before .loop in
-    let inv = l .inv in (
-      omega arith,
-      simp length-set (inv .1),
-      rw (add-one, take-suc-set (l .jobs) (l .i) _ (omega arith), inv .2, c .job-at .ensures) refl,
-    )
-
-returns-2 : tie.Need-returns-2 Inv-loop μ-loop
+returns-2 : tie.Need-returns-2
 unfolding planIn planOf
-returns-2 c =
-    let at-loop = c .before in
-    let l = at-loop .loop in
-    let whole : l .i ≡ mostJobs = omega arith in
-    let jobs = sym (take-all mostJobs (l .jobs) (omega (arith, l .inv .1))) ∙ ap (λ i. take i (l .jobs)) (sym whole) ∙ l .inv .2 ∙ ap (jobsTo _) whole in
-    rw (at-loop .before .before .before .before .before .outline-in .ensures, jobs, le-ltb _ _ (at-loop .before .if1 .left)) refl
+returns-2 c = rw (c .before .before .before .before .outline-in .ensures, le-ltb _ _ (c .before .if1 .left), c .jobs-in .ensures) refl
 
 pub plan-of-spec : {M : Type 1} → statement M
-plan-of-spec =
-    tie.close
-    (tie.spec
-    Inv-loop
-    μ-loop
-    outline-in-requires
-    no-job-requires
-    returns
-    loop-holds
-    mul-job-at
-    add-job-at
-    job-at-requires
-    mul-jobs
-    array-set-from-jobs
-    add-i
-    loop-less
-    loop-again
-    returns-2)
+plan-of-spec = tie.close (tie.spec outline-in-requires no-job-requires returns jobs-in-requires returns-2)

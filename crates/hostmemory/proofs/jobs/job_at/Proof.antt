@@ -1,8 +1,8 @@
--- `hostmemory::plans::job_at` meets its contract.
+-- `hostmemory::jobs::job_at` meets its contract.
 use mathlib.Core.Path.{refl}
 use borrow.Author.Needs.{needs}
-use Rattle.hostmemory.proofs.plans.job_at.Statement.{statement}
-use Rattle.hostmemory.proofs.plans.job_at.Tie as tie
+use Rattle.hostmemory.proofs.jobs.job_at.Statement.{statement}
+use Rattle.hostmemory.proofs.jobs.job_at.Tie as tie
 
 add-as8 : tie.Need-add-as8
 add-as8 c = search needs

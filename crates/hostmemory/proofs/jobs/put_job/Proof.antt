@@ -1,12 +1,12 @@
--- `hostmemory::plans::put_job` meets its contract: each word is written just after the one before.
+-- `hostmemory::jobs::put_job` meets its contract: each word is written just after the one before.
 use mathlib.Core.Path.{_≡_, refl}
 use Prim.Native.Nat.{suc, _+_}
 use native.Mathlib.Omega.{arith}
 use native.Mathlib.Numerals.{add-one}
 use lib.ListN.{length-set}
 use borrow.Author.Needs.{needs}
-use Rattle.hostmemory.proofs.plans.put_job.Statement.{statement}
-use Rattle.hostmemory.proofs.plans.put_job.Tie as tie
+use Rattle.hostmemory.proofs.jobs.put_job.Statement.{statement}
+use Rattle.hostmemory.proofs.jobs.put_job.Tie as tie
 
 mul-words : tie.Need-mul-words
 mul-words c = search needs

@@ -1,0 +1,7 @@
+/* The Rattle kit's clang comes without headers: what the host needs of stdlib.h. */
+#ifndef KIT_STDLIB_H
+#define KIT_STDLIB_H
+#include <stddef.h>
+void exit(int status);
+void *realloc(void *from, size_t size);
+#endif
