@@ -5,8 +5,8 @@ use mathlib.Core.List.{List}
 use Prim.Native.Nat.{ℕ}
 use lib.IntN.{ℤ}
 use Rattle.planfile.specs.Reader.{nameFound}
-use Rattle.gateway.specs.Calls.{HostJudgeEffect, HostSlackEffect, HostStartEffect, HostStepEffect, HostReadEffect, HostWriteEffect, judgeCall, startCall, stepCall, outcomeCall, slackCall, readCall, writeCall}
-use Rattle.gateway.specs.Answers.{HostReads, HostWrites, HostShows, HostJudges, HostMeasures, HostStarts, HostSteps, HostEnds}
+use Rattle.gateway.specs.Calls.{HostJudgeEffect, HostSlackEffect, HostStartEffect, HostStepEffect, HostReadEffect, HostWriteEffect, HostImportEffect, HostExportEffect, judgeCall, startCall, stepCall, outcomeCall, slackCall, readCall, writeCall, importCall, exportCall}
+use Rattle.gateway.specs.Answers.{HostReads, HostWrites, HostShows, HostJudges, HostMeasures, HostStarts, HostSteps, HostEnds, HostImports, HostExports}
 
 -- `gateway_read`.
 pub one-read : (file plan table : List ℕ) (was r s : ℕ) (words others cells other-cells : List ℕ) (offset other : ℕ) → HostReads file plan table was r words cells offset
@@ -89,3 +89,23 @@ one-outcome plan run position r s d e = d ∙ sym e
 
 pub some-outcome : (plan run : List ℕ) (position : ℕ) → (r : ℕ) × HostEnds plan run position r
 some-outcome plan run position = (outcomeCall plan run position, refl)
+
+-- `gateway_import`.
+pub one-import : (text list : List ℕ) (was r s : ℕ) (words others : List ℕ) (offset other : ℕ) → HostImports text list was r words offset
+    → HostImports text list was s others other → (r ≡ s) × (words ≡ others) × (offset ≡ other)
+one-import text list was r s words others offset other d e =
+    let same = d ∙ sym e in
+    (ap (λ (x : HostImportEffect). x .number) same, ap (λ (x : HostImportEffect). x .list) same, ap (λ (x : HostImportEffect). x .offset) same)
+
+pub some-import : (text list : List ℕ) (was : ℕ) → (r : ℕ) × (words : List ℕ) × (offset : ℕ) × HostImports text list was r words offset
+some-import text list was = let c = importCall text list was in (c .number, c .list, c .offset, refl)
+
+-- `gateway_export`.
+pub one-export : (list out : List ℕ) (was r s : ℕ) (left other : List ℕ) (length long : ℕ) → HostExports list out was r left length
+    → HostExports list out was s other long → (r ≡ s) × (left ≡ other) × (length ≡ long)
+one-export list out was r s left other length long d e =
+    let same = d ∙ sym e in
+    (ap (λ (x : HostExportEffect). x .number) same, ap (λ (x : HostExportEffect). x .out) same, ap (λ (x : HostExportEffect). x .length) same)
+
+pub some-export : (list out : List ℕ) (was : ℕ) → (r : ℕ) × (left : List ℕ) × (length : ℕ) × HostExports list out was r left length
+some-export list out was = let c = exportCall list out was in (c .number, c .out, c .length, refl)

@@ -5,7 +5,7 @@ use Prim.Native.Nat.{ℕ}
 use lib.IntN.{ℤ}
 use Rattle.plan.specs.Kinds.{Bytes, Offset, Position, Row, Speed, Table, Words}
 use Rattle.planfile.specs.Reader.{nameFound}
-use Rattle.gateway.specs.Calls.{judgeCall, startCall, stepCall, outcomeCall, slackCall, readCall, writeCall}
+use Rattle.gateway.specs.Calls.{judgeCall, startCall, stepCall, outcomeCall, slackCall, readCall, writeCall, importCall, exportCall}
 
 -- The contract of `gateway_read`: the number, the lent plan, the table and the offset.
 abbrev pub HostReads : (file : Bytes) (plan : Words) (table : Table) (offset : Offset) (r : ℕ) (plan-left : Words) (table-left : Table) (offset-left : Offset) → Type 0
@@ -44,3 +44,13 @@ HostSteps plan table run v grants r run-left grants-left =
 -- The contract of `gateway_outcome`: the number.
 abbrev pub HostEnds : (plan run : Words) (position : Position) (r : ℕ) → Type 0
 HostEnds plan run position r = r ≡ outcomeCall plan run position
+
+-- The contract of `gateway_import`: the number, the lent list and the offset.
+abbrev pub HostImports : (text : Bytes) (list : Words) (offset : Offset) (r : ℕ) (list-left : Words) (offset-left : Offset) → Type 0
+HostImports text list offset r list-left offset-left =
+    record { number = r; list = list-left; offset = offset-left } ≡ importCall text list offset
+
+-- The contract of `gateway_export`: the number, the length and the output, whatever the length was before.
+abbrev pub HostExports : (list : Words) (out : Bytes) (length : ℕ) (r : ℕ) (out-left : Bytes) (length-left : ℕ) → Type 0
+HostExports list out length r out-left length-left =
+    record { number = r; length = length-left; out = out-left } ≡ exportCall list out length

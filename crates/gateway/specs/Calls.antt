@@ -13,8 +13,10 @@ use Rattle.plan.specs.Report.{Report, doneNumber, numberOf}
 use Rattle.judge.specs.Slack as slack
 use Rattle.planfile.specs.Reader.{ReadEffect, reader}
 use Rattle.planwriter.specs.Writing as writing
+use Rattle.joblist.specs.Import.{ImportEffect, imported}
+use Rattle.joblist.specs.Export as export
 use Rattle.dispatch.specs.Step.{SlotEffect, Ending, met, discarded, missed, stillOpen, refused, started, stepped, outcome}
-use Rattle.hostmemory.specs.Memory.{locationWords, shortPlan, shortRun, planOf, planPut, marksHold, runOf, runPut}
+use Rattle.hostmemory.specs.Memory.{locationWords, shortList, shortPlan, shortRun, listHeld, listPut, planOf, planPut, marksHold, runOf, runPut}
 
 -- The number for no HI job. Like those of the outcomes it is above
 -- every refusal number, which has one byte.
@@ -221,3 +223,45 @@ wroteWords o = record { number = writtenNumber (o .answer); length = writtenLeng
 unfoldable pub writeCall : (plan : Words) (table : Table) (out : Bytes) (length : ℕ) → HostWriteEffect
 writeCall plan table out length =
     cond (shortPlan plan) (record { number = bufferTooShort; length = length; out = out }) (wroteWords (writing.writer (planOf plan) table out))
+
+-- The effect of the import's call.
+pub record HostImportEffect : Type 0 where
+  pub number : ℕ
+  pub list : List ℕ
+  pub offset : ℕ
+
+-- The effect of the import on a lent list, and where a refused text is wrong: 0 if it was read.
+abbrev pub importWords : (left : ImportEffect) (list : Words) → HostImportEffect
+importWords left list = record { number = numberOf (left .answer); list = listPut list (left .list); offset = firstOf (left .answer) }
+
+-- The import's call: 22 if the list is too short, with nothing changed; otherwise the effect of the import,
+-- which yields no jobs with every refusal.
+unfoldable pub importCall : (text : Bytes) (list : Words) (offset : Offset) → HostImportEffect
+importCall text list offset =
+    cond (shortList list) (record { number = bufferTooShort; list = list; offset = offset }) (importWords (imported text) list)
+
+-- The effect of the export's call.
+pub record HostExportEffect : Type 0 where
+  pub number : ℕ
+  pub length : ℕ
+  pub out : List ℕ
+
+-- The number of an export's answer.
+abbrev pub exportedNumber : export.Answer → ℕ
+exportedNumber (export.wrote n) = doneNumber
+exportedNumber (export.refused number) = number
+
+-- The length of the exported text; 0 after a refusal.
+abbrev pub exportedLength : export.Answer → ℕ
+exportedLength (export.wrote n) = n
+exportedLength (export.refused number) = 0
+
+-- The effect of the export, with the length.
+abbrev pub exportWords : export.ExportEffect → HostExportEffect
+exportWords o = record { number = exportedNumber (o .answer); length = exportedLength (o .answer); out = o .out }
+
+-- The export's call: 22 if the list is too short, with the length and the output unchanged; otherwise the
+-- effect of the export.
+unfoldable pub exportCall : (list : Words) (out : Bytes) (length : ℕ) → HostExportEffect
+exportCall list out length =
+    cond (shortList list) (record { number = bufferTooShort; length = length; out = out }) (exportWords (export.exported (listHeld list) out))

@@ -2,6 +2,8 @@
 // and numbers above one byte for the rest.
 use dispatch::answers::Answer;
 use dispatch::answers::Outcome;
+use joblist::export::Exported;
+use joblist::import::Answer as Import;
 use judge::answers::Slack;
 use judge::answers::Verdict;
 use judge::answers::number_of;
@@ -14,8 +16,9 @@ ghost use Rattle.plan.specs.Report.{numberOf};
 ghost use Rattle.judge.specs.Answers.{verdictView, slackView};
 ghost use Rattle.planfile.specs.Answers as files;
 ghost use Rattle.planwriter.specs.Answers as written;
+ghost use Rattle.joblist.specs.Answers as lists;
 ghost use Rattle.dispatch.specs.Answers as slots;
-ghost use Rattle.gateway.specs.Calls.{firstOf, secondOf, endingNumber, figureNumber, figureSlack, figureFirst, figureSecond, writtenNumber, writtenLength};
+ghost use Rattle.gateway.specs.Calls.{firstOf, secondOf, endingNumber, figureNumber, figureSlack, figureFirst, figureSecond, writtenNumber, writtenLength, exportedNumber, exportedLength};
 
 pub const NONE_ESSENTIAL: u32 = 256;
 
@@ -163,5 +166,43 @@ pub(crate) fn written_length(w: Written) -> usize
     match w {
         Written::Length(n) => n,
         Written::Refused(_) => 0,
+    }
+}
+
+pub(crate) fn imported_number(a: Import) -> u32
+    ensures { λ r. ⌜ r ≡ numberOf (lists.answerView a) ⌝ }
+{
+    match a {
+        Import::Read => DONE as u32,
+        Import::Refused(refusal) => refusal.number as u32,
+    }
+}
+
+// Where a refused text is wrong; 0 if it was read.
+pub(crate) fn imported_offset(a: Import) -> usize
+    ensures { λ r. ⌜ r ≡ firstOf (lists.answerView a) ⌝ }
+{
+    match a {
+        Import::Read => 0,
+        Import::Refused(refusal) => refusal.offset,
+    }
+}
+
+pub(crate) fn exported_number(e: Exported) -> u32
+    ensures { λ r. ⌜ r ≡ exportedNumber (lists.exportView e) ⌝ }
+{
+    match e {
+        Exported::Length(_) => DONE as u32,
+        Exported::Refused(number) => number as u32,
+    }
+}
+
+// The length of an exported text; 0 after a refusal.
+pub(crate) fn exported_length(e: Exported) -> usize
+    ensures { λ r. ⌜ r ≡ exportedLength (lists.exportView e) ⌝ }
+{
+    match e {
+        Exported::Length(n) => n,
+        Exported::Refused(_) => 0,
     }
 }
