@@ -1,27 +1,29 @@
--- Laws of the columns that are filled from a host's words.
+-- Laws of what a host's words encode: a list's jobs, and the columns that are filled from a plan's words.
 use mathlib.Core.Path.{_≡_, refl, sym, _∙_, ap, ap₂}
 use mathlib.Core.Bool.{Bool, true, false, true≢false, cond, _&&_, _||_, and-false, and-assoc}
 use mathlib.Core.List.{List, [], _∷_}
-use Prim.Native.Nat.{ℕ, zero, suc, _+_, _≤_, _<_, min}
+use Prim.Native.Nat.{ℕ, zero, suc, _+_, _≤_, _<_, _^_, min}
 use native.Mathlib.Nat.{mod-eq-of-lt}
 use native.Mathlib.Omega.{arith}
 use borrow.Author.Tests.{lt-ltb, le-ltb, ltb-true, leb-true, eqb-true}
 use lib.Bits.{bitOr}
-use lib.Dec.{leb, ltb, eqb}
-use lib.ListN.{length, getD, length-append, List·getD-append}
+use lib.Dec.{leb, ltb, eqb, lit<}
+use lib.ListN.{length, getD, length-append, List·getD-append, List·getD-eq-default}
 use lib.Seq.{getD-at}
 use Rattle.base.specs.Below.{every}
 use Rattle.base.proofs.Below.{every-next, every-at, every-all}
 use Rattle.base.proofs.BitLaws.{or-below}
 use Rattle.base.proofs.FillLaws.{filled-at}
-use Rattle.base.proofs.Logic.{if-true, both, below-or-last}
+use Rattle.base.proofs.Logic.{if-true, if-less, both, below-or-last}
+use Rattle.base.proofs.Padding.{getD-replicate}
 use Rattle.plan.specs.Edition.{mostJobs, mostDeadline, mostSize}
-use Rattle.plan.specs.Rules.{noJob, noPlan, jobOf, jobsOf, counted, release, size, deadline, lo, hi, gradeAllowed, windowAllowed, sizeAllowed, ratesHold, countHolds, gradesHold, boundsHold}
+use Rattle.plan.specs.JobLists.{listOf}
+use Rattle.plan.specs.Rules.{noJob, noPlan, jobIn, jobOf, jobsOf, counted, release, size, deadline, lo, hi, gradeAllowed, windowAllowed, sizeAllowed, ratesHold, countHolds, gradesHold, boundsHold}
 use Rattle.plan.specs.Columns.{Columns, columnValues, inColumn}
 use Rattle.plan.specs.declared.kinds.Job.{Job}
 use Rattle.dispatch.specs.Step.{slotSound}
 use Rattle.dispatch.specs.declared.Run.{Run}
-use Rattle.hostmemory.specs.Memory.{headWords, planWords, shortPlan, jobIndex, jobStart, jobAt, jobsTo, planIn, planOf, outlineOf, gradeWord, releaseWord, sizeWord, deadlineWord, gradeValues, jobFits, wordsFit}
+use Rattle.hostmemory.specs.Memory.{countWords, headWords, planWords, shortList, shortPlan, jobIndex, jobStart, jobAt, jobsTo, listIn, listHeld, planIn, planOf, outlineOf, gradeWord, releaseWord, sizeWord, deadlineWord, gradeValues, jobFits, wordsFit}
 use Rattle.hostmemory.specs.Answers.{columnIn, ReadsColumns}
 
 -- The tests so far (a, b) and those of one job (g, r, s, d), regrouped so that the job's stand together.
@@ -59,6 +61,29 @@ job-read w from (suc n) i h =
     below-or-last i n h
     (λ l. List·getD-append (jobsTo w from n) (jobAt w (jobIndex from n) ∷ []) noJob i (omega (arith, jobs-count w from n)) ∙ job-read w from n i l)
     (λ q. rw q (getD-at (jobsTo w from n) (jobAt w (jobIndex from n)) [] noJob n (jobs-count w from n)))
+
+-- The job list that words encode has all its records, and names of eight bytes if the words have 64 bits.
+pub list-records : (w : List ℕ) → length (listHeld w .jobs) ≡ mostJobs
+unfolding listIn listHeld
+list-records w = go (shortList w)
+  where
+    go : (t : Bool) → length (cond t (listOf []) (listIn w) .jobs) ≡ mostJobs
+    go true = refl
+    go false = jobs-count w countWords mostJobs
+
+pub list-name : (w : List ℕ) → ((k : ℕ) → getD w k 0 < 256 ^ 8) → (i : ℕ) → jobIn (listHeld w) i .name .0 < 256 ^ 8
+unfolding listIn listHeld
+list-name w narrow i = go (shortList w)
+  where
+    none : noJob .name .0 < 256 ^ 8
+    none = lit< tt
+
+    go : (t : Bool) → jobIn (cond t (listOf []) (listIn w)) i .name .0 < 256 ^ 8
+    go true = rw (getD-replicate mostJobs i noJob) none
+    go false =
+        if-less i mostJobs
+        (λ h. rw (job-read w countWords mostJobs i h) (narrow (jobIndex countWords i)))
+        (λ h. rw (List·getD-eq-default (jobsTo w countWords mostJobs) noJob {n = i} (omega (arith, jobs-count w countWords mostJobs))) none)
 
 -- A counted job of the plan that words encode.
 pub job-of-words : (w : List ℕ) (i : ℕ) → i < counted (planOf w) → jobOf (planOf w) i ≡ jobAt w (jobStart i)

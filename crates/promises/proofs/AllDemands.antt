@@ -3,6 +3,7 @@ use mathlib.Core.Path.{_≡_, sym, _∙_}
 use mathlib.Core.List.{List}
 use Prim.Native.Nat.{ℕ}
 use Rattle.promises.specs.Demands.{ExactlyOne, EveryCallIsDetermined, VerdictFileAndSlotAreExact, AllDemands}
+use Rattle.joblist.proofs.Determined as lists
 use Rattle.promises.proofs.Determined as unique
 use Rattle.promises.proofs.Demand2.{judge-is-exact, read-and-written, written-and-read, grants-are-the-rule}
 use Rattle.promises.proofs.Demand3.{promise-kept}
@@ -27,6 +28,8 @@ every-call-is-determined =
       start = λ p table. single (unique.some-start p table) (unique.one-start p table);
       step = λ p table run v grants. both (unique.some-step p table run v grants) (unique.one-step p table run v grants);
       outcome = λ p run position. single (unique.some-outcome p run position) (unique.one-outcome p run position);
+      importing = λ text. single (lists.some-import text) (lists.one-import text);
+      exporting = λ list out. both (lists.some-export list out) (lists.one-export list out);
     }
 
 verdict-file-and-slot-are-exact : VerdictFileAndSlotAreExact

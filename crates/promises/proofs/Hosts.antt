@@ -39,7 +39,7 @@ use Rattle.promises.proofs.SameVerdict.{same-verdict, same-slack, start
 use Rattle.promises.proofs.SameFile.{same-written}
 
 -- A member of a list is a member of a longer one.
-or-one : (x y : ℕ) (l : List ℕ) → isOneOf l x ≡ true → isOneOf (y ∷ l) x ≡ true
+pub or-one : (x y : ℕ) (l : List ℕ) → isOneOf l x ≡ true → isOneOf (y ∷ l) x ≡ true
 or-one x y l h = by (eqb x y)
   where
     by : (b : Bool) → (b || isOneOf l x) ≡ true
@@ -47,7 +47,7 @@ or-one x y l h = by (eqb x y)
     by false = h
 
 -- The number of a report is that of no refusal, or one of those that can refuse it.
-report-one : (numbers : List ℕ) (r : Report) → ((number : ℕ) (rest : Report) → r ≡ number ∷ rest → isOneOf numbers number ≡ true)
+pub report-one : (numbers : List ℕ) (r : Report) → ((number : ℕ) (rest : Report) → r ≡ number ∷ rest → isOneOf numbers number ≡ true)
     → isOneOf (doneNumber ∷ numbers) (numberOf r) ≡ true
 report-one numbers [] h = refl
 report-one numbers (number ∷ rest) h = or-one number doneNumber numbers (h number rest refl)

@@ -14,6 +14,7 @@ pub mod Strategy
 pub mod Progress
 pub mod RefusalNumbers
 pub mod Hosts
+pub mod HostLists
 pub mod Demand2
 pub mod RefusalEffects
 pub mod Determined

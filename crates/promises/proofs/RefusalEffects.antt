@@ -34,7 +34,8 @@ use Rattle.lines.specs.Answers.{refusal, printed, outcomePrinted}
 use Rattle.lines.specs.Lines.{strayLine, outcomeLine}
 use Rattle.text.specs.Text.{text}
 use Rattle.promises.proofs.Cases.{planWith, tableOf, planE, tableE, fileE, P3, capitalMirror}
-use Rattle.promises.proofs.RefusalNumbers.{Only, fileNumbers, file-only, P3-refused, E-too-fast, line-without-room}
+use Rattle.promises.proofs.RefusalNumbers.{fileNumbers, file-only, P3-refused, E-too-fast, line-without-room}
+use Rattle.fields.proofs.Only.{Only}
 use Rattle.plan.specs.Report.{isOneOf}
 use Rattle.promises.proofs.Demand2.{read-E}
 

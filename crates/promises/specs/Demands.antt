@@ -14,6 +14,7 @@ use Rattle.plan.specs.Edition.{mostJobs, places}
 use Rattle.plan.specs.Rules.{counted, name}
 use Rattle.plan.specs.Table.{sound}
 use Rattle.plan.specs.Same.{Same}
+use Rattle.plan.specs.declared.kinds.JobList.{JobList}
 use Rattle.plan.specs.declared.kinds.Plan.{Plan}
 use Rattle.planfile.specs.Reader.{reader}
 use Rattle.planfile.specs.Answers.{Reads, Shows}
@@ -21,6 +22,8 @@ use Rattle.planfile.specs.declared.reader.PlanRead.{PlanRead}
 use Rattle.planwriter.specs.Writing.{wrote, written, writer}
 use Rattle.planwriter.specs.Answers.{Writes}
 use Rattle.planwriter.specs.declared.writer.Written.{Written}
+use Rattle.joblist.specs.Answers.{Imports, Exports}
+use Rattle.joblist.specs.declared.export.Exported.{Exported}
 use Rattle.judge.specs.Constraints.{Figure2}
 use Rattle.judge.specs.Verdict.{judged}
 use Rattle.judge.specs.Answers.{Judges, Measures}
@@ -42,7 +45,7 @@ ExactlyOne {A} Promised = (r : A) × Promised r × ((s : A) → Promised s → r
 
 -- Demand 1. For every input, the promise of each call that the rules name (the very predicate in its
 -- `ensures`) is met by exactly one result and one content of each lent buffer. The same is proved of
--- every other public call (promises/proofs/Determined, gateway/proofs/Determined).
+-- every other public call (promises/proofs/Determined, and proofs/Determined of the crates themselves).
 pub record EveryCallIsDetermined : Type 0 where
   pub read : (file : Bytes) (table : Table) → ExactlyOne {A = PlanRead × Table} (λ r. Reads file table (r .0) (r .1))
   pub lookup : (file : Bytes) (position : Position) → ExactlyOne (Shows file position)
@@ -53,6 +56,8 @@ pub record EveryCallIsDetermined : Type 0 where
   pub step : (p : Plan) (table : Table) (run : Run) (v : Speed) (grants : Row)
       → ExactlyOne {A = Stepped × Row} (λ r. Steps p table run v grants (r .0) (r .1))
   pub outcome : (p : Plan) (run : Run) (position : Position) → ExactlyOne (Ends p run position)
+  pub importing : (text : Bytes) → ExactlyOne (Imports text)
+  pub exporting : (list : JobList) (out : Bytes) → ExactlyOne {A = Exported × Bytes} (λ r. Exports list out (r .0) (r .1))
 
 -- What the types of the code say of a plan and its table: all records are there, a name has eight
 -- bytes and a place four.
