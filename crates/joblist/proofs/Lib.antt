@@ -7,8 +7,10 @@ pub mod LineLoop
 pub mod ImportLaws
 pub mod Injective
 pub mod Determined
+pub mod LineRefusals
 pub mod Numbers
 pub mod Soundness
+pub mod ImportExactly
 pub mod ExportLaws
 pub mod RuleParts
 pub mod FieldBack

@@ -4,10 +4,10 @@ use mathlib.Core.Bool.{Bool, true, false, not, cond, _&&_}
 use mathlib.Core.List.{List, [], _∷_, _++_}
 use Prim.Native.Nat.{ℕ, zero, suc, _+_}
 use native.Mathlib.Omega.{arith}
-use lib.Dec.{leb, ltb, eqb}
+use lib.Dec.{leb, ltb}
 use lib.ListN.{length, drop}
 use Rattle.plan.specs.Kinds.{Bytes}
-use Rattle.plan.specs.Edition.{nameBytes, mostJobs}
+use Rattle.plan.specs.Edition.{mostJobs}
 use Rattle.plan.specs.Refusal.{wrongJobCount, wrongNameByte, nameTaken, wrongGrade, wrongJobBounds, wrongLine, wrongHeader, unsound, bufferTooShort}
 use Rattle.plan.specs.Report.{Report, isOneOf}
 use Rattle.plan.specs.JobLists.{namesOf, listOf}
@@ -15,10 +15,9 @@ use Rattle.plan.specs.Rules.{nameAllowed, isAbsent, gradeAllowed, windowAllowed
 use Rattle.plan.specs.declared.kinds.Job.{Job}
 use Rattle.plan.specs.declared.kinds.JobList.{JobList}
 use Rattle.fields.specs.Parsers.{Parsed, got, no, Parser, onward, test}
-use Rattle.fields.proofs.Only.{Only, only-onward, only-cond, only-test}
-use Rattle.joblist.specs.Grammar.{comma, lineEnd, Found, found, broken, field, begins}
-use Rattle.joblist.specs.Decimals.{isDecimal}
-use Rattle.joblist.specs.Import.{exactly, standing, item, nameItem, gradeItem, numberItem, line, oneJob, allLines, header, jobText, importedFrom, imported}
+use Rattle.fields.proofs.Only.{among, Only, only-onward, only-test}
+use Rattle.joblist.specs.Import.{exactly, line, oneJob, allLines, header, jobText, importedFrom, imported}
+use Rattle.joblist.proofs.LineRefusals.{exactly-refuses, line-refuses}
 use Rattle.joblist.specs.Export.{wrote, refused, listText, ExportEffect, withheld, exported}
 
 -- The refusals of the import: 24, 5, 23, and 6 to 9.
@@ -26,51 +25,10 @@ abbrev pub importNumbers : List ℕ
 importNumbers = wrongHeader ∷ wrongJobCount ∷ wrongLine ∷ wrongNameByte ∷ nameTaken ∷ wrongGrade ∷ wrongJobBounds ∷ []
 
 module _ (text : List ℕ) where
-  exactly-only : (bytes : List ℕ) (number from at : ℕ) → isOneOf importNumbers number ≡ true → Only importNumbers (exactly bytes number from text at)
-  unfolding exactly
-  exactly-only bytes number from at h = only-cond importNumbers (begins bytes (drop at text)) number from tt (at + length bytes) h
-
-  standing-only : (from at : ℕ) (f : Found) → Only importNumbers (standing from at f)
-  standing-only from at (found l used) = tt
-  standing-only from at broken = refl
-
-  item-only : (ends : List ℕ) (from at : ℕ) → Only importNumbers (item ends from text at)
-  unfolding item
-  item-only ends from at =
-      only-onward importNumbers (standing from at (field (drop at text))) _ text (standing-only from at (field (drop at text)))
-      (λ l next. only-onward importNumbers (exactly ends wrongLine from text next) _ text (exactly-only ends wrongLine from next refl) (λ _ _. tt))
-
-  name-only : (from at : ℕ) → Only importNumbers (nameItem from text at)
-  unfolding nameItem
-  name-only from at =
-      only-onward importNumbers (item (comma ∷ []) from text at) _ text (item-only (comma ∷ []) from at)
-      (λ l next. only-onward importNumbers (test (eqb (length l) nameBytes) wrongLine from text next) _ text
-      (only-test importNumbers (eqb (length l) nameBytes) wrongLine from text next refl) (λ _ _. tt))
-
-  grade-only : (from at : ℕ) → Only importNumbers (gradeItem from text at)
-  unfolding gradeItem
-  grade-only from at = only-onward importNumbers (item (comma ∷ []) from text at) _ text (item-only (comma ∷ []) from at) (λ _ _. tt)
-
-  number-only : (ends : List ℕ) (from at : ℕ) → Only importNumbers (numberItem ends from text at)
-  unfolding numberItem
-  number-only ends from at =
-      only-onward importNumbers (item ends from text at) _ text (item-only ends from at)
-      (λ l next. only-onward importNumbers (test (isDecimal l) wrongLine from text next) _ text
-      (only-test importNumbers (isDecimal l) wrongLine from text next refl) (λ _ _. tt))
-
-  line-only : (at : ℕ) → Only importNumbers (line text at)
-  unfolding line
-  line-only at =
-      only-onward importNumbers (nameItem at text at) _ text (name-only at at)
-      (λ _ a₁. only-onward importNumbers (gradeItem at text a₁) _ text (grade-only at a₁)
-      (λ _ a₂. only-onward importNumbers (numberItem (comma ∷ []) at text a₂) _ text (number-only (comma ∷ []) at a₂)
-      (λ _ a₃. only-onward importNumbers (numberItem (comma ∷ []) at text a₃) _ text (number-only (comma ∷ []) at a₃)
-      (λ _ a₄. only-onward importNumbers (numberItem lineEnd at text a₄) _ text (number-only lineEnd at a₄) (λ _ _. tt)))))
-
   job-only : (earlier : List ℕ) (at : ℕ) → Only importNumbers (oneJob earlier text at)
   unfolding oneJob
   job-only earlier at =
-      only-onward importNumbers (line text at) _ text (line-only at)
+      only-onward importNumbers (line text at) _ text (line-refuses (among importNumbers) text at refl)
       (λ l next.
       let ok : Bool = windowAllowed (l .release) (l .deadline) && sizeAllowed (l .size) in
       only-onward importNumbers (test (nameAllowed (l .name)) wrongNameByte at text next) _ text (only-test importNumbers (nameAllowed (l .name)) wrongNameByte at text next refl)
@@ -96,7 +54,7 @@ module _ (text : List ℕ) where
   text-only : Only importNumbers (jobText text 0)
   unfolding jobText
   text-only =
-      only-onward importNumbers (exactly header wrongHeader 0 text 0) _ text (exactly-only header wrongHeader 0 0 refl)
+      only-onward importNumbers (exactly header wrongHeader 0 text 0) _ text (exactly-refuses (among importNumbers) text header wrongHeader 0 0 refl)
       (λ _ at. only-onward importNumbers (allLines mostJobs [] text at) _ text (lines-only mostJobs [] at)
       (λ jobs end. only-onward importNumbers (test (leb 1 (length jobs)) wrongJobCount end text end) _ text
       (only-test importNumbers (leb 1 (length jobs)) wrongJobCount end text end refl) (λ _ _. tt)))

@@ -1,6 +1,7 @@
 pub mod Grammar
 pub mod Decimals
 pub mod Import
+pub mod Grounds
 pub mod Export
 pub mod Answers
 pub mod inner

@@ -6,21 +6,18 @@ use mathlib.Core.List.{List, [], _∷_}
 use mathlib.Core.Logic.{_≢_}
 use Prim.Native.Nat.{ℕ, _≤_, _<_, _^_}
 use native.Mathlib.Omega.{arith}
-use borrow.Author.Tests.{ltb-false, le-ltb}
-use lib.Dec.{ltb}
+use borrow.Author.Tests.{le-ltb}
 use lib.ListN.{length, getD, take}
-use Rattle.plan.specs.Edition.{mostJobs}
 use Rattle.plan.specs.JobLists.{listOf}
 use Rattle.plan.specs.Refusal.{wrongJobCount, wrongNameByte, nameTaken, wrongGrade, wrongJobBounds, wrongLine, wrongHeader, unsound, bufferTooShort}
 use Rattle.plan.specs.Report.{Report, doneNumber, numberOf, isOneOf}
-use Rattle.plan.specs.Rules.{noJob, jobIn}
 use Rattle.plan.specs.declared.kinds.JobList.{JobList}
 use Rattle.joblist.specs.Import.{ImportEffect, imported}
 use Rattle.joblist.specs.Export as export
 use Rattle.joblist.specs.Export.{exported}
 use Rattle.joblist.proofs.Numbers.{importNumbers, exportNumbers, import-numbers, export-numbers, export-refused-leaves, import-refused-yields-none}
 use Rattle.joblist.proofs.RoundTrip.{exported-and-imported}
-use Rattle.hostmemory.specs.Memory.{listWords, shortList, listIn, listHeld, listPut}
+use Rattle.hostmemory.specs.Memory.{listWords, shortList, listHeld, listPut}
 use Rattle.hostmemory.proofs.ColumnLaws.{list-records, list-name}
 use Rattle.gateway.specs.Calls.{HostImportEffect, HostExportEffect, importWords, exportedNumber, exportedLength, exportWords, importCall, exportCall}
 use Rattle.promises.proofs.Hosts.{or-one, report-one}
