@@ -4,6 +4,8 @@
 
 pub mod encoding;
 pub mod filefault;
+pub mod textfault;
+mod words;
 
 use std::num::{IntErrorKind, ParseIntError};
 use std::str::FromStr;

@@ -11,6 +11,15 @@ pub(crate) const HI: u8 = 1;
 pub(crate) const LEAST_NAME_BYTE: u8 = 0x21;
 pub(crate) const MOST_NAME_BYTE: u8 = 0x7e;
 
+const PLAN_ENDING: &str = ".plan";
+
+/// Whether a file is read as a plan file and not as a text: by its name or its first byte. A text begins with a sign, a space or the end of a
+/// line; all other control bytes begin none.
+pub fn is_plan_file(path: &str, bytes: &[u8]) -> bool {
+    let begins_text = |byte: &u8| !byte.is_ascii_control() || byte.is_ascii_whitespace();
+    path.ends_with(PLAN_ENDING) || !bytes.first().map_or(true, begins_text)
+}
+
 /// The plan file.
 pub fn plan_bytes(d: &Description) -> Vec<u8> {
     let mut body = Vec::new();

@@ -3,15 +3,13 @@
 //! That it is wrong, by which number and at which offset, comes from the reader of the library. Here the offset is turned into a record and a
 //! field, and the number into a sentence with the values that the file has.
 
-use crate::encoding::{HI, JOB_LENGTH, LEAST_NAME_BYTE, LO, MOST_NAME_BYTE, ROW_LENGTH, VERSION};
+use crate::encoding::{HI, JOB_LENGTH, LO, ROW_LENGTH, VERSION};
+use crate::words::{bounds_words, broken, bytes, grouped, name_byte_words, shown, MOST_DEADLINE, MOST_JOBS, MOST_SIZE};
 use crate::{intervals_of, Interval, NAME_BYTES};
 
-// The bounds of the edition.
+// The bounds of the edition that job lists do not have.
 const LEAST_FLOOR: u64 = 1;
 const MOST_RATE: u64 = 1_000;
-const MOST_JOBS: u64 = 32;
-const MOST_DEADLINE: u64 = 100_000;
-const MOST_SIZE: u64 = 100_000_000;
 const MOST_ROWS: u64 = 2_016;
 
 /// What a field is part of.
@@ -76,10 +74,8 @@ impl File<'_> {
         self.0.iter().skip(at).take(length).copied()
     }
 
-    // The name that stands here; a byte that no text shows is written as its number.
-    fn name(&self, at: usize) -> String {
-        let shown: String = self.bytes(at, NAME_BYTES).map(shown_byte).collect();
-        format!("`{shown}`")
+    fn name(&self, at: usize) -> Vec<u8> {
+        self.bytes(at, NAME_BYTES).collect()
     }
 
     // The first job that has the name that stands here.
@@ -102,13 +98,6 @@ impl File<'_> {
         add_fields(&mut fields, Record::Head, &ROW_COUNT);
         (0..self.rows()).for_each(|row| add_fields(&mut fields, Record::Row(row), &ROW));
         fields
-    }
-}
-
-fn shown_byte(byte: u8) -> String {
-    match byte {
-        b' '..=b'~' => char::from(byte).to_string(),
-        _ => format!("\\x{byte:02X}"),
     }
 }
 
@@ -153,25 +142,16 @@ pub fn what(file: &[u8], number: u8, offset: usize) -> String {
         3 => length_words(field, &value),
         4 => rates_words(&file),
         5 => format!("the job count is {value}, and a plan has 1 to {MOST_JOBS} jobs"),
-        6 => name_byte_words(&file, field.at),
-        7 => format!("the name is {}, and {} has it already", file.name(field.at), file.job_words(field.at)),
+        6 => name_byte_words(&file.name(field.at)),
+        7 => format!("the name is {}, and {} has it already", shown(&file.name(field.at)), file.job_words(field.at)),
         8 => format!("the grade is {value}, and must be {LO} (LO) or {HI} (HI)"),
-        9 => bounds_words(&file, field.at),
+        9 => numbers_words(&file, field.at),
         10 => format!("the row count is {value}, and a file has at most {} rows", grouped(MOST_ROWS)),
-        11 => format!("the name is {}, and no job has it", file.name(field.at)),
+        11 => format!("the name is {}, and no job has it", shown(&file.name(field.at))),
         12 => format!("the interval is {value}, and the plan's last one is {}", file.intervals().len().saturating_sub(1)),
         13 => "the units are 0, and a row allots at least 1".to_string(),
         _ => order_words(&file, field.at),
     }
-}
-
-// A number with a comma after each thousand.
-fn grouped(number: u64) -> String {
-    if number < 1_000 { number.to_string() } else { format!("{},{:03}", grouped(number / 1_000), number % 1_000) }
-}
-
-fn bytes(many: usize) -> String {
-    format!("{} byte{}", grouped(many as u64), if many == 1 { "" } else { "s" })
 }
 
 fn extent_words(file: &File, field: Field) -> String {
@@ -201,12 +181,6 @@ fn length_words(field: Field, value: &str) -> String {
     }
 }
 
-// What does not hold of several things that are tested together.
-fn broken<const N: usize>(rules: [(bool, String); N]) -> String {
-    let words: Vec<String> = rules.into_iter().filter(|(holds, _)| !holds).map(|(_, words)| words).collect();
-    words.join("; ")
-}
-
 fn rates_words(file: &File) -> String {
     let (normal, floor) = (file.number(NORMAL_RATE_AT, 2), file.number(FLOOR_AT, 2));
     let (shown_normal, shown_floor) = (grouped(normal), grouped(floor));
@@ -218,24 +192,10 @@ fn rates_words(file: &File) -> String {
 }
 
 // Size and deadline follow the release.
-fn bounds_words(file: &File, release_at: usize) -> String {
+fn numbers_words(file: &File, release_at: usize) -> String {
     let [release, size, deadline] = [0, 4, 8].map(|after| file.number(release_at + after, 4));
-    let [shown_release, shown_size, shown_deadline] = [release, size, deadline].map(grouped);
-    broken([
-        (release < deadline, format!("the release is {shown_release} and the deadline {shown_deadline}: the release must come before the deadline")),
-        ((1..=MOST_SIZE).contains(&size), format!("the size is {shown_size}, and must be from 1 to {}", grouped(MOST_SIZE))),
-        (deadline <= MOST_DEADLINE, format!("the deadline is {shown_deadline}, and must be at most {}", grouped(MOST_DEADLINE))),
-    ])
-}
-
-fn name_byte_words(file: &File, name_at: usize) -> String {
-    let wrong = file.bytes(name_at, NAME_BYTES).filter(|byte| !(LEAST_NAME_BYTE..=MOST_NAME_BYTE).contains(byte));
-    let shown: Vec<String> = wrong.map(|byte| format!("{byte:#04X}")).collect();
-    format!(
-        "the name is {}, with {}: the bytes of a name are from {LEAST_NAME_BYTE:#04X} to {MOST_NAME_BYTE:#04X}",
-        file.name(name_at),
-        shown.join(" and ")
-    )
+    let hold = [release < deadline, (1..=MOST_SIZE).contains(&size), deadline <= MOST_DEADLINE];
+    bounds_words([release, size, deadline].map(grouped), hold)
 }
 
 fn order_words(file: &File, row_at: usize) -> String {

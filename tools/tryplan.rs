@@ -1,7 +1,7 @@
 //! Runs a described plan or a plan file over the archive: the verdict in words with its place, the slack figure, the intervals, and the night
 //! as `runplan` prints it.
 
-use description::encoding::{job_line, plan_bytes, read, row_line};
+use description::encoding::{is_plan_file, job_line, plan_bytes, read, row_line};
 use description::filefault::{field, sentence, what, Record};
 use description::{Description, Interval};
 use gateway::{Location, Outcome, Plan, Refusal, Run};
@@ -12,7 +12,6 @@ use std::process::exit;
 
 const USAGE: &str = "usage: try-plan DESCRIPTION
        try-plan PLANFILE [SPEEDS]";
-const PLAN_ENDING: &str = ".plan";
 
 // What the exit status says.
 const RAN: i32 = 0;
@@ -153,12 +152,6 @@ fn read_file(file: &[u8], speeds: &[u8]) -> Result<Reading, String> {
         Ok(plan) => Reading::Taken(read(file, speeds)?, plan),
         Err(refusal) => Reading::Refused(verdict(&refusal, refusal.offset().map(|offset| sentence(file, refusal.number(), offset)))),
     })
-}
-
-// A text begins with a sign, a space or the end of a line; all other control bytes begin none.
-fn is_plan_file(path: &str, bytes: &[u8]) -> bool {
-    let begins_text = |byte: &u8| !byte.is_ascii_control() || byte.is_ascii_whitespace();
-    path.ends_with(PLAN_ENDING) || !bytes.first().map_or(true, begins_text)
 }
 
 fn slot_line(d: &Description, plan: &Plan, run: &mut Run, speed: u16) -> Result<String, Refusal> {
