@@ -15,6 +15,7 @@ pub mod Progress
 pub mod RefusalNumbers
 pub mod Hosts
 pub mod HostLists
+pub mod SameList
 pub mod Demand2
 pub mod RefusalEffects
 pub mod Determined
