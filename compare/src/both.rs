@@ -25,14 +25,13 @@ pub enum Part {
     Number,
     /// A word of one of the buffers, which are counted from 0 in the order of the call's pointers.
     Word(usize, Spot),
-    /// The offset, where the reader answers this number.
+    /// The offset, where read or import answers this number. It is the last buffer of both.
     Offset(u32),
     /// A word of what the wrapper makes of the answer.
     Wrapped(usize),
 }
 
-/// Which of the reader's buffers is the offset, and which word of the wrapper's list.
-const OFFSET_BUFFER: usize = 3;
+/// Which word of the wrapper's answer to read and import is the offset.
 pub const WRAPPED_OFFSET: usize = 2;
 
 /// For the self-test: a part of one call's answers that is changed before it is compared.
@@ -64,7 +63,7 @@ impl Both {
             Some(Part::Number) => got += 1,
             Some(Part::Word(k, spot)) => buffers[k].spoil(spot),
             Some(Part::Offset(number)) if number == counted => {
-                buffers[OFFSET_BUFFER].spoil(Spot::First)
+                buffers[buffers.len() - 1].spoil(Spot::First)
             }
             _ => (),
         }

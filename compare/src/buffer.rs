@@ -54,6 +54,8 @@ pub struct Buffer<T> {
     name: &'static str,
     archive: Vec<T>,
     model: Vec<T>,
+    /// Where the contents begin in both copies.
+    begins: usize,
     lent: usize,
 }
 
@@ -71,8 +73,16 @@ impl<T: Word> Buffer<T> {
             name,
             model: archive.clone(),
             archive,
+            begins: BORDER,
             lent: length,
         }
+    }
+
+    /// The part of it from an element on, all of it lent; the elements before belong to the border.
+    pub fn part_from(mut self, first: usize) -> Buffer<T> {
+        self.begins += first;
+        self.lend_all();
+        self
     }
 
     /// Puts known words into it again.
@@ -97,35 +107,35 @@ impl<T: Word> Buffer<T> {
     }
 
     fn length(&self) -> usize {
-        self.model.len() - 2 * BORDER
+        self.model.len() - BORDER - self.begins
     }
 
     /// What both copies hold, as long as no difference was found.
     pub fn contents(&self) -> &[T] {
-        &self.model[BORDER..BORDER + self.length()]
+        &self.model[self.begins..self.begins + self.length()]
     }
 
     /// Puts words into both copies.
     pub fn put(&mut self, at: usize, words: &[T]) {
-        let place = BORDER + at..BORDER + at + words.len();
+        let place = self.begins + at..self.begins + at + words.len();
         self.archive[place.clone()].copy_from_slice(words);
         self.model[place].copy_from_slice(words);
     }
 
     pub fn archive(&self) -> *const T {
-        self.archive[BORDER..].as_ptr()
+        self.archive[self.begins..].as_ptr()
     }
 
     pub fn archive_mut(&mut self) -> *mut T {
-        self.archive[BORDER..].as_mut_ptr()
+        self.archive[self.begins..].as_mut_ptr()
     }
 
     pub fn model(&self) -> &[T] {
-        &self.model[BORDER..BORDER + self.lent]
+        &self.model[self.begins..self.begins + self.lent]
     }
 
     pub fn model_mut(&mut self) -> &mut [T] {
-        &mut self.model[BORDER..BORDER + self.lent]
+        &mut self.model[self.begins..self.begins + self.lent]
     }
 }
 
@@ -142,7 +152,7 @@ pub trait Lent {
 impl<T: Word> Lent for Buffer<T> {
     fn told(&self) -> String {
         let mut told = format!("  {}, {} lent:", self.name, self.lent);
-        let mut rest = &self.archive[BORDER..BORDER + self.length()];
+        let mut rest = &self.archive[self.begins..self.begins + self.length()];
         for _ in 0..MOST_TOLD {
             let word = match rest.first() {
                 Some(word) => word,
@@ -165,7 +175,7 @@ impl<T: Word> Lent for Buffer<T> {
         }
         let differs = |&at: &usize| self.archive[at] != self.model[at];
         let at = (0..self.model.len()).find(differs)?;
-        let place = at as i64 - BORDER as i64;
+        let place = at as i64 - self.begins as i64;
         Some(format!(
             "{}[{}], of {} lent: expected {}, got {}",
             self.name, place, self.lent, self.model[at], self.archive[at]
@@ -174,11 +184,11 @@ impl<T: Word> Lent for Buffer<T> {
 
     fn spoil(&mut self, spot: Spot) {
         let at = match spot {
-            Spot::LastBefore => BORDER - 1,
+            Spot::LastBefore => self.begins - 1,
             Spot::First | Spot::Last if self.lent == 0 => return,
-            Spot::First => BORDER,
-            Spot::Last => BORDER + self.lent - 1,
-            Spot::FirstAfter => BORDER + self.lent,
+            Spot::First => self.begins,
+            Spot::Last => self.begins + self.lent - 1,
+            Spot::FirstAfter => self.begins + self.lent,
         };
         self.archive[at] = self.archive[at].spoilt();
     }

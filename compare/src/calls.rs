@@ -6,7 +6,7 @@ use gateway::calls::*;
 
 use crate::both::{Both, Difference};
 use crate::buffer::{Buffer, Lent};
-use crate::memory::Memory;
+use crate::memory::{Listing, Memory};
 use crate::model;
 use crate::tally::{Call, NAME_SHOWN, NO_NAME};
 
@@ -176,6 +176,35 @@ impl Both {
         let got = unsafe { gateway_outcome(plan.archive(), plan.lent(), words, length, position) };
         let expected = model::outcome(plan.model(), run.model(), position);
         self.end(Call::Outcome, got, expected, &mut [plan, run])
+    }
+
+    pub fn import(
+        &mut self,
+        text: &mut Buffer<u8>,
+        listing: &mut Listing,
+    ) -> Result<u32, Difference> {
+        listing.offset.renew();
+        let Listing { list, offset, .. } = listing;
+        let (words, length) = (list.archive_mut(), list.lent());
+        let wrong_at = offset.archive_mut();
+        let got = unsafe { gateway_import(text.archive(), text.lent(), words, length, wrong_at) };
+        let wrong_at = &mut offset.model_mut()[0];
+        let expected = model::import(text.model(), list.model_mut(), wrong_at);
+        self.end(Call::Import, got, expected, &mut [text, list, offset])
+    }
+
+    pub fn export(&mut self, listing: &mut Listing) -> Result<u32, Difference> {
+        listing.out.renew();
+        listing.written.renew();
+        let Listing {
+            list, out, written, ..
+        } = listing;
+        let (bytes, room) = (out.archive_mut(), out.lent());
+        let length = written.archive_mut();
+        let got = unsafe { gateway_export(list.archive(), list.lent(), bytes, room, length) };
+        let length = &mut written.model_mut()[0];
+        let expected = model::export(list.model(), out.model_mut(), length);
+        self.end(Call::Export, got, expected, &mut [list, out, written])
     }
 
     /// Compares a call whose answer is a number, and gives that number.

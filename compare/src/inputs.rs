@@ -1,19 +1,23 @@
-//! All calls on one input: on a plan file with speeds, and on a plan in hand with a run and speeds.
+//! All calls on one input: on a plan file with speeds, on a plan in hand with a run and speeds, on
+//! texts of job lists, and on a list in hand.
 
 use reference::edition::{LARGEST_FILE, MOST_JOBS, TABLE_PLACES};
-use reference::generate::{damaged_input, file, fixed_files, fixed_hands, hand};
-use reference::generate::{FileInput, HandInput, Lent, Prng, Purpose};
+use reference::generate::{damaged_input, file, hand, job_list, job_text, quoted_list};
+use reference::generate::{fixed_files, fixed_hands, fixed_lists, fixed_texts};
+use reference::generate::{FileInput, HandInput, Lent, ListInput, Prng, Purpose};
+use reference::joblist::import;
 use reference::reader::reader;
 use reference::refusal::{DONE, TOO_SHORT};
 
 use crate::both::{Both, Difference};
 use crate::buffer::Buffer;
+use crate::lists::{on_list, on_text};
 use crate::memory::Memory;
 use crate::night::{night, outcomes};
 use crate::shorts::{short, short_read, SHORTS};
 use crate::twist::twist;
 use crate::words::{words_of_plan, words_of_run};
-use crate::{plans, wrapper};
+use crate::{plans, texts, wrapper};
 
 /// Buffers that are just long enough for every plan.
 pub const ENOUGH: Lent = Lent {
@@ -29,6 +33,8 @@ const SHORTS_OF_A_PLAN: usize = 2;
 pub struct Fixed {
     files: Vec<FileInput>,
     hands: Vec<HandInput>,
+    texts: Vec<Vec<u8>>,
+    lists: Vec<ListInput>,
 }
 
 impl Fixed {
@@ -36,6 +42,8 @@ impl Fixed {
         Fixed {
             files: fixed_files(),
             hands: fixed_hands(),
+            texts: fixed_texts(),
+            lists: fixed_lists(),
         }
     }
 
@@ -46,17 +54,44 @@ impl Fixed {
         Some(at as u64)
     }
 
-    /// The longer of the two lists counts.
+    /// The first input whose text is imported as this number.
+    pub fn first_imported_as(&self, number: u8) -> Option<u64> {
+        let imported = |text: &[u8]| import(text).map_or_else(|fault| fault.number, |_| DONE);
+        let at = self.texts.iter().position(|text| imported(text) == number)?;
+        Some(at as u64)
+    }
+
+    /// The longest of the four lists counts.
     pub fn count(&self) -> u64 {
-        self.files.len().max(self.hands.len()) as u64
+        let plans = self.files.len().max(self.hands.len());
+        plans.max(self.texts.len()).max(self.lists.len()) as u64
+    }
+
+    fn input(&self, at: usize) -> Input {
+        Input {
+            file: self.files.get(at).cloned(),
+            hand: self.hands.get(at).cloned(),
+            texts: self.texts.get(at).cloned().into_iter().collect(),
+            list: self.lists.get(at).cloned(),
+        }
     }
 }
 
-/// What is drawn from a seed: inputs of every call, or files that the reader refuses.
+/// What calls are made on. Any part may be missing.
+#[derive(Default)]
+pub struct Input {
+    pub file: Option<FileInput>,
+    pub hand: Option<HandInput>,
+    pub texts: Vec<Vec<u8>>,
+    pub list: Option<ListInput>,
+}
+
+/// What is drawn from a seed: inputs of every call, files that the reader refuses, or texts.
 #[derive(Clone, Copy)]
 pub enum Kind {
     Every,
     Damaged,
+    Texts,
 }
 
 /// So many inputs of a kind, of each of these seeds.
@@ -86,20 +121,28 @@ impl Source {
             Source::Fixed(_) => "fixed".to_string(),
             Source::Drawn(Kind::Every, seed) => format!("seed {}", seed),
             Source::Drawn(Kind::Damaged, seed) => format!("damaged files of seed {}", seed),
+            Source::Drawn(Kind::Texts, seed) => format!("texts of seed {}", seed),
         }
     }
 
-    /// Both parts of the input of a number, where there are some.
-    pub fn parts(&self, number: u64) -> (Option<FileInput>, Option<HandInput>) {
+    /// The input of a number.
+    pub fn input(&self, number: u64) -> Input {
         match self {
-            Source::Fixed(Fixed { files, hands }) => {
-                let at = number as usize;
-                (files.get(at).cloned(), hands.get(at).cloned())
-            }
-            Source::Drawn(Kind::Every, seed) => {
-                (Some(file(*seed, number)), Some(hand(*seed, number)))
-            }
-            Source::Drawn(Kind::Damaged, seed) => (Some(damaged_input(*seed, number)), None),
+            Source::Fixed(fixed) => fixed.input(number as usize),
+            Source::Drawn(Kind::Every, seed) => Input {
+                file: Some(file(*seed, number)),
+                hand: Some(hand(*seed, number)),
+                texts: vec![job_text(*seed, number), quoted_list(*seed, number).1],
+                list: Some(job_list(*seed, number)),
+            },
+            Source::Drawn(Kind::Damaged, seed) => Input {
+                file: Some(damaged_input(*seed, number)),
+                ..Input::default()
+            },
+            Source::Drawn(Kind::Texts, seed) => Input {
+                texts: vec![texts::text(*seed, number)],
+                ..Input::default()
+            },
         }
     }
 
@@ -110,12 +153,18 @@ impl Source {
             Source::Drawn(_, seed) => *seed,
         };
         let prng = &mut Prng::new(seed, Purpose::Lending, number);
-        let (file, hand) = self.parts(number);
-        if let Some(input) = file {
-            on_file(both, prng, &input, number)?;
+        let input = self.input(number);
+        if let Some(file) = &input.file {
+            on_file(both, prng, file, number)?;
         }
-        if let Some(input) = hand {
-            on_hand(both, prng, &input, number)?;
+        if let Some(hand) = &input.hand {
+            on_hand(both, prng, hand, number)?;
+        }
+        for text in &input.texts {
+            on_text(both, prng, text)?;
+        }
+        if let Some(list) = &input.list {
+            on_list(both, prng, list)?;
         }
         Ok(())
     }
@@ -169,7 +218,7 @@ fn names(
     Ok(())
 }
 
-/// All calls but the two that take a file, the slots from the run that is given.
+/// All calls but those that take a file or a text, the slots from the run that is given.
 fn on_hand(
     both: &mut Both,
     prng: &mut Prng,

@@ -8,6 +8,7 @@ mod buffer;
 mod calls;
 mod cases;
 mod inputs;
+mod lists;
 mod memory;
 mod model;
 mod night;
@@ -18,6 +19,7 @@ mod selftest;
 mod shorts;
 mod show;
 mod tally;
+mod texts;
 mod twist;
 mod words;
 mod wrapper;
@@ -30,10 +32,11 @@ use run::Share;
 const HELP: &str = "\
 usage: compare COUNT [SEED..]             COUNT inputs of each call for each seed
        compare --damaged COUNT [SEED..]   COUNT files that the reader refuses, for each seed
-       compare --share K OF WORDS..       share K (from 0) of OF shares of either; prints counts
+       compare --texts COUNT [SEED..]     COUNT texts of job lists, right and wrong, for each seed
+       compare --share K OF WORDS..       share K (from 0) of OF shares of any; prints counts
        compare --sum WORDS..              adds up the counts of all shares from standard input
        compare --input SEED NUMBER        one input again, every call told
-       compare --input damaged SEED NUMBER, compare --input fixed NUMBER   the same of these
+       compare --input damaged|texts SEED NUMBER, compare --input fixed NUMBER   the same of these
        compare --self-test                changes answers on purpose; each must be noticed";
 
 const DEFAULT_SEED: u64 = 1;
@@ -58,6 +61,7 @@ fn answer(words: &[&str]) -> Result<String, String> {
             run::once_more(&Source::Fixed(Fixed::new()), number_of(number))
         }
         ["--input", "damaged", seed, number] => once_more(Kind::Damaged, seed, number),
+        ["--input", "texts", seed, number] => once_more(Kind::Texts, seed, number),
         ["--input", seed, number] => once_more(Kind::Every, seed, number),
         ["--share", share, of, words @ ..] => {
             let share = share_of(number_of(share), number_of(of));
@@ -82,6 +86,7 @@ fn once_more(kind: Kind, seed: &str, number: &str) -> Result<String, String> {
 fn drawn_of(words: &[&str]) -> Drawn {
     let (kind, count, seeds) = match words {
         ["--damaged", count, seeds @ ..] => (Kind::Damaged, count, seeds),
+        ["--texts", count, seeds @ ..] => (Kind::Texts, count, seeds),
         [count, seeds @ ..] => (Kind::Every, count, seeds),
         [] => wrong_use(),
     };

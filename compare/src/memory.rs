@@ -1,10 +1,11 @@
-//! The memory that a host lends to the calls for one plan and its run.
+//! The memory that a host lends to the calls for one plan and its run, and to those on job lists.
 
+use gateway::LONGEST_LIST;
 use reference::edition::{MOST_JOBS, TABLE_PLACES};
 use reference::generate::{Lent, Prng};
 
 use crate::buffer::Buffer;
-use crate::words::{JOB_COUNT, LOCATION_WORDS, PLAN_WORDS, RUN_WORDS};
+use crate::words::{JOB_COUNT, LIST_WORDS, LOCATION_WORDS, PLAN_WORDS, RUN_WORDS};
 
 pub struct Memory {
     pub plan: Buffer<u64>,
@@ -77,5 +78,47 @@ impl Memory {
         if prng.once_in(2) {
             self.grants.lend(jobs);
         }
+    }
+}
+
+/// What is lent to the two calls on job lists.
+pub struct Listing {
+    /// A list of its own, or a plan from its job count on.
+    pub list: Buffer<u64>,
+    pub out: Buffer<u8>,
+    pub written: Buffer<usize>,
+    pub offset: Buffer<usize>,
+}
+
+impl Listing {
+    fn of(list: Buffer<u64>) -> Listing {
+        Listing {
+            list,
+            out: Buffer::known("out", LONGEST_LIST),
+            written: Buffer::known("written", 1),
+            offset: Buffer::known("offset", 1),
+        }
+    }
+
+    /// Known words everywhere; the list is as long as it must be, or longer. Some are a plan's.
+    pub fn known(prng: &mut Prng) -> Listing {
+        let spare = prng.pick(&[0, 0, 1, 5]);
+        if prng.once_in(4) {
+            let plan = Buffer::known("plan", PLAN_WORDS + spare);
+            return Listing::of(plan.part_from(JOB_COUNT));
+        }
+        Listing::of(Buffer::known("list", LIST_WORDS + spare))
+    }
+
+    /// A copy of the words of this plan.
+    pub fn of_plan(plan: &Buffer<u64>) -> Listing {
+        let words = plan.contents();
+        let plan = Buffer::of("plan", words, words.len());
+        Listing::of(plan.part_from(JOB_COUNT))
+    }
+
+    pub fn lend_all(&mut self) {
+        self.list.lend_all();
+        self.out.lend_all();
     }
 }

@@ -1,6 +1,7 @@
 //! What `gateway.h` says of each call, in terms of the reference: the number that it answers, and
 //! what it leaves in each lent buffer.
 
+use reference::joblist::{export as export_jobs, import as import_jobs, JobList};
 use reference::judge::judge as judge_plan;
 use reference::lookup::name_lookup;
 use reference::reader::reader;
@@ -9,8 +10,8 @@ use reference::run::{outcome as outcome_of, start as start_run, step as step_run
 use reference::slack::{slack_figure, SlackFigure};
 use reference::writer::writer;
 
-use crate::words::{plan_of, run_of, words_of_plan, words_of_run};
-use crate::words::{LOCATION_WORDS, PLAN_WORDS, RUN_WORDS};
+use crate::words::{list_of, plan_of, run_of, words_of_list, words_of_plan, words_of_run};
+use crate::words::{LIST_WORDS, LOCATION_WORDS, PLAN_WORDS, RUN_WORDS};
 
 /// Results that are no refusals.
 pub const NONE_ESSENTIAL: u32 = 256;
@@ -37,14 +38,7 @@ pub fn write(plan: &[u64], table: &[u32], out: &mut [u8], written: &mut usize) -
     if plan.len() < PLAN_WORDS {
         return TOO_SHORT.into();
     }
-    *written = 0;
-    match writer(&plan_of(plan), table, out) {
-        Ok(length) => {
-            *written = length;
-            DONE.into()
-        }
-        Err(number) => number.into(),
-    }
+    put_length(written, writer(&plan_of(plan), table, out))
 }
 
 pub fn judge(plan: &[u64], table: &[u32], location: &mut [u64]) -> u32 {
@@ -118,6 +112,32 @@ pub fn outcome(plan: &[u64], run: &[u32], position: usize) -> u32 {
         Ok(Outcome::Open) => OPEN,
         Err(number) => number.into(),
     }
+}
+
+pub fn import(text: &[u8], list: &mut [u64], offset: &mut usize) -> u32 {
+    if list.len() < LIST_WORDS {
+        return TOO_SHORT.into();
+    }
+    let (jobs, number, wrong_at) = match import_jobs(text) {
+        Ok(jobs) => (jobs, DONE, 0),
+        Err(fault) => (Vec::new(), fault.number, fault.offset),
+    };
+    list[..LIST_WORDS].copy_from_slice(&words_of_list(&JobList::of(&jobs)));
+    *offset = wrong_at;
+    number.into()
+}
+
+pub fn export(list: &[u64], out: &mut [u8], written: &mut usize) -> u32 {
+    if list.len() < LIST_WORDS {
+        return TOO_SHORT.into();
+    }
+    put_length(written, export_jobs(&list_of(list), out))
+}
+
+/// The length of what was written: 0 with a refusal.
+fn put_length(written: &mut usize, result: Result<usize, u8>) -> u32 {
+    *written = result.unwrap_or(0);
+    result.err().unwrap_or(DONE).into()
 }
 
 /// Both words of a location: what is named, and 0 where nothing is.

@@ -1,14 +1,16 @@
-//! Write, judge, slack and start on a plan and its table, by the archive and by the wrapper.
+//! Write, judge, slack and start on a plan and its table, and export of its jobs, by the archive and
+//! by the wrapper.
 
 use gateway::{Plan, Run};
 use reference::generate::Prng;
 use reference::refusal::DONE;
 
 use crate::both::{Both, Difference};
+use crate::lists::of_plan;
 use crate::memory::Memory;
 use crate::wrapper;
 
-/// Makes the four calls. Gives what start answered, and the wrapper's run if there is one.
+/// Makes the five calls. Gives what start answered, and the wrapper's run if there is one.
 pub fn compare(
     both: &mut Both,
     prng: &mut Prng,
@@ -16,6 +18,7 @@ pub fn compare(
     wrapped: Option<&Plan>,
 ) -> Result<(u32, Option<Run>), Difference> {
     write(both, memory, wrapped)?;
+    of_plan(both, prng, memory)?;
     memory.lend_enough(prng);
     let number = both.judge(memory)?;
     if let Some(plan) = wrapped {

@@ -3,7 +3,7 @@
 use std::fmt::Write;
 
 use crate::inputs::{Drawn, Kind};
-use crate::tally::{all_answers, refused_reads, Tally, CALLS};
+use crate::tally::{all_answers, listed, refused_reads, Tally, CALLS};
 
 /// A run of this many inputs has to bring every number that a call can answer.
 const ENOUGH_FOR_ALL: u64 = 20_000;
@@ -61,6 +61,7 @@ impl Report {
         let (answers, inputs) = match drawn.kind {
             Kind::Every => (all_answers(), format!("inputs of each of {} calls", CALLS.len())),
             Kind::Damaged => (refused_reads(), "damaged files".to_string()),
+            Kind::Texts => (listed(), "texts of job lists".to_string()),
         };
         if let Some((call, _)) = answers.iter().find(|(call, _)| self.tally.inputs(*call) < total) {
             return Err(format!("fewer than {} inputs of {}", total, call));

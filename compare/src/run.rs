@@ -7,7 +7,7 @@ use crate::both::Both;
 use crate::cases;
 use crate::inputs::{Drawn, Fixed, Source};
 use crate::report::Report;
-use crate::show::{show_file, show_hand};
+use crate::show::{show_file, show_hand, show_list, show_text};
 
 /// A line on standard error after every this many inputs.
 const INPUTS_TO_A_LINE: u64 = 100_000;
@@ -70,9 +70,11 @@ pub fn sum() -> Result<Report, String> {
 
 /// Shows an input and tells every call on it.
 pub fn once_more(source: &Source, number: u64) -> Result<String, String> {
-    let (file, hand) = source.parts(number);
-    file.iter().for_each(show_file);
-    hand.iter().for_each(show_hand);
+    let input = source.input(number);
+    input.file.iter().for_each(show_file);
+    input.hand.iter().for_each(show_hand);
+    input.texts.iter().for_each(|text| show_text(text));
+    input.list.iter().for_each(show_list);
     let mut both = Both {
         tells: true,
         ..Both::default()

@@ -1,7 +1,8 @@
 //! Shows that the comparison sees wrong answers: words of each call's answers are changed on purpose,
 //! one at a time, and each has to be noticed.
 
-use reference::refusal::{DONE, ROW_ORDER, TOO_SHORT, VERSION};
+use reference::refusal::{DONE, HEADER, JOB_COUNT, LINE, TIMES_OR_SIZE};
+use reference::refusal::{ROW_ORDER, TOO_SHORT, VERSION};
 
 use crate::both::{Both, Part, Spoil, WRAPPED_OFFSET};
 use crate::buffer::SPOTS;
@@ -16,7 +17,7 @@ fn pointers(call: Call) -> usize {
     match call {
         Call::Name => 1,
         Call::Outcome => 2,
-        Call::Judge => 3,
+        Call::Judge | Call::Import | Call::Export => 3,
         Call::Read | Call::Write | Call::Slack | Call::Start | Call::Step => 4,
     }
 }
@@ -34,7 +35,7 @@ fn parts(call: Call) -> Vec<Part> {
 /// How many changed words were noticed, or one that was not.
 pub fn self_test() -> Result<String, String> {
     let fixed = Fixed::new();
-    let reads = reads(&fixed)?;
+    let offsets = [reads(&fixed)?, imports(&fixed)?].concat();
     let fixed = Source::Fixed(fixed);
     if let Some(seen) = first_seen(&fixed, &INPUTS, None) {
         return Err(format!("a difference where nothing was changed: {}", seen));
@@ -45,8 +46,7 @@ pub fn self_test() -> Result<String, String> {
             noticed += notice(&fixed, &INPUTS, Spoil { call, part })?;
         }
     }
-    let call = Call::Read;
-    for (number, input) in reads {
+    for (call, number, input) in offsets {
         for part in [Part::Offset(number), Part::Wrapped(WRAPPED_OFFSET)] {
             noticed += notice(&fixed, &[input], Spoil { call, part })?;
         }
@@ -57,15 +57,30 @@ pub fn self_test() -> Result<String, String> {
     ))
 }
 
-/// For each number that the reader answers an input that brings it.
-fn reads(fixed: &Fixed) -> Result<Vec<(u32, u64)>, String> {
+/// A number that read or import answers with an offset, and an input that brings it.
+type Offset = (Call, u32, u64);
+
+/// All of the reader's numbers.
+fn reads(fixed: &Fixed) -> Result<Vec<Offset>, String> {
     let numbers = [DONE, TOO_SHORT].into_iter().chain(VERSION..=ROW_ORDER);
     let input_of = |number: u8| {
         let input = fixed.first_read_as(number);
         let input = input.ok_or_else(|| format!("no fixed input is read as {}", number))?;
-        Ok((number.into(), input))
+        Ok((Call::Read, number.into(), input))
     };
     numbers.map(input_of).collect()
+}
+
+/// All of import's numbers. Each text is also imported into too few words, so the first brings 22.
+fn imports(fixed: &Fixed) -> Result<Vec<Offset>, String> {
+    let numbers = [DONE, LINE, HEADER].into_iter().chain(JOB_COUNT..=TIMES_OR_SIZE);
+    let input_of = |number: u8| {
+        let input = fixed.first_imported_as(number);
+        let input = input.ok_or_else(|| format!("no fixed text is imported as {}", number))?;
+        Ok((Call::Import, number.into(), input))
+    };
+    let short = Ok((Call::Import, TOO_SHORT.into(), INPUTS[0]));
+    numbers.map(input_of).chain([short]).collect()
 }
 
 /// 1 for a changed word that is noticed in its own call.

@@ -65,6 +65,7 @@ pub fn short(
         Call::Step => both.step(memory, SPEED)?,
         Call::Outcome => both.outcome(memory, 0)?,
         Call::Read | Call::Name => unreachable!("these take a file"),
+        Call::Import | Call::Export => unreachable!("these take a list"),
     };
     memory.lend_all();
     Ok(())
@@ -84,7 +85,7 @@ pub fn short_read(
     Ok(())
 }
 
-/// Lends mostly one element less than is needed. Whether anything is needed.
+/// Lends too few elements. Whether any are needed.
 fn lend_short(prng: &mut Prng, memory: &mut Memory, which: Which) -> bool {
     let needed = match which {
         Which::Plan => PLAN_WORDS,
@@ -97,11 +98,7 @@ fn lend_short(prng: &mut Prng, memory: &mut Memory, which: Which) -> bool {
     if needed == 0 {
         return false;
     }
-    let length = if prng.once_in(4) {
-        prng.index(needed)
-    } else {
-        needed - 1
-    };
+    let length = too_few(prng, needed);
     match which {
         Which::Plan => memory.plan.lend(length),
         Which::Table => memory.table.lend(length),
@@ -111,4 +108,13 @@ fn lend_short(prng: &mut Prng, memory: &mut Memory, which: Which) -> bool {
         Which::Out => memory.out.lend(length),
     }
     true
+}
+
+/// Mostly one element less than is needed, which is at least one.
+pub fn too_few(prng: &mut Prng, needed: usize) -> usize {
+    if prng.once_in(4) {
+        prng.index(needed)
+    } else {
+        needed - 1
+    }
 }

@@ -1,7 +1,8 @@
 //! An input as people read it.
 
 use reference::edition::{MOST_INTERVALS, TABLE_PLACES};
-use reference::generate::{FileInput, HandInput, Lent};
+use reference::generate::{FileInput, HandInput, Lent, ListInput};
+use reference::joblist::import;
 use reference::plan::{Job, Plan};
 use reference::reader::reader;
 
@@ -37,10 +38,43 @@ pub fn show_hand(input: &HandInput) {
     show_rest(&input.lent, &input.speeds);
 }
 
+pub fn show_text(text: &[u8]) {
+    println!("text of {} bytes", text.len());
+    for line in text.split_inclusive(|&byte| byte == b'\n') {
+        println!("  {}", line.iter().map(shown).collect::<String>());
+    }
+    match import(text) {
+        Ok(jobs) => {
+            println!("it has {} jobs", jobs.len());
+            show_jobs(&jobs);
+        }
+        Err(fault) => println!("import answers {} at byte {}", fault.number, fault.offset),
+    }
+}
+
+/// A byte as it is, if it can be seen.
+fn shown(byte: &u8) -> String {
+    match byte {
+        b' '..=b'~' => char::from(*byte).to_string(),
+        _ => byte.escape_ascii().to_string(),
+    }
+}
+
+pub fn show_list(input: &ListInput) {
+    println!("list in hand, before its words are twisted");
+    println!("{} jobs", input.list.count);
+    show_jobs(&input.list.jobs);
+    println!("lent: {} bytes of output", input.output);
+}
+
 /// Rates, count, and the records that are not all zeros.
 fn show_plan(plan: &Plan) {
     println!("rates {} and {}, {} jobs", plan.n, plan.d, plan.count);
-    for (i, job) in plan.jobs.iter().enumerate() {
+    show_jobs(&plan.jobs);
+}
+
+fn show_jobs(jobs: &[Job]) {
+    for (i, job) in jobs.iter().enumerate() {
         if *job != Job::zeros() {
             let name = String::from_utf8_lossy(&job.name);
             println!(

@@ -4,8 +4,8 @@ use std::collections::BTreeMap;
 use std::fmt;
 
 use reference::refusal::{
-    ABOVE_RATE, AT_LAST_DEADLINE, DONE, FLOOR_RULE, OUTSIDE_WINDOW, ROW_ORDER, TOO_SHORT, UNSOUND,
-    VERSION,
+    ABOVE_RATE, AT_LAST_DEADLINE, DONE, FLOOR_RULE, HEADER, JOB_COUNT, LINE, OUTSIDE_WINDOW,
+    ROW_ORDER, TIMES_OR_SIZE, TOO_SHORT, UNSOUND, VERSION,
 };
 
 use crate::model::{DISCARDED, MET, MISSED, NONE_ESSENTIAL, OPEN};
@@ -21,9 +21,11 @@ pub enum Call {
     Start,
     Step,
     Outcome,
+    Import,
+    Export,
 }
 
-pub const CALLS: [Call; 8] = [
+pub const CALLS: [Call; 10] = [
     Call::Read,
     Call::Name,
     Call::Write,
@@ -32,7 +34,12 @@ pub const CALLS: [Call; 8] = [
     Call::Start,
     Call::Step,
     Call::Outcome,
+    Call::Import,
+    Call::Export,
 ];
+
+/// A text that is taken.
+const IMPORTED: u32 = DONE as u32;
 
 /// How a lookup is counted: it answers where a name begins, or that there is none.
 pub const NO_NAME: u32 = 0;
@@ -49,6 +56,8 @@ impl fmt::Display for Call {
             Call::Start => "start",
             Call::Step => "step",
             Call::Outcome => "outcome",
+            Call::Import => "import",
+            Call::Export => "export",
         };
         f.pad(word)
     }
@@ -70,7 +79,7 @@ fn numbers(call: Call) -> Vec<u32> {
     match call {
         Call::Read => wide([DONE, TOO_SHORT].into_iter().chain(VERSION..=ROW_ORDER)),
         Call::Name => vec![NO_NAME, NAME_SHOWN],
-        Call::Write => wide([DONE, UNSOUND, TOO_SHORT]),
+        Call::Write | Call::Export => wide([DONE, UNSOUND, TOO_SHORT]),
         Call::Judge | Call::Start => judged(FLOOR_RULE),
         Call::Slack => [judged(ABOVE_RATE), vec![NONE_ESSENTIAL]].concat(),
         Call::Step => wide([DONE].into_iter().chain(AT_LAST_DEADLINE..=TOO_SHORT)),
@@ -79,6 +88,11 @@ fn numbers(call: Call) -> Vec<u32> {
             vec![MET, DISCARDED, MISSED, OPEN],
         ]
         .concat(),
+        Call::Import => wide(
+            [DONE, TOO_SHORT, LINE, HEADER]
+                .into_iter()
+                .chain(JOB_COUNT..=TIMES_OR_SIZE),
+        ),
     }
 }
 
@@ -96,11 +110,19 @@ pub fn refused_reads() -> Vec<(Call, u32)> {
     answers
 }
 
+/// What the two calls on job lists can answer.
+pub fn listed() -> Vec<(Call, u32)> {
+    let mut answers = all_answers();
+    answers.retain(|answer| matches!(answer.0, Call::Import | Call::Export));
+    answers
+}
+
 /// A number as people read it.
 fn shown(call: Call, number: u32) -> String {
     match (call, number) {
         (Call::Name, NO_NAME) => "none".to_string(),
         (Call::Name, _) => "shown".to_string(),
+        (Call::Import, IMPORTED) => "taken".to_string(),
         (_, NONE_ESSENTIAL) => "none essential".to_string(),
         (_, MET) => "met".to_string(),
         (_, DISCARDED) => "discarded".to_string(),

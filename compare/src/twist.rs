@@ -1,13 +1,17 @@
 //! Words that no record can say: too large for their fields, marks other than 0 and 1, and rubbish
 //! from the count on.
 
+use std::ops::Range;
+
+use reference::edition::MOST_JOBS;
 use reference::generate::Prng;
 
 use crate::between::WRONG_MARKS;
+use crate::buffer::Buffer;
 use crate::memory::Memory;
 use crate::words::{
-    job_at, BELOW_FLOOR, DEADLINE, FLOOR, GRADE, JOB_COUNT, MARK_WORDS, NORMAL_RATE, PLAN_WORDS,
-    RELEASE, RUN_WORDS, SIZE, SLOW,
+    job_at, listed_at, BELOW_FLOOR, DEADLINE, FLOOR, GRADE, JOB_COUNT, LISTED_COUNT, LIST_WORDS,
+    MARK_WORDS, NORMAL_RATE, PLAN_WORDS, RELEASE, RUN_WORDS, SIZE, SLOW,
 };
 
 /// The bits that the fields of a plan file have: rates; the count and a grade; times and sizes.
@@ -24,26 +28,50 @@ pub fn twist(prng: &mut Prng, memory: &mut Memory) {
     }
 }
 
-/// One word of the head, of a counted job or of the marks.
-fn one_word(prng: &mut Prng, memory: &mut Memory) {
-    let job = job_at(prng.index(memory.jobs().max(1)));
-    let words = [
-        (NORMAL_RATE, RATE_BITS),
-        (FLOOR, RATE_BITS),
-        (JOB_COUNT, BYTE_BITS),
+/// The same of a job list alone.
+pub fn twist_list(prng: &mut Prng, list: &mut Buffer<u64>) {
+    let jobs = list.contents()[LISTED_COUNT].min(MOST_JOBS as u64) as usize;
+    match prng.below(3) {
+        0 => {
+            let fields = fields_of(listed_at(prng.index(jobs.max(1))));
+            enlarge(prng, list, &[&[(LISTED_COUNT, BYTE_BITS)], &fields[..]].concat());
+        }
+        1 => put_rubbish(prng, list, listed_at(jobs)..LIST_WORDS),
+        _ => (),
+    }
+}
+
+/// The words of a job that begins here, each with the bits of its field; a name fills its word.
+fn fields_of(job: usize) -> [(usize, u32); 4] {
+    [
         (job + GRADE, BYTE_BITS),
         (job + RELEASE, NUMBER_BITS),
         (job + SIZE, NUMBER_BITS),
         (job + DEADLINE, NUMBER_BITS),
+    ]
+}
+
+/// One word of the head, of a counted job or of the marks.
+fn one_word(prng: &mut Prng, memory: &mut Memory) {
+    let fields = fields_of(job_at(prng.index(memory.jobs().max(1))));
+    let head = [
+        (NORMAL_RATE, RATE_BITS),
+        (FLOOR, RATE_BITS),
+        (JOB_COUNT, BYTE_BITS),
     ];
     if prng.once_in(4) {
         let mark = prng.pick(&[SLOW, BELOW_FLOOR]);
         memory.run.put(mark, &[prng.pick(&WRONG_MARKS)]);
         return;
     }
-    let (at, bits) = prng.pick(&words);
-    let large = too_large(prng, memory.plan.contents()[at], bits);
-    memory.plan.put(at, &[large]);
+    enlarge(prng, &mut memory.plan, &[&head[..], &fields].concat());
+}
+
+/// Makes one of these words too large for its field.
+fn enlarge(prng: &mut Prng, buffer: &mut Buffer<u64>, words: &[(usize, u32)]) {
+    let (at, bits) = prng.pick(words);
+    let large = too_large(prng, buffer.contents()[at], bits);
+    buffer.put(at, &[large]);
 }
 
 /// A word that has bits beyond those of its field.
@@ -57,13 +85,18 @@ fn too_large(prng: &mut Prng, word: u64, bits: u32) -> u64 {
     }
 }
 
+/// Words of any length.
+fn put_rubbish(prng: &mut Prng, buffer: &mut Buffer<u64>, places: Range<usize>) {
+    for at in places {
+        let word = prng.word() >> prng.below(64);
+        buffer.put(at, &[word]);
+    }
+}
+
 /// Any words in the records from the count on, and in what is carried for them.
 fn rubbish(prng: &mut Prng, memory: &mut Memory) {
     let jobs = memory.jobs();
-    for at in job_at(jobs)..PLAN_WORDS {
-        let word = prng.word() >> prng.below(64);
-        memory.plan.put(at, &[word]);
-    }
+    put_rubbish(prng, &mut memory.plan, job_at(jobs)..PLAN_WORDS);
     for at in MARK_WORDS + jobs..RUN_WORDS {
         let word = prng.word() as u32;
         memory.run.put(at, &[word]);

@@ -1,6 +1,7 @@
-//! A plan and a run in the words that a host lends, as `gateway.h` describes them.
+//! A plan, a run and a job list in the words that a host lends, as `gateway.h` describes them.
 
 use reference::edition::MOST_JOBS;
+use reference::joblist::JobList;
 use reference::plan::{Job, Plan};
 use reference::run::Run;
 
@@ -20,6 +21,12 @@ pub const DEADLINE: usize = 4;
 
 pub const PLAN_WORDS: usize = HEAD_WORDS + JOB_WORDS * MOST_JOBS;
 
+/// The job count comes first, then the words of each of 32 jobs.
+pub const LISTED_COUNT: usize = 0;
+pub const LISTED_JOBS: usize = 1;
+
+pub const LIST_WORDS: usize = LISTED_JOBS + JOB_WORDS * MOST_JOBS;
+
 /// The clock and both marks come first, then the units carried for each of 32 jobs.
 pub const CLOCK: usize = 0;
 pub const SLOW: usize = 1;
@@ -31,9 +38,14 @@ pub const RUN_WORDS: usize = MARK_WORDS + MOST_JOBS;
 /// What a refusal names.
 pub const LOCATION_WORDS: usize = 2;
 
-/// Where the words of a job begin.
+/// Where the words of a job begin in a plan.
 pub fn job_at(position: usize) -> usize {
     HEAD_WORDS + JOB_WORDS * position
+}
+
+/// Where the words of a job begin in a list.
+pub fn listed_at(position: usize) -> usize {
+    LISTED_JOBS + JOB_WORDS * position
 }
 
 /// A word that is too large means the largest number of its field.
@@ -43,14 +55,25 @@ fn narrow<T: TryFrom<u64>>(word: u64, largest: T) -> T {
 
 /// The plan that at least 163 words say.
 pub fn plan_of(words: &[u64]) -> Plan {
-    let mut plan = Plan {
+    Plan {
         n: narrow(words[NORMAL_RATE], u16::MAX),
         d: narrow(words[FLOOR], u16::MAX),
         count: words[JOB_COUNT],
-        ..Plan::zeros()
-    };
-    let words = words[HEAD_WORDS..].chunks_exact(JOB_WORDS);
-    for (job, words) in plan.jobs.iter_mut().zip(words) {
+        jobs: jobs_of(&words[HEAD_WORDS..]),
+    }
+}
+
+/// The list that at least 161 words say.
+pub fn list_of(words: &[u64]) -> JobList {
+    JobList {
+        count: words[LISTED_COUNT],
+        jobs: jobs_of(&words[LISTED_JOBS..]),
+    }
+}
+
+fn jobs_of(words: &[u64]) -> [Job; MOST_JOBS] {
+    let mut jobs = [Job::zeros(); MOST_JOBS];
+    for (job, words) in jobs.iter_mut().zip(words.chunks_exact(JOB_WORDS)) {
         *job = Job {
             name: words[NAME].to_be_bytes(),
             grade: narrow(words[GRADE], u8::MAX),
@@ -59,12 +82,24 @@ pub fn plan_of(words: &[u64]) -> Plan {
             deadline: narrow(words[DEADLINE], u32::MAX),
         };
     }
-    plan
+    jobs
 }
 
 pub fn words_of_plan(plan: &Plan) -> Vec<u64> {
     let mut words = vec![plan.n.into(), plan.d.into(), plan.count];
-    for job in &plan.jobs {
+    words.extend(words_of_jobs(&plan.jobs));
+    words
+}
+
+pub fn words_of_list(list: &JobList) -> Vec<u64> {
+    let mut words = vec![list.count];
+    words.extend(words_of_jobs(&list.jobs));
+    words
+}
+
+fn words_of_jobs(jobs: &[Job]) -> Vec<u64> {
+    let mut words = Vec::new();
+    for job in jobs {
         words.push(u64::from_be_bytes(job.name));
         words.push(job.grade.into());
         words.push(job.release.into());

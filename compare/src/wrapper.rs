@@ -3,18 +3,18 @@
 //! It lends buffers of its own that are long enough. A call that was refused for a short one has
 //! nothing to be compared with.
 
-use gateway::{Grade, Job, Outcome, Location, Plan, Refusal, Run};
-use reference::edition::{HI, LO, MOST_INTERVALS, NAME_BYTES, TABLE_PLACES};
+use gateway::{export_jobs, import_jobs, Grade, Job, Location, Outcome, Plan, Refusal, Run};
+use reference::edition::{HI, LO, MOST_INTERVALS, MOST_JOBS, NAME_BYTES, TABLE_PLACES};
 use reference::refusal::{DONE, TOO_SHORT};
 
 use crate::both::{Both, Difference};
 use crate::buffer::Buffer;
-use crate::memory::Memory;
+use crate::memory::{Listing, Memory};
 use crate::model::{DISCARDED, MET, MISSED, NONE_ESSENTIAL, OPEN};
 use crate::tally::Call;
 use crate::words::{
-    job_at, DEADLINE, FLOOR, GRADE, JOB_COUNT, MARK_WORDS, NAME, NORMAL_RATE, LOCATION_WORDS, RELEASE,
-    RUN_WORDS, SIZE,
+    job_at, listed_at, DEADLINE, FLOOR, GRADE, JOB_COUNT, JOB_WORDS, LISTED_COUNT, LOCATION_WORDS,
+    MARK_WORDS, NAME, NORMAL_RATE, RELEASE, RUN_WORDS, SIZE,
 };
 
 fn is_done(number: u32) -> bool {
@@ -156,17 +156,19 @@ pub fn write(both: &mut Both, plan: &Plan, number: u32, memory: &Memory) -> Resu
     if is_too_short(number) {
         return Ok(());
     }
+    let (out, written) = (memory.out.contents(), memory.written.contents()[0]);
+    let bare = written_words(number.into(), &out[..written]);
     let result = plan.write();
-    let mut wrapped = vec![number_of(&result)];
-    wrapped.extend(result.iter().flatten().map(|&byte| u64::from(byte)));
-    let mut bare = vec![number.into()];
-    let written = memory.written.contents()[0];
-    bare.extend(
-        memory.out.contents()[..written]
-            .iter()
-            .map(|&byte| u64::from(byte)),
-    );
+    let number = number_of(&result);
+    let wrapped = written_words(number, &result.unwrap_or_default());
     both.agree(Call::Write, wrapped, bare)
+}
+
+/// A number, and the bytes that were written.
+fn written_words(number: u64, bytes: &[u8]) -> Vec<u64> {
+    let mut words = vec![number];
+    words.extend(bytes.iter().map(|&byte| u64::from(byte)));
+    words
 }
 
 pub fn judge(both: &mut Both, plan: &Plan, number: u32, memory: &Memory) -> Result<(), Difference> {
@@ -253,4 +255,50 @@ pub fn outcome(
         Err(refusal) => refusal.number().into(),
     };
     both.agree(Call::Outcome, vec![wrapped.into()], vec![number.into()])
+}
+
+/// Imports the text once more.
+pub fn import(
+    both: &mut Both,
+    text: &Buffer<u8>,
+    number: u32,
+    listing: &Listing,
+) -> Result<(), Difference> {
+    let result = import_jobs(text.contents());
+    let told = result.as_ref().err().and_then(Refusal::offset);
+    let left = (!is_done(number)).then(|| listing.offset.contents()[0]);
+    let mut wrapped = [vec![number_of(&result)], offset_words(told)].concat();
+    let mut bare = [vec![number.into()], offset_words(left)].concat();
+    let jobs = result.unwrap_or_default();
+    wrapped.push(jobs.len() as u64);
+    wrapped.extend(jobs.iter().flat_map(job_words));
+    let list = listing.list.contents();
+    bare.extend(&list[..listed_at(list[LISTED_COUNT] as usize)]);
+    both.agree(Call::Import, wrapped, bare)
+}
+
+fn job_words(job: &Job) -> [u64; JOB_WORDS] {
+    let name = u64::from_be_bytes(job.name);
+    let grade = if job.grade == Grade::Hi { HI } else { LO };
+    [name, grade.into(), job.release.into(), job.size, job.deadline.into()]
+}
+
+/// Exports the list once more, if the wrapper can hold its jobs.
+pub fn export(both: &mut Both, number: u32, listing: &Listing) -> Result<(), Difference> {
+    let list = listing.list.contents();
+    if list[LISTED_COUNT] > MOST_JOBS as u64 {
+        return Ok(());
+    }
+    let words = list[listed_at(0)..].chunks_exact(JOB_WORDS);
+    let jobs: Option<Vec<Job>> = words.take(list[LISTED_COUNT] as usize).map(job).collect();
+    let jobs = match jobs {
+        Some(jobs) => jobs,
+        None => return Ok(()),
+    };
+    let (out, written) = (listing.out.contents(), listing.written.contents()[0]);
+    let bare = written_words(number.into(), &out[..written]);
+    let result = export_jobs(&jobs);
+    let number = number_of(&result);
+    let wrapped = written_words(number, &result.unwrap_or_default());
+    both.agree(Call::Export, wrapped, bare)
 }

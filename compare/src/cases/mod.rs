@@ -1,14 +1,16 @@
 //! Inputs written by hand, with the answers that the rules give them: each refusal of each call, the
-//! cases of the rules, the largest file.
+//! cases of the rules, the largest file, the longest list.
 //!
 //! Archive and model are compared in these calls too, so both have to give the written answer.
 
 mod files;
 mod judged;
 mod largest;
+mod lists;
 mod plan_e;
 mod slots;
 mod sums;
+mod texts;
 
 use std::fmt::Debug;
 
@@ -60,5 +62,16 @@ pub fn all() -> Result<u64, String> {
     sums::columns(cases)?;
     sums::dues(cases)?;
     largest::file(cases)?;
+    texts::refused(cases)?;
+    texts::taken(cases)?;
+    texts::nines(cases)?;
+    texts::counts(cases)?;
+    texts::shorts(cases)?;
+    lists::done(cases)?;
+    lists::rooms(cases)?;
+    lists::unsound(cases)?;
+    lists::counts(cases)?;
+    lists::longest(cases)?;
+    lists::of_plan(cases)?;
     Ok(cases.passed)
 }

@@ -4,8 +4,8 @@ use reference::edition::TABLE_PLACES;
 use reference::generate::{Prng, Purpose};
 
 use crate::inputs::ENOUGH;
-use crate::memory::Memory;
-use crate::words::PLAN_WORDS;
+use crate::memory::{Listing, Memory};
+use crate::words::{JOB_COUNT, LIST_WORDS, PLAN_WORDS};
 
 /// Where the parts of the file begin.
 pub const LENGTH: usize = 1;
@@ -84,6 +84,22 @@ pub fn words(n: u64, d: u64, jobs: &[Job]) -> Vec<u64> {
     words
 }
 
+/// The words of a list: a plan's from the count on.
+pub fn list_words(jobs: &[Job]) -> Vec<u64> {
+    words(2, 1, jobs)[JOB_COUNT..].to_vec()
+}
+
+/// The words of a list of jobs that have these names, and all else in common.
+pub fn named_words(names: &[[u8; 8]], others: [u64; 4]) -> Vec<u64> {
+    let mut words = vec![names.len() as u64];
+    for name in names {
+        words.push(u64::from_be_bytes(*name));
+        words.extend(others);
+    }
+    words.resize(LIST_WORDS, 0);
+    words
+}
+
 /// A table with these rows; all other places are 0.
 pub fn table(rows: &[&[u32]]) -> Vec<u32> {
     let mut table = vec![0; TABLE_PLACES];
@@ -96,6 +112,11 @@ pub fn table(rows: &[&[u32]]) -> Vec<u32> {
 /// Memory with known words, and buffers just long enough or longer.
 pub fn memory() -> Memory {
     Memory::known(&mut Prng::new(1, Purpose::Lending, 0), &ENOUGH)
+}
+
+/// The same for a job list.
+pub fn listing() -> Listing {
+    Listing::known(&mut Prng::new(1, Purpose::Lending, 0))
 }
 
 /// Memory with a plan of rates 2 and 1 and its table.
