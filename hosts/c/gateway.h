@@ -27,7 +27,7 @@ extern "C" {
 #define GATEWAY_MOST_INTERVALS 63
 /* The largest plan file, in bytes. */
 #define GATEWAY_LARGEST_FILE 30956
-/* No text of a job list is longer, in bytes: neither one that gateway_export writes nor one that gateway_import takes. */
+/* No text that gateway_export writes is longer, in bytes. */
 #define GATEWAY_LONGEST_LIST 1794
 /* The bytes of a job's name. */
 #define GATEWAY_NAME_BYTES 8
