@@ -4,3 +4,4 @@ pub mod OpeningLaws
 pub mod BytesAt
 pub mod RoundTripLaws
 pub mod Only
+pub mod Injective

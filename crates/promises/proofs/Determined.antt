@@ -28,18 +28,18 @@ use Rattle.fields.specs.Parsers as rule
 use Rattle.fields.specs.Parsers.{Parsed, got, no, checked, recordLength, opening, ended}
 use Rattle.planfields.specs.Records as records
 use Rattle.planfields.specs.Records.{Head, oneJob}
-use Rattle.fields.specs.Answers.{fieldView, fieldValue, passedView, isCompared, ReadsField, ReadsLength, ReadsOpening, ReadsEnd}
+use Rattle.fields.specs.Answers.{fieldView, fieldValue, isCompared, ReadsField, ReadsLength, ReadsOpening, ReadsEnd}
 use Rattle.planfields.specs.Answers.{headView, jobView, ReadsHead, ReadsJob, ReadsRowCount, ReadsInterval, ReadsUnits}
 use Rattle.fields.specs.declared.field.Field.{Field}
 use Rattle.fields.specs.declared.field.Field.the-variants as field
 use Rattle.fields.specs.declared.field.Passed.{Passed}
-use Rattle.fields.specs.declared.field.Passed.the-variants as passed
 use Rattle.fields.specs.declared.opening.LengthRule.{LengthRule}
 use Rattle.planfields.specs.declared.head.HeadRead.{HeadRead}
 use Rattle.planfields.specs.declared.head.HeadRead.the-variants as head
 use Rattle.planfields.specs.declared.job.JobRead.{JobRead}
 use Rattle.planfields.specs.declared.job.JobRead.the-variants as job
 use Rattle.fields.proofs.ByteLaws.{Octets}
+use Rattle.fields.proofs.Injective.{fields-one, field-some, passed-one, passed-some}
 use Rattle.fields.proofs.ParserLaws.{checked-is}
 use Rattle.fields.proofs.OpeningLaws.{opening-version}
 use Rattle.plan.specs.Rules.{noPlan}
@@ -416,38 +416,6 @@ pub some-opening : (file table out : List ℕ) → (r : Turn) × (filled : List 
 some-opening file table out =
     let t = some-turn (opened (reader file table)) out in
     (t .0, reader file table .table, t .1, (t .2 .0, refl, t .2 .1))
-
--- The field readers of `fields` and `planfields`, which reader and lookup share. Their view is injective,
--- and every parser's result is the view of some answer.
-fields-one : (r s : Field) → fieldView r ≡ fieldView s → r ≡ s
-fields-one r s e = sym (back r) ∙ ap of e ∙ back s
-  where
-    of : Parsed ℕ → Field
-    of (got v next) = field.Value v next
-    of (no refusal) = field.Refused refusal
-
-    back : (r : Field) → of (fieldView r) ≡ r
-    back (field.Value v next) = refl
-    back (field.Refused refusal) = refl
-
-field-some : (s : Parsed ℕ) → (r : Field) × (fieldView r ≡ s)
-field-some (got v next) = (field.Value v next, refl)
-field-some (no refusal) = (field.Refused refusal, refl)
-
-passed-one : (r s : Passed) → passedView r ≡ passedView s → r ≡ s
-passed-one r s e = sym (back r) ∙ ap of e ∙ back s
-  where
-    of : Parsed (Unit {0}) → Passed
-    of (got u next) = passed.Next next
-    of (no refusal) = passed.Refused refusal
-
-    back : (r : Passed) → of (passedView r) ≡ r
-    back (passed.Next next) = refl
-    back (passed.Refused refusal) = refl
-
-passed-some : (s : Parsed (Unit {0})) → (r : Passed) × (passedView r ≡ s)
-passed-some (got u next) = (passed.Next next, refl)
-passed-some (no refusal) = (passed.Refused refusal, refl)
 
 -- `fields::field::read_byte`, `read_two`, `read_four` and `read_eight`, by their width.
 pub one-field : (w : ℕ) (file : List ℕ) (at : ℕ) (r s : Field) → ReadsField w file at r → ReadsField w file at s → r ≡ s
