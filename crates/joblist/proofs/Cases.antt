@@ -8,9 +8,10 @@ use Rattle.plan.specs.Report.{Report}
 use Rattle.plan.specs.Rules.{nameAllowed, isAbsent}
 use Rattle.fields.specs.Bytes.{value}
 use Rattle.text.specs.Text.{text}
-use Rattle.joblist.specs.Grammar.{lineEnd, quote, plain, quoted, field, begins}
-use Rattle.joblist.specs.Decimals.{areDigits, isDecimal, decimalFrom}
-use Rattle.joblist.specs.Import.{header, exactly, item, nameItem, numberItem, gradeItem, line, oneJob, allLines, jobText, imported}
+use Rattle.csv.specs.Grammar.{lineEnd, quote, plain, quoted, field, begins}
+use Rattle.csv.specs.Decimals.{areDigits, isDecimal, decimalFrom}
+use Rattle.csv.specs.Items.{exactly, item, nameItem, numberItem, gradeItem}
+use Rattle.joblist.specs.Import.{header, line, oneJob, allLines, jobText, imported}
 
 -- The report of a text.
 abbrev report : Bytes → Report

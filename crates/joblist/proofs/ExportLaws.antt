@@ -21,7 +21,7 @@ use Rattle.text.specs.Text.{digit, digits, decimal, nameText}
 use Rattle.text.specs.Append.{Adds}
 use Rattle.text.specs.inner.Growth.{Grown}
 use Rattle.text.proofs.Growth.{adds-same, adds-pasted}
-use Rattle.joblist.specs.Grammar.{comma, quote, carriageReturn, lineFeed, lineEnd}
+use Rattle.csv.specs.Grammar.{comma, quote, carriageReturn, lineFeed, lineEnd}
 use Rattle.joblist.specs.Import.{header}
 use Rattle.joblist.specs.Export.{needsQuotes, doubled, fieldText, gradeText, lineText, linesText, listText, wrote, ExportEffect, withheld, exported}
 

@@ -12,7 +12,8 @@ use Rattle.plan.specs.declared.kinds.JobList.{JobList}
 use Rattle.fields.specs.declared.field.Passed.the-variants as passed
 use Rattle.fields.specs.Parsers.{Parsed, got, no}
 use Rattle.plan.specs.JobLists.{listOf}
-use Rattle.joblist.specs.Import.{exactly, allLines, header, jobText, ImportEffect, importedFrom, imported}
+use Rattle.csv.specs.Items.{exactly}
+use Rattle.joblist.specs.Import.{allLines, header, jobText, ImportEffect, importedFrom, imported}
 use Rattle.joblist.specs.declared.import.Lines.{Lines}
 use Rattle.joblist.specs.inner.Parts.{LinesAnswer}
 

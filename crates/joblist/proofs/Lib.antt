@@ -1,7 +1,4 @@
 pub mod Cases
-pub mod FieldLaws
-pub mod SeenLaws
-pub mod ItemLaws
 pub mod LineLaws
 pub mod LineLoop
 pub mod ImportLaws

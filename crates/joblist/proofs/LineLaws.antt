@@ -7,8 +7,9 @@ use Rattle.plan.specs.Refusal.{Refusal, refusalAt, wrongNameByte, nameTaken, wr
 use Rattle.plan.specs.Rules.{nameAllowed, isAbsent, gradeAllowed, windowAllowed, sizeAllowed}
 use Rattle.plan.specs.declared.kinds.Job.{Job}
 use Rattle.fields.specs.Parsers.{Parsed, got, no}
-use Rattle.joblist.specs.Grammar.{comma, lineEnd}
-use Rattle.joblist.specs.Import.{nameItem, gradeItem, numberItem, Line, line, jobOn, oneJob}
+use Rattle.csv.specs.Grammar.{comma, lineEnd}
+use Rattle.csv.specs.Items.{nameItem, gradeItem, numberItem}
+use Rattle.joblist.specs.Import.{Line, line, jobOn, oneJob}
 
 -- A line is refused by the first of its fields that is refused.
 module _ (text : List ℕ) (at : ℕ) where

@@ -16,7 +16,8 @@ use Rattle.plan.specs.declared.kinds.Job.{Job}
 use Rattle.plan.specs.declared.kinds.JobList.{JobList}
 use Rattle.fields.specs.Parsers.{Parsed, got, no, Parser, onward, test}
 use Rattle.fields.proofs.Only.{among, Only, only-onward, only-test}
-use Rattle.joblist.specs.Import.{exactly, line, oneJob, allLines, header, jobText, importedFrom, imported}
+use Rattle.csv.specs.Items.{exactly}
+use Rattle.joblist.specs.Import.{line, oneJob, allLines, header, jobText, importedFrom, imported}
 use Rattle.joblist.proofs.LineRefusals.{exactly-refuses, line-refuses}
 use Rattle.joblist.specs.Export.{wrote, refused, listText, ExportEffect, withheld, exported}
 

@@ -19,16 +19,18 @@ use Rattle.plan.specs.declared.kinds.JobList.{JobList}
 use Rattle.fields.specs.Parsers.{Parsed, got, no}
 use Rattle.fields.proofs.BytesAt.{Stands, stands-first, stands-rest, stands-as}
 use Rattle.text.specs.Text.{decimal, nameText}
-use Rattle.joblist.specs.Grammar.{comma, lineEnd, field}
-use Rattle.joblist.specs.Decimals.{mostNumber}
+use Rattle.csv.specs.Grammar.{comma, lineEnd, field}
+use Rattle.csv.specs.Decimals.{mostNumber}
 use Rattle.plan.specs.JobLists.{namesOf, listOf}
-use Rattle.joblist.specs.Import.{exactly, item, nameItem, gradeItem, numberItem, Line, line, oneJob, allLines, header, jobText, ImportEffect, importedFrom, imported}
+use Rattle.csv.specs.Items.{exactly, item, nameItem, gradeItem, numberItem}
+use Rattle.joblist.specs.Import.{Line, line, oneJob, allLines, header, jobText, ImportEffect, importedFrom, imported}
 use Rattle.joblist.specs.Export.{fieldText, gradeText, lineText, linesText, listText, ExportEffect, wrote, withheld, exported}
+use Rattle.csv.proofs.TextBack.{printable, Ends, comma-ends, line-ends, begins-self, decimal-back, decimal-printable, number-back, name-printable, name-back}
 use Rattle.joblist.proofs.LineLoop.{lines-over, lines-step}
 use Rattle.joblist.proofs.Soundness.{text-taken}
 use Rattle.joblist.proofs.RuleParts.{Meets, meets}
 use Rattle.joblist.proofs.ExportLaws.{list-text}
-use Rattle.joblist.proofs.FieldBack.{printable, Ends, comma-ends, line-ends, field-back, begins-self, decimal-back, decimal-printable, number-back, name-printable, name-back, grade-back, grade-printable}
+use Rattle.joblist.proofs.FieldBack.{field-back, grade-back, grade-printable}
 
 -- Bytes that stand there are found.
 exactly-back : (bytes : List ℕ) (number from : ℕ) (file : List ℕ) (at : ℕ) (rest : List ℕ) → drop at file ≡ bytes ++ rest

@@ -19,10 +19,11 @@ use Rattle.plan.specs.declared.kinds.Job.{Job}
 use Rattle.fields.specs.Parsers.{Parsed, got, no, Parser, onward}
 use Rattle.fields.proofs.ByteLaws.{value-below}
 use Rattle.fields.proofs.ParserLaws.{through, past, same-value}
-use Rattle.joblist.specs.Grammar.{comma, lineEnd}
+use Rattle.csv.specs.Grammar.{comma, lineEnd}
 use Rattle.plan.specs.JobLists.{namesOf, listOf}
-use Rattle.joblist.specs.Import.{exactly, item, nameItem, gradeItem, numberItem, Line, line, oneJob, allLines, header, jobText, importedFrom, imported}
-use Rattle.joblist.proofs.ItemLaws.{item-small}
+use Rattle.csv.specs.Items.{exactly, item, nameItem, gradeItem, numberItem}
+use Rattle.joblist.specs.Import.{Line, line, oneJob, allLines, header, jobText, importedFrom, imported}
+use Rattle.csv.proofs.ItemLaws.{item-small}
 use Rattle.plan.proofs.JobLists.{length-snoc}
 
 -- The job at an index.

@@ -10,7 +10,7 @@ use Rattle.plan.specs.Rules.{hi, jobIn, countedIn, jobsHold}
 use Rattle.plan.specs.declared.kinds.Job.{Job}
 use Rattle.plan.specs.declared.kinds.JobList.{JobList}
 use Rattle.text.specs.Text.{text, decimal, nameText}
-use Rattle.joblist.specs.Grammar.{comma, quote, carriageReturn, lineFeed, lineEnd}
+use Rattle.csv.specs.Grammar.{comma, quote, carriageReturn, lineFeed, lineEnd}
 use Rattle.joblist.specs.Import.{header}
 
 -- A field must be in quotes if it holds a quote, a comma, CR or LF.

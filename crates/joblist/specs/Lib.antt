@@ -1,5 +1,3 @@
-pub mod Grammar
-pub mod Decimals
 pub mod Import
 pub mod Grounds
 pub mod Export

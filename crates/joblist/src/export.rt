@@ -20,7 +20,7 @@ ghost use Rattle.plan.specs.Edition.{mostJobs};
 ghost use Rattle.plan.specs.Rules.{jobIn};
 ghost use Rattle.text.specs.Text.{decimal, nameText};
 ghost use Rattle.text.specs.inner.Growth.{Grown};
-ghost use Rattle.joblist.specs.Grammar.{comma, lineEnd};
+ghost use Rattle.csv.specs.Grammar.{comma, lineEnd};
 ghost use Rattle.joblist.specs.Export.{needsQuotes, doubled, fieldText, gradeText, lineText, linesText};
 ghost use Rattle.joblist.specs.Answers.{Exports};
 ghost use Rattle.joblist.specs.inner.Longest.{longestName, longestNumbers, longestLine};

@@ -1,8 +1,8 @@
 // The import: from comma-separated text to a list of jobs.
-use crate::item::read_exactly;
 use crate::line::JobRead;
 use crate::line::job_refusal;
 use crate::line::read_job;
+use csv::item::read_exactly;
 use fields::field::Passed;
 use fields::field::passed_refusal;
 use plan::edition::Edition;

@@ -1,7 +1,7 @@
 // A line of a job list: its five fields, and the job of it.
-use crate::item::read_grade;
-use crate::item::read_name;
-use crate::item::read_number;
+use csv::item::read_grade;
+use csv::item::read_name;
+use csv::item::read_number;
 use fields::field::Field;
 use fields::field::field_refusal;
 use plan::kinds::Job;

@@ -1,19 +1,12 @@
 -- No promise rests on this file: it is here for the contracts of inner functions.
 -- The views and contracts of the parts of the import.
 use mathlib.Core.Path.{_≡_}
-use mathlib.Core.Bool.{cond, _&&_}
 use mathlib.Core.List.{List}
-use Prim.Native.Nat.{ℕ}
-use lib.Dec.{eqb}
 use Rattle.plan.specs.Refusal.{Refusal, noRefusal}
-use Rattle.plan.specs.Rules.{lo, hi}
 use Rattle.plan.specs.JobLists.{listOf}
 use Rattle.plan.specs.declared.kinds.Job.{Job}
 use Rattle.fields.specs.declared.field.Passed.the-variants as passed
 use Rattle.fields.specs.Parsers.{Parsed, got, no}
-use Rattle.joblist.specs.declared.field.Seen.{Seen}
-use Rattle.joblist.specs.declared.item.ItemRead.{ItemRead}
-use Rattle.joblist.specs.declared.item.ItemRead.the-variants as item
 use Rattle.joblist.specs.declared.line.Line.{Line}
 use Rattle.joblist.specs.declared.line.LineRead.{LineRead}
 use Rattle.joblist.specs.declared.line.LineRead.the-variants as line
@@ -21,22 +14,6 @@ use Rattle.joblist.specs.declared.line.JobRead.{JobRead}
 use Rattle.joblist.specs.declared.line.JobRead.the-variants as job
 use Rattle.joblist.specs.declared.import.Lines.{Lines}
 use Rattle.joblist.specs.Import as rule
-use Rattle.joblist.specs.inner.Seen.{nothing, withBytes}
-
--- An item as the code tells it: what is known of the bytes of its field.
-abbrev pub itemSeen : Parsed (List ℕ) → ItemRead
-itemSeen (got l next) = item.Item (withBytes nothing l) next
-itemSeen (no refusal) = item.Refused refusal
-
--- The refusal of an `ItemRead`, or `noRefusal` if it is an item.
-abbrev pub itemRefusal : ItemRead → Refusal
-itemRefusal (item.Item s next) = noRefusal
-itemRefusal (item.Refused refusal) = refusal
-
--- The grade that a field names, from what is known of its bytes: 72 is H, 76 is L.
-abbrev pub gradeSeen : Seen → ℕ
-gradeSeen s =
-    cond (eqb (s .length) 1 && eqb (s .name) 72) hi (cond (eqb (s .length) 1 && eqb (s .name) 76) lo rule.noGrade)
 
 -- A line as the rules have it.
 abbrev pub lineOf : Line → rule.Line

@@ -8,7 +8,7 @@ use lib.ListN.{length}
 use Rattle.text.specs.Text.{nameText}
 use Rattle.text.specs.inner.Growth.{Grown}
 use Rattle.text.proofs.Growth.{adds-grown, grown-twice, grown-same}
-use Rattle.joblist.specs.Grammar.{comma}
+use Rattle.csv.specs.Grammar.{comma}
 use Rattle.joblist.specs.Export.{fieldText, gradeText}
 use Rattle.joblist.specs.inner.Longest.{longestName}
 use Rattle.joblist.proofs.ExportLaws.{grade-length, line-joined}

@@ -7,7 +7,7 @@ use lib.ListN.{length}
 use Rattle.fields.proofs.ParserLaws.{failed, held}
 use Rattle.text.specs.inner.Growth.{Grown}
 use Rattle.text.proofs.Growth.{adds-grown, grown-twice, grown-same}
-use Rattle.joblist.specs.Grammar.{quote}
+use Rattle.csv.specs.Grammar.{quote}
 use Rattle.joblist.specs.Export.{fieldText}
 use Rattle.joblist.proofs.ExportLaws.{field-plain, field-quoted}
 use Rattle.joblist.proofs.export.add_name.Statement.{statement}

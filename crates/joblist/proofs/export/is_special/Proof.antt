@@ -2,7 +2,7 @@
 use mathlib.Core.Path.{sym}
 use mathlib.Core.Bool.{_||_, or-false}
 use lib.Dec.{eqb}
-use Rattle.joblist.specs.Grammar.{comma, quote, carriageReturn, lineFeed}
+use Rattle.csv.specs.Grammar.{comma, quote, carriageReturn, lineFeed}
 use Rattle.joblist.specs.Export.{needsQuotes}
 use Rattle.joblist.proofs.export.is_special.Statement.{statement}
 use Rattle.joblist.proofs.export.is_special.Tie as tie

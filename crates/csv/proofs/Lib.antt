@@ -1,0 +1,5 @@
+pub mod FieldLaws
+pub mod SeenLaws
+pub mod ItemLaws
+pub mod TextBack
+pub mod Determined

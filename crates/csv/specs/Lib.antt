@@ -1,0 +1,5 @@
+pub mod Grammar
+pub mod Decimals
+pub mod Items
+pub mod Answers
+pub mod inner

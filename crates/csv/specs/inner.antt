@@ -1,0 +1,3 @@
+-- Definitions that the contracts of inner functions name. No promise rests on them.
+pub mod Seen
+pub mod Parts
