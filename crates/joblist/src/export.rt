@@ -1,5 +1,7 @@
 // Writing a job list as comma-separated text. The text is made in a buffer that the longest one fits
 // into, and copied to the output only if all of it has room there.
+use crate::header::HEADER_BYTES;
+use crate::header::header;
 use plan::edition::Edition;
 use plan::kinds::HI;
 use plan::kinds::Job;
@@ -30,9 +32,6 @@ const LONGEST_NAME: usize = 2 + 2 * Edition::NAME_BYTES;
 
 // The greatest length of a line: the name, the grade, three numbers, and what stands between them.
 const LONGEST_LINE: usize = LONGEST_NAME + 2 + 3 * (1 + MOST_DIGITS) + 2;
-
-// The number of bytes of the header.
-const HEADER_BYTES: usize = 34;
 
 // No job list is longer.
 const LONGEST_TEXT: usize = HEADER_BYTES + Edition::MOST_JOBS * LONGEST_LINE;
@@ -112,16 +111,19 @@ fn letter_of(grade: u8) -> [u8; 1]
 }
 
 // Appends the numbers of a job, with a comma before each, and the end of the line.
-fn add_numbers(text: &mut [u8], at: usize, release: u32, size: u32, deadline: u32) -> usize
-    requires { ⌜ at + longestNumbers ≤ length (now text) ⌝ }
-    ensures { λ r. ⌜ Grown (now (text .entry)) (now (text .exit)) at r ((comma ∷ []) ++ decimal release ++ (comma ∷ []) ++ decimal size ++ (comma ∷ []) ++ decimal deadline ++ lineEnd) × (r ≤ at + longestNumbers) ⌝ }
+fn add_numbers(text: &mut [u8], at: usize, job: Job) -> usize
+    requires { ⌜ (at + longestNumbers ≤ length (now text)) × (job .size .0 < 2 ^ 32) ⌝ }
+    ensures { λ r. ⌜ Grown (now (text .entry)) (now (text .exit)) at r ((comma ∷ []) ++ decimal (job .release .0) ++ (comma ∷ []) ++ decimal (job .size .0) ++ (comma ∷ []) ++ decimal (job .deadline .0) ++ lineEnd) × (r ≤ at + longestNumbers) ⌝ }
 {
+    let release = job.release;
+    let size = job.size;
+    let deadline = job.deadline;
     let mut next = add(text, at, b",");
-    next = add_number(text, next, release);
+    next = add_number(text, next, release.0);
     next = add(text, next, b",");
-    next = add_number(text, next, size);
+    next = add_number(text, next, size.0 as u32);
     next = add(text, next, b",");
-    next = add_number(text, next, deadline);
+    next = add_number(text, next, deadline.0);
     add(text, next, b"\r\n")
 }
 
@@ -130,14 +132,11 @@ fn add_line(text: &mut [u8], at: usize, job: Job) -> usize
     requires { ⌜ (at + longestLine ≤ length (now text)) × (job .size .0 < 2 ^ 32) ⌝ }
     ensures { λ r. ⌜ Grown (now (text .entry)) (now (text .exit)) at r (lineText job) × (r ≤ at + longestLine) ⌝ }
 {
-    let release = job.release;
-    let size = job.size;
-    let deadline = job.deadline;
     let after_name = add_name(text, at, job.name);
     let after_comma = add(text, after_name, b",");
     let letter = letter_of(job.grade);
     let after_grade = add(text, after_comma, &letter);
-    add_numbers(text, after_grade, release.0, size.0 as u32, deadline.0)
+    add_numbers(text, after_grade, job)
 }
 
 // Appends the lines of a list.
@@ -165,8 +164,9 @@ pub fn export(list: JobList, out: &mut [u8]) -> Exported
         return Exported::Refused(UNSOUND);
     }
     let mut text = [0u8; LONGEST_TEXT];
-    let first = add(&mut text, 0, b"name,grade,release,size,deadline\r\n");
-    let length = add_lines(&mut text, first, list);
+    let first = header();
+    let after_header = add(&mut text, 0, &first);
+    let length = add_lines(&mut text, after_header, list);
     if out.len() < length {
         return Exported::Refused(BUFFER_TOO_SHORT);
     }

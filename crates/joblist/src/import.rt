@@ -1,4 +1,5 @@
 // The import: from comma-separated text to a list of jobs.
+use crate::header::header;
 use crate::line::JobRead;
 use crate::line::job_refusal;
 use crate::line::read_job;
@@ -100,9 +101,10 @@ pub fn import(text: &[u8]) -> Imported
         number: WRONG_HEADER,
         offset: 0,
     };
-    let header = read_exactly(text, 0, b"name,grade,release,size,deadline\r\n", wrong);
-    let Passed::Next(at) = header else {
-        return refused(passed_refusal(header));
+    let first = header();
+    let headed = read_exactly(text, 0, &first, wrong);
+    let Passed::Next(at) = headed else {
+        return refused(passed_refusal(headed));
     };
     let lines = read_lines(text, at);
     let passed = lines.answer;

@@ -1,8 +1,10 @@
 -- For the contracts of internal functions; no promise rests on this file. The greatest lengths of the
 -- parts of a line, whatever its numbers are.
 use Prim.Native.Nat.{ℕ, _+_, _*_}
+use lib.ListN.{length}
 use Rattle.plan.specs.Edition.{nameBytes, mostJobs}
 use Rattle.text.specs.Text.{mostDigits}
+use Rattle.joblist.specs.Import.{header}
 
 -- A name's field: two quotes, and each byte doubled.
 abbrev pub longestName : ℕ
@@ -18,4 +20,4 @@ longestLine = longestName + 2 + longestNumbers
 
 -- A text: the header, and a line for each job.
 abbrev pub longestText : ℕ
-longestText = 34 + mostJobs * longestLine
+longestText = length header + mostJobs * longestLine

@@ -16,19 +16,19 @@ use Rattle.joblist.proofs.export.add_line.Statement.{statement}
 use Rattle.joblist.proofs.export.add_line.Tie as tie
 
 -- The name and the comma after it.
-named : (c : tie.After-add) → Grown (c .before .before .before .before .before .before .before .before .before .before .before .args .text .now) (c .add .last .0) (c .before .before .before .before .before .before .before .before .before .before .before .args .at) (c .add .result) (fieldText (nameText (c .before .before .before .before .before .before .before .before .before .before .before .args .job .name .0)) ++ (comma ∷ [])) × (c .add .result ≤ c .before .before .before .before .before .before .before .before .before .before .before .args .at + longestName + 1)
+named : (c : tie.After-add) → Grown (c .before .before .before .before .before .before .before .before .args .text .now) (c .add .last .0) (c .before .before .before .before .before .before .before .before .args .at) (c .add .result) (fieldText (nameText (c .before .before .before .before .before .before .before .before .args .job .name .0)) ++ (comma ∷ [])) × (c .add .result ≤ c .before .before .before .before .before .before .before .before .args .at + longestName + 1)
 named c =
     let n = c .before .before .before .before .before .add-name .ensures in
-    let g = adds-grown (omega (arith, c .before .before .before .before .before .before .before .before .before .before .before .pre .0, n .0 .room, n .1)) (c .add .ensures) in
+    let g = adds-grown (omega (arith, c .before .before .before .before .before .before .before .before .pre .0, n .0 .room, n .1)) (c .add .ensures) in
     (grown-twice (n .0) g, omega (arith, n .1, g .end))
 
 -- The grade after them.
-graded : (c : tie.After-add2) → Grown (c .before .before .before .before .before .before .before .before .before .before .before .before .before .before .before .before .before .args .text .now) (c .add2 .last .0) (c .before .before .before .before .before .before .before .before .before .before .before .before .before .before .before .before .before .args .at) (c .add2 .result) (fieldText (nameText (c .before .before .before .before .before .before .before .before .before .before .before .before .before .before .before .before .before .args .job .name .0)) ++ (comma ∷ []) ++ gradeText (c .before .before .before .before .before .before .before .before .before .before .before .before .before .before .before .before .before .args .job .grade)) × (c .add2 .result ≤ c .before .before .before .before .before .before .before .before .before .before .before .before .before .before .before .before .before .args .at + longestName + 2)
+graded : (c : tie.After-add2) → Grown (c .before .before .before .before .before .before .before .before .before .before .before .before .before .before .args .text .now) (c .add2 .last .0) (c .before .before .before .before .before .before .before .before .before .before .before .before .before .before .args .at) (c .add2 .result) (fieldText (nameText (c .before .before .before .before .before .before .before .before .before .before .before .before .before .before .args .job .name .0)) ++ (comma ∷ []) ++ gradeText (c .before .before .before .before .before .before .before .before .before .before .before .before .before .before .args .job .grade)) × (c .add2 .result ≤ c .before .before .before .before .before .before .before .before .before .before .before .before .before .before .args .at + longestName + 2)
 graded c =
     let n = named (c .before .before .before .before .before .before) in
     let e = c .before .before .before .letter-of .ensures in
-    let one = ap length e ∙ grade-length (c .before .before .before .before .before .before .before .before .before .before .before .before .before .before .before .before .before .args .job .grade) in
-    let g = adds-grown (omega (arith, c .before .before .before .before .before .before .before .before .before .before .before .before .before .before .before .before .before .pre .0, n .0 .room, n .1, one)) (c .add2 .ensures) in
+    let one = ap length e ∙ grade-length (c .before .before .before .before .before .before .before .before .before .before .before .before .before .before .args .job .grade) in
+    let g = adds-grown (omega (arith, c .before .before .before .before .before .before .before .before .before .before .before .before .before .before .pre .0, n .0 .room, n .1, one)) (c .add2 .ensures) in
     (grown-twice (n .0) (grown-same e g), omega (arith, n .1, g .end, one))
 
 add-name-requires : tie.Need-add-name-requires
@@ -49,22 +49,20 @@ slice-aggregate-add-2 c = search needs
 add-requires-2 : tie.Need-add-requires-2
 add-requires-2 c κs = search needs
 
-cast-add-numbers : tie.Need-cast-add-numbers
-cast-add-numbers c = search needs
-
 add-numbers-requires : tie.Need-add-numbers-requires
 add-numbers-requires c κs =
-    let g = graded (c .before .before .before .before) in
-    omega (arith, c .before .before .before .before .before .before .before .before .before .before .before .before .before .before .before .before .before .before .before .before .before .pre .0, g .0 .room, g .1)
+    let g = graded (c .before .before .before) in
+    let pre = c .before .before .before .before .before .before .before .before .before .before .before .before .before .before .before .before .before .pre in
+    (omega (arith, pre .0, g .0 .room, g .1), pre .1)
 
 same-length : tie.Need-same-length
 same-length c = search needs
 
 returns : tie.Need-returns
 returns c =
-    let g = graded (c .before .before .before .before .before .before .before) in
+    let g = graded (c .before .before .before .before .before .before) in
     let h = c .before .before .add-numbers .ensures in
-    (grown-same (line-joined (c .before .before .before .before .before .before .before .before .before .before .before .before .before .before .before .before .before .before .before .before .before .before .before .before .args .job)) (grown-twice (g .0) (h .0)), omega (arith, g .1, h .1))
+    (grown-same (line-joined (c .before .before .before .before .before .before .before .before .before .before .before .before .before .before .before .before .before .before .before .before .args .job)) (grown-twice (g .0) (h .0)), omega (arith, g .1, h .1))
 
 pub add-line-spec : {M : Type 1} → statement M
 add-line-spec =
@@ -76,7 +74,6 @@ add-line-spec =
     letter-of-requires
     slice-aggregate-add-2
     add-requires-2
-    cast-add-numbers
     add-numbers-requires
     same-length
     returns)

@@ -1,16 +1,28 @@
 -- `joblist::import::import` meets its contract.
-use mathlib.Core.Path.{refl, _∙_, ap}
+use mathlib.Core.Path.{_≡_, refl, _∙_, ap}
 use mathlib.Core.List.{[]}
 use native.Mathlib.Omega.{arith}
 use borrow.Author.Needs.{needs}
 use Rattle.plan.specs.Edition.{mostJobs}
+use Rattle.plan.specs.Refusal.{wrongHeader}
 use Rattle.fields.specs.Answers.{passedView, passedRefusal}
 use Rattle.fields.proofs.ParserLaws.{so, refused, passed-refused}
 use Rattle.plan.specs.declared.kinds.JobList.{JobList}
-use Rattle.joblist.specs.Import.{allLines}
+use Rattle.csv.specs.Items.{exactly}
+use Rattle.joblist.specs.Import.{allLines, header}
 use Rattle.joblist.proofs.ImportLaws.{shown, lines-no, lines-got, import-no-header, import-no-lines, import-none, import-whole}
 use Rattle.joblist.proofs.import.import.Statement.{statement}
 use Rattle.joblist.proofs.import.import.Tie as tie
+
+-- What is read first is the header.
+read : (c : tie.After-read-exactly)
+    → passedView (c .read-exactly .result) ≡ exactly header wrongHeader 0 (c .before .before .before .before .args .text .now) 0
+read c =
+    c .read-exactly .ensures
+    ∙ ap (λ h. exactly h wrongHeader 0 (c .before .before .before .before .args .text .now) 0) (c .before .before .header .ensures)
+
+header-requires : tie.Need-header-requires
+header-requires c κs = search needs
 
 slice-aggregate-read-exactly : tie.Need-slice-aggregate-read-exactly
 slice-aggregate-read-exactly c = search needs
@@ -18,8 +30,8 @@ slice-aggregate-read-exactly c = search needs
 read-exactly-requires : tie.Need-read-exactly-requires
 read-exactly-requires c κs = search needs
 
-enum-known-header : tie.Need-enum-known-header
-enum-known-header c = search needs
+enum-known-headed : tie.Need-enum-known-headed
+enum-known-headed c = search needs
 
 enum-told : tie.Need-enum-told
 enum-told c = search needs
@@ -35,10 +47,10 @@ returns c =
     let at-passed-refusal = c .before in
     let at-enum-told = at-passed-refusal .before in
     let at-read-exactly = at-enum-told .before .before in
-    let entry = at-read-exactly .before .before .before in
+    let entry = at-read-exactly .before .before .before .before in
     c .refused .ensures
     ∙ import-no-header (entry .args .text .now)
-    (refused passedView passedRefusal (at-read-exactly .read-exactly .ensures) (at-enum-told .enum-told .given .1) refl refl (at-passed-refusal .passed-refusal .ensures))
+    (refused passedView passedRefusal (read at-read-exactly) (at-enum-told .enum-told .given .1) refl refl (at-passed-refusal .passed-refusal .ensures))
 
 read-lines-requires : tie.Need-read-lines-requires
 read-lines-requires c κs = search needs
@@ -60,13 +72,13 @@ returns-2 c =
     let at-passed-refusal2 = c .before in
     let at-enum-told2 = at-passed-refusal2 .before in
     let at-read-lines = at-enum-told2 .before .before in
-    let at-header = at-read-lines .before .before in
-    let at-read-exactly = at-header .before .before in
-    let entry = at-read-exactly .before .before .before in
+    let at-headed = at-read-lines .before .before in
+    let at-read-exactly = at-headed .before .before in
+    let entry = at-read-exactly .before .before .before .before in
     let text = entry .args .text .now in
-    let at = at-header .header .given .0 .0 in
+    let at = at-headed .headed .given .0 .0 in
     c .refused2 .ensures
-    ∙ import-no-lines text (so passedView (at-read-exactly .read-exactly .ensures) (at-header .header .given .1))
+    ∙ import-no-lines text (so passedView (read at-read-exactly) (at-headed .headed .given .1))
     (lines-no (at-read-lines .read-lines .result) (allLines mostJobs [] text at) (at-read-lines .read-lines .ensures)
     (passed-refused (at-enum-told2 .enum-told2 .given .1) (at-passed-refusal2 .passed-refusal2 .ensures)))
 
@@ -78,37 +90,38 @@ returns-3 c =
     let at-if1 = c .before in
     let at-passed = at-if1 .before .before .before .before in
     let at-read-lines = at-passed .before .before in
-    let at-header = at-read-lines .before .before in
-    let at-read-exactly = at-header .before .before in
-    let entry = at-read-exactly .before .before .before in
+    let at-headed = at-read-lines .before .before in
+    let at-read-exactly = at-headed .before .before in
+    let entry = at-read-exactly .before .before .before .before in
     let text = entry .args .text .now in
-    let at = at-header .header .given .0 .0 in
+    let at = at-headed .headed .given .0 .0 in
     let g = lines-got (at-read-lines .read-lines .result) (allLines mostJobs [] text at) (at-read-lines .read-lines .ensures) (at-passed .passed .given .1) in
     c .refused3 .ensures
-    ∙ import-none text (so passedView (at-read-exactly .read-exactly .ensures) (at-header .header .given .1)) (g .1)
+    ∙ import-none text (so passedView (read at-read-exactly) (at-headed .headed .given .1)) (g .1)
     (omega (arith, ap (λ (l : JobList). l .count) (g .2), at-if1 .if1 .taken))
 
 returns-4 : tie.Need-returns-4
 returns-4 c =
     let at-passed = c .before .before .before .before in
     let at-read-lines = at-passed .before .before in
-    let at-header = at-read-lines .before .before in
-    let at-read-exactly = at-header .before .before in
-    let entry = at-read-exactly .before .before .before in
+    let at-headed = at-read-lines .before .before in
+    let at-read-exactly = at-headed .before .before in
+    let entry = at-read-exactly .before .before .before .before in
     let text = entry .args .text .now in
-    let at = at-header .header .given .0 .0 in
+    let at = at-headed .headed .given .0 .0 in
     let g = lines-got (at-read-lines .read-lines .result) (allLines mostJobs [] text at) (at-read-lines .read-lines .ensures) (at-passed .passed .given .1) in
     ap (λ (l : JobList). shown l) (g .2)
-    ∙ import-whole text (so passedView (at-read-exactly .read-exactly .ensures) (at-header .header .given .1)) (g .1)
+    ∙ import-whole text (so passedView (read at-read-exactly) (at-headed .headed .given .1)) (g .1)
     (omega (arith, ap (λ (l : JobList). l .count) (g .2), c .if1 .left))
 
 pub import-spec : {M : Type 1} → statement M
 import-spec =
     tie.close
     (tie.spec
+    header-requires
     slice-aggregate-read-exactly
     read-exactly-requires
-    enum-known-header
+    enum-known-headed
     enum-told
     passed-refusal-requires
     refused-requires
