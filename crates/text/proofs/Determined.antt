@@ -17,17 +17,17 @@ pub some-piece : (line : Bytes) (at : Offset) (piece : Bytes) → (r : ℕ) × (
 some-piece line at piece = (endAfter line at piece, appended line at piece, (refl, refl))
 
 -- `text::append::add_number`.
-pub one-number : (line : Bytes) (at : Offset) (number r s : ℕ) (left other : List ℕ) → Adds line at (decimal number) r left
+pub one-number-piece : (line : Bytes) (at : Offset) (number r s : ℕ) (left other : List ℕ) → Adds line at (decimal number) r left
     → Adds line at (decimal number) s other → (r ≡ s) × (left ≡ other)
-one-number line at number = one-piece line at (decimal number)
+one-number-piece line at number = one-piece line at (decimal number)
 
-pub some-number : (line : Bytes) (at : Offset) (number : ℕ) → (r : ℕ) × (left : List ℕ) × Adds line at (decimal number) r left
-some-number line at number = some-piece line at (decimal number)
+pub some-number-piece : (line : Bytes) (at : Offset) (number : ℕ) → (r : ℕ) × (left : List ℕ) × Adds line at (decimal number) r left
+some-number-piece line at number = some-piece line at (decimal number)
 
 -- `text::append::add_name`.
-pub one-name : (line : Bytes) (at : Offset) (name : Name) (r s : ℕ) (left other : List ℕ) → Adds line at (nameText (name .0)) r left
+pub one-name-piece : (line : Bytes) (at : Offset) (name : Name) (r s : ℕ) (left other : List ℕ) → Adds line at (nameText (name .0)) r left
     → Adds line at (nameText (name .0)) s other → (r ≡ s) × (left ≡ other)
-one-name line at name = one-piece line at (nameText (name .0))
+one-name-piece line at name = one-piece line at (nameText (name .0))
 
-pub some-name : (line : Bytes) (at : Offset) (name : Name) → (r : ℕ) × (left : List ℕ) × Adds line at (nameText (name .0)) r left
-some-name line at name = some-piece line at (nameText (name .0))
+pub some-name-piece : (line : Bytes) (at : Offset) (name : Name) → (r : ℕ) × (left : List ℕ) × Adds line at (nameText (name .0)) r left
+some-name-piece line at name = some-piece line at (nameText (name .0))
