@@ -1,5 +1,5 @@
 -- No promise rests on this file: it is here for the contracts of inner functions.
--- What the import knows of the bytes that a field stands for, byte by byte.
+-- What the code knows of the bytes that a field stands for, byte by byte.
 use mathlib.Core.Bool.{true, not, _&&_, _||_}
 use mathlib.Core.List.{List, [], _∷_}
 use Prim.Native.Nat.{ℕ, _+_, _*_, _-_, _%_, min}
