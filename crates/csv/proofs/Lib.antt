@@ -2,4 +2,5 @@ pub mod FieldLaws
 pub mod SeenLaws
 pub mod ItemLaws
 pub mod TextBack
+pub mod ItemRefusals
 pub mod Determined

@@ -18,10 +18,6 @@ use Rattle.joblist.specs.Export.{needsQuotes, doubled, fieldText, gradeT
 use Rattle.joblist.proofs.ExportLaws.{field-plain, field-quoted}
 
 -- One printable byte more.
-printable-cons : (b : ℕ) (l : List ℕ) → inside b ≡ true → printable l ≡ true → printable (b ∷ l) ≡ true
-unfolding printable
-printable-cons b l h k = rw (h, k) refl
-
 -- A byte that needs no quotes is plain, and any other one but a quote may stand in quotes.
 plain-byte : (b : ℕ) → inside b ≡ true → eqb b quote ≡ false → eqb b comma ≡ false → isPlain b ≡ true
 unfolding inside

@@ -18,8 +18,9 @@ use Rattle.plan.specs.Rules.{nameAllowed, isAbsent, gradeAllowed, windowAllowed
 use Rattle.plan.specs.declared.kinds.Job.{Job}
 use Rattle.plan.proofs.JobLists.{length-snoc}
 use Rattle.fields.specs.Parsers.{Parsed, got, no}
-use Rattle.joblist.specs.Grammar.{begins}
-use Rattle.joblist.specs.Import.{exactly, Line, line, jobOn, oneJob, allLines, header, ImportEffect, imported}
+use Rattle.csv.specs.Grammar.{begins}
+use Rattle.csv.specs.Items.{exactly}
+use Rattle.joblist.specs.Import.{Line, line, jobOn, oneJob, allLines, header, ImportEffect, imported}
 use Rattle.joblist.specs.Grounds.{Reached, begun, further, WrongLine, not-formed, name-byte, name-taken, grade, bounds, WrongText, no-header, no-line, line-too-many, in-line}
 use Rattle.joblist.proofs.ImportLaws.{import-no-header, import-no-lines, import-none, import-whole}
 use Rattle.joblist.proofs.LineLaws.{job-no-line, job-name-byte, job-name-taken, job-grade, job-bounds, job-whole}

@@ -9,6 +9,7 @@ pub mod Numbers
 pub mod Soundness
 pub mod ImportExactly
 pub mod ExportLaws
+pub mod TextFits
 pub mod RuleParts
 pub mod FieldBack
 pub mod RoundTrip

@@ -17,8 +17,9 @@ use Rattle.plan.specs.declared.kinds.JobList.{JobList}
 use Rattle.fields.specs.Parsers.{Parsed, got, no, Parser, onward, test}
 use Rattle.fields.proofs.Only.{among, Only, only-onward, only-test}
 use Rattle.csv.specs.Items.{exactly}
+use Rattle.csv.proofs.ItemRefusals.{exactly-refuses}
 use Rattle.joblist.specs.Import.{line, oneJob, allLines, header, jobText, importedFrom, imported}
-use Rattle.joblist.proofs.LineRefusals.{exactly-refuses, line-refuses}
+use Rattle.joblist.proofs.LineRefusals.{line-refuses}
 use Rattle.joblist.specs.Export.{wrote, refused, listText, ExportEffect, withheld, exported}
 
 -- The refusals of the import: 24, 5, 23, and 6 to 9.

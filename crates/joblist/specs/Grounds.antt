@@ -11,7 +11,7 @@ use Rattle.plan.specs.Refusal.{Refusal, wrongJobCount, wrongNameByte, nameTaken
 use Rattle.plan.specs.Rules.{nameAllowed, isAbsent, gradeAllowed, windowAllowed, sizeAllowed}
 use Rattle.plan.specs.declared.kinds.Job.{Job}
 use Rattle.fields.specs.Parsers.{got, no}
-use Rattle.joblist.specs.Grammar.{begins}
+use Rattle.csv.specs.Grammar.{begins}
 use Rattle.joblist.specs.Import.{Line, line, oneJob, header}
 
 -- After the header, and a line for each of these jobs that was taken, the next line would begin at `at`.
