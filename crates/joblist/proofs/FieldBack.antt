@@ -17,7 +17,6 @@ use Rattle.csv.proofs.TextBack.{inside, printable, Ends, name-printable}
 use Rattle.joblist.specs.Export.{needsQuotes, doubled, fieldText, gradeText}
 use Rattle.joblist.proofs.ExportLaws.{field-plain, field-quoted}
 
--- One printable byte more.
 -- A byte that needs no quotes is plain, and any other one but a quote may stand in quotes.
 plain-byte : (b : ℕ) → inside b ≡ true → eqb b quote ≡ false → eqb b comma ≡ false → isPlain b ≡ true
 unfolding inside

@@ -1,7 +1,5 @@
 -- The three demands are met.
-use mathlib.Core.Path.{_≡_, sym, _∙_}
-use mathlib.Core.List.{List}
-use Prim.Native.Nat.{ℕ}
+use mathlib.Core.Path.{_≡_}
 use Rattle.promises.specs.Demands.{ExactlyOne, EveryCallIsDetermined, VerdictFileAndSlotAreExact, AllDemands}
 use Rattle.joblist.proofs.Determined as lists
 use Rattle.promises.proofs.Determined as unique

@@ -4,12 +4,12 @@ use mathlib.Core.Path.{_≡_, refl, sym, _∙_, ap, ap₂}
 use mathlib.Core.Logic.{inl, inr, ⊎-elim}
 use mathlib.Core.Bool.{Bool, true, false, cond, _&&_, _||_, or-false, false≢true}
 use mathlib.Core.List.{List, [], _∷_}
-use Prim.Native.Nat.{ℕ, _+_, _-_, _≤_}
+use Prim.Native.Nat.{ℕ, _+_, _≤_}
 use native.Mathlib.Omega.{arith}
 use borrow.Author.Tests.{le-ltb, ltb-false, ne-eqb}
-use lib.Dec.{leb, ltb, eqb}
-use lib.ListN.{length, getD, take, drop, replicate, length-drop, length-replicate}
-use lib.Seq.{sets, length-sets, length-take-le}
+use lib.Dec.{leb, eqb}
+use lib.ListN.{length, getD, drop, replicate, length-drop, length-replicate}
+use lib.Seq.{length-sets, length-take-le}
 use Rattle.base.specs.Sum.{sum, on}
 use Rattle.base.specs.Below
 use Rattle.base.proofs.Stores.{sets-whole}
@@ -19,7 +19,6 @@ use Rattle.plan.specs.Report.{Report, doneNumber, numberOf, first}
 use Rattle.plan.specs.Rules.{counted, noPlan, nameAllowed, namesHold, namesDiffer, gradesHold, boundsHold, rulesHold}
 use Rattle.plan.specs.Boundaries.{insert, boundariesTo}
 use Rattle.plan.specs.Table.{noStray, sound}
-use Rattle.plan.specs.declared.kinds.Job.{Job}
 use Rattle.plan.specs.declared.kinds.Plan.{Plan}
 use Rattle.judge.specs.Verdict.{outsideFault, totalFault, capacityFault, isHiDeadline, floorFault, judged}
 use Rattle.dispatch.specs.declared.Run.{Run}

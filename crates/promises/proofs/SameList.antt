@@ -1,12 +1,9 @@
 -- Job lists with the same count and the same counted jobs are exported to the same text, whatever stands in their other records.
-use mathlib.Core.Path.{_≡_, refl, _∙_, ap, ap₂}
-use mathlib.Core.Bool.{Bool, not, cond, _||_}
-use mathlib.Core.List.{List, [], _∷_, _++_}
-use Prim.Native.Nat.{ℕ, zero, suc, _<_, min}
+use mathlib.Core.Path.{_≡_, refl, ap₂}
+use mathlib.Core.List.{List, [], _++_}
+use Prim.Native.Nat.{ℕ, zero, suc, _<_}
 use native.Mathlib.Omega.{arith}
-use lib.ListN.{length, getD}
-use Rattle.plan.specs.Edition.{mostJobs}
-use Rattle.plan.specs.Rules.{jobIn, countedIn, jobsHold, noJob}
+use Rattle.plan.specs.Rules.{jobIn, countedIn, jobsHold}
 use Rattle.plan.specs.Same.{Same}
 use Rattle.plan.specs.declared.kinds.JobList.{JobList}
 use Rattle.plan.specs.declared.kinds.Plan.{Plan}

@@ -27,15 +27,11 @@ use Rattle.joblist.specs.declared.export.Exported.{Exported}
 use Rattle.judge.specs.Constraints.{Figure2}
 use Rattle.judge.specs.Verdict.{judged}
 use Rattle.judge.specs.Answers.{Judges, Measures}
-use Rattle.judge.specs.declared.answers.Slack.{Slack}
-use Rattle.judge.specs.declared.answers.Verdict.{Verdict}
 use Rattle.dispatch.specs.Dues.{slowAfter, due}
 use Rattle.dispatch.specs.Order.{order, serve}
 use Rattle.dispatch.specs.Step.{stepped}
 use Rattle.dispatch.specs.Answers.{Starts, Steps, Ends}
 use Rattle.dispatch.specs.declared.Run.{Run}
-use Rattle.dispatch.specs.declared.answers.Outcome.{Outcome}
-use Rattle.dispatch.specs.declared.start.Started.{Started}
 use Rattle.dispatch.specs.declared.step.Stepped.{Stepped}
 use Rattle.promises.specs.Night.{Call, Allowed, Kept}
 
