@@ -9,7 +9,7 @@
  * time.
  *
  * A buffer of length 0 may be NULL: nothing is read or written through it. An empty file is refused by 1, an empty text of a job list by 24,
- * and any other empty buffer is too short (22; gateway_name answers 0). A single number's pointer (offset, written, slack) is never NULL.
+ * and any other empty buffer is too short (22, unless the call finds another number first; gateway_name answers 0). A single number's pointer (offset, written, slack) is never NULL.
  *
  * A name that begins GATEWAY_INDEX_ is an index into a buffer and never the value there: run[GATEWAY_INDEX_CLOCK] is the clock. */
 #ifndef GATEWAY_H
@@ -27,7 +27,7 @@ extern "C" {
 #define GATEWAY_MOST_INTERVALS 63
 /* The largest plan file, in bytes. */
 #define GATEWAY_LARGEST_FILE 30956
-/* No text that gateway_export writes is longer, in bytes. */
+/* A bound, in bytes: no text that gateway_export writes is longer. */
 #define GATEWAY_LONGEST_LIST 1794
 /* The bytes of a job's name. */
 #define GATEWAY_NAME_BYTES 8

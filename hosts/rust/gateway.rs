@@ -203,7 +203,7 @@ pub struct Job {
 impl Job {
     /// The name as text. Bytes that no name may have are escaped.
     pub fn name_text(&self) -> String {
-        let shown = |&byte: &u8| if byte.is_ascii_graphic() { char::from(byte).to_string() } else { byte.escape_ascii().to_string() };
+        let shown = |&byte: &u8| if byte.is_ascii_graphic() { char::from(byte).to_string() } else { format!("\\x{byte:02x}") };
         self.name.iter().map(shown).collect()
     }
 

@@ -5,7 +5,7 @@ use Prim.Native.Nat.{ℕ, zero, suc, _+_, _*_, _^_, min}
 use lib.Dec.{leb, ltb, eqb}
 use lib.ListN.{length, getD, take, drop}
 use lib.Seq.{sets}
-use Rattle.plan.specs.Kinds.{Offset, Position, Words}
+use Rattle.plan.specs.Kinds.{Position, Words}
 use Rattle.plan.specs.Edition.{mostJobs}
 use Rattle.base.specs.Below.{every}
 use Rattle.plan.specs.JobLists.{listOf}
@@ -81,14 +81,14 @@ abbrev pub most32 : ℕ
 most32 = 4_294_967_295
 
 -- The index at which the words of job i begin, if those of the jobs begin at `from`; and in a plan.
-abbrev pub jobIndex : (from : Offset) (i : Position) → ℕ
+abbrev pub jobIndex : (from : ℕ) (i : Position) → ℕ
 jobIndex from i = from + jobWords * i
 
 abbrev pub jobStart : Position → ℕ
 jobStart = jobIndex headWords
 
 -- The job that the words from index `at` on encode; a word that is not there counts as 0.
-abbrev pub jobAt : (w : Words) (at : Offset) → Job
+abbrev pub jobAt : (w : Words) (at : ℕ) → Job
 jobAt w at =
     record {
       name = record { 0 = getD w at 0 };
@@ -99,7 +99,7 @@ jobAt w at =
     }
 
 -- The first n jobs that the words from index `from` on encode.
-unfoldable pub jobsTo : (w : Words) (from : Offset) (n : ℕ) → List Job
+unfoldable pub jobsTo : (w : Words) (from n : ℕ) → List Job
 jobsTo w from zero = []
 jobsTo w from (suc n) = jobsTo w from n ++ (jobAt w (jobIndex from n) ∷ [])
 

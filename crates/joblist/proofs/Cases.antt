@@ -13,7 +13,7 @@ use Rattle.plan.specs.declared.kinds.Job.{Job}
 use Rattle.plan.specs.declared.kinds.JobList.{JobList}
 use Rattle.fields.specs.Bytes.{value}
 use Rattle.text.specs.Text.{text, digits}
-use Rattle.csv.specs.Grammar.{lineEnd, quote, plain, quoted, field, begins}
+use Rattle.csv.specs.Grammar.{lineEnd, lineFeed, quote, plain, quoted, field, begins}
 use Rattle.csv.specs.Decimals.{areDigits, isDecimal, decimalFrom}
 use Rattle.csv.specs.Items.{exactly, item, nameItem, numberItem, gradeItem}
 use Rattle.joblist.specs.Export.{needsQuotes, doubled, fieldText, linesText, listText, wrote, refused, exported}
@@ -22,6 +22,10 @@ use Rattle.joblist.specs.Import.{header, line, oneJob, allLines, jobText
 -- The report of a text.
 abbrev report : Bytes → Report
 report bytes = imported bytes .answer
+
+-- Bytes in quotes, none of which is a quote.
+abbrev inQuotes : Bytes → Bytes
+inQuotes l = (quote ∷ []) ++ l ++ (quote ∷ [])
 
 abbrev reports : List Report
 reports =
@@ -38,6 +42,16 @@ reports =
     ∷ report (header ++ text "Mirror-A,HH,0,6,5" ++ lineEnd)
     ∷ report (header ++ text "Mirror-A,L,0,99999999999999999999999999,5" ++ lineEnd)
     ∷ report (header ++ text "Mirror-A,L,0,6,5" ++ lineEnd ++ text "Mirror-A,H,1,8,10" ++ lineEnd)
+    -- A quoted grade and number are taken; CRLF in quotes does not end the line, and no name has it; a header in quotes, LF
+    -- alone, a sign, a byte that no field has, and text after a closing quote are refused.
+    ∷ report (header ++ text "Mirror-A," ++ inQuotes (text "L") ++ text "," ++ inQuotes (text "0") ++ text ",6,5" ++ lineEnd)
+    ∷ report (header ++ inQuotes (text "Mirr" ++ lineEnd ++ text "-A") ++ text ",L,0,6,5" ++ lineEnd)
+    ∷ report (inQuotes (text "name") ++ text ",grade,release,size,deadline" ++ lineEnd ++ text "Mirror-A,L,0,6,5" ++ lineEnd)
+    ∷ report (text "name,grade,release,size,deadline" ++ (lineFeed ∷ []))
+    ∷ report (header ++ text "Mirror-A,L,0,6,5" ++ (lineFeed ∷ []))
+    ∷ report (header ++ text "Mirror-A,L,+1,6,5" ++ lineEnd)
+    ∷ report (header ++ text "Mirror-" ++ (0x7F ∷ []) ++ text ",L,0,6,5" ++ lineEnd)
+    ∷ report (header ++ inQuotes (text "Mirror") ++ text "-A,L,0,6,5" ++ lineEnd)
     ∷ []
 
 cases : reports
@@ -54,6 +68,14 @@ cases : reports
     ∷ (8 ∷ 43 ∷ [])
     ∷ (9 ∷ 45 ∷ [])
     ∷ (7 ∷ 52 ∷ [])
+    ∷ []
+    ∷ (6 ∷ 34 ∷ [])
+    ∷ (24 ∷ 0 ∷ [])
+    ∷ (24 ∷ 0 ∷ [])
+    ∷ (23 ∷ 34 ∷ [])
+    ∷ (23 ∷ 34 ∷ [])
+    ∷ (23 ∷ 34 ∷ [])
+    ∷ (23 ∷ 34 ∷ [])
     ∷ []
 unfolding imported jobText allLines oneJob line gradeItem numberItem nameItem item exactly begins field quoted plain isDecimal areDigits decimalFrom value nameAllowed isAbsent every
 cases = refl

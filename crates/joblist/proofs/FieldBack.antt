@@ -10,12 +10,12 @@ use lib.Dec.{leb, eqb}
 use lib.ListN.{length, getD}
 use Rattle.base.proofs.Logic.{if-true, both, neither}
 use Rattle.plan.specs.Rules.{lo, hi, nameAllowed, gradeAllowed}
-use Rattle.text.specs.Text.{nameText}
+use Rattle.text.specs.Text.{decimal, nameText}
 use Rattle.csv.specs.Grammar.{comma, quote, carriageReturn, lineFeed, isPlain, isQuotable, found, plain, quoted, field, begins}
 use Rattle.csv.specs.Items.{gradeNamed}
 use Rattle.csv.proofs.TextBack.{inside, printable, Ends, name-printable}
-use Rattle.joblist.specs.Export.{needsQuotes, doubled, fieldText, gradeText}
-use Rattle.joblist.proofs.ExportLaws.{field-plain, field-quoted}
+use Rattle.joblist.specs.Export.{needsQuotes, doubled, fieldText, Special, InQuotes, gradeText}
+use Rattle.joblist.proofs.ExportLaws.{field-plain, field-quoted, number-plain, grade-plain}
 
 -- A byte that needs no quotes is plain, and any other one but a quote may stand in quotes.
 plain-byte : (b : ℕ) → inside b ≡ true → eqb b quote ≡ false → eqb b comma ≡ false → isPlain b ≡ true
@@ -99,10 +99,6 @@ grade-printable g = go (eqb g hi)
     go true = refl
     go false = refl
 
--- A field of printable bytes needs quotes exactly when one of them is a quote or a comma.
-abbrev pub Special : List ℕ → Type 0
-Special l = (k : ℕ) × (k < length l) × ((getD l k 0 ≡ quote) ⊎ (getD l k 0 ≡ comma))
-
 needs-special : (l : List ℕ) → printable l ≡ true → needsQuotes l ≡ true → Special l
 unfolding printable needsQuotes inside
 needs-special [] h n = absurd (true≢false (sym n))
@@ -117,6 +113,11 @@ needs-special (b ∷ l) h n =
     let s = needs-special l (p .1) rest in
     (suc (s .0), omega (arith, s .1), s .2)))
 
+-- Bytes that begin with a quote have one.
+begins-special : (l : List ℕ) → InQuotes l → Special l
+begins-special [] q = absurd (let z : _≡_ {A = ℕ} 0 1 = cc (q .1) in omega arith)
+begins-special (b ∷ l) q = (0, omega arith, inl (cc (q .1)))
+
 special-needs : (l : List ℕ) → Special l → needsQuotes l ≡ true
 special-needs l s = if-true (needsQuotes l) (λ n. n) (λ n. absurd (none l (s .0) n (s .1) (s .2)))
   where
@@ -126,6 +127,25 @@ special-needs l s = if-true (needsQuotes l) (λ n. n) (λ n. absurd (none l (s .
     none (b ∷ l) zero n h (inr c) = true≢false (sym (eq-eqb b comma c) ∙ unquoted b l n .commaless)
     none (b ∷ l) (suc k) n h t = none l k (unquoted b l n .rest) (omega arith) t
 
--- A name that rule 6 allows is written in quotes exactly when one of its bytes is a quote or a comma.
-pub quoted-exactly : (x : ℕ) → nameAllowed x ≡ true → ((needsQuotes (nameText x) ≡ true) ↔ Special (nameText x))
-quoted-exactly x h = (needs-special (nameText x) (name-printable x h), special-needs (nameText x))
+-- A field of printable bytes is written in quotes exactly when one of them is a quote or a comma.
+written-quoted : (l : List ℕ) → printable l ≡ true → InQuotes (fieldText l) ↔ Special l
+unfolding fieldText
+written-quoted l h = (quotes-special, special-quotes)
+  where
+    quotes-special : InQuotes (fieldText l) → Special l
+    quotes-special q =
+        if-true (needsQuotes l) (needs-special l h)
+        (λ e. begins-special l (rw e at q))
+
+    special-quotes : Special l → InQuotes (fieldText l)
+    special-quotes s = rw (special-needs l s) (doubled l ++ (quote ∷ []), refl)
+
+-- A name that rule 6 allows is written in quotes exactly when one of its bytes is a quote or a comma; a grade and a number never are.
+pub name-quoted-exactly : (x : ℕ) → nameAllowed x ≡ true → InQuotes (fieldText (nameText x)) ↔ Special (nameText x)
+name-quoted-exactly x h = written-quoted (nameText x) (name-printable x h)
+
+pub number-unquoted : (n : ℕ) → fieldText (decimal n) ≡ decimal n
+number-unquoted n = field-plain (decimal n) (number-plain n)
+
+pub grade-unquoted : (grade : ℕ) → fieldText (gradeText grade) ≡ gradeText grade
+grade-unquoted = grade-plain

@@ -8,6 +8,8 @@ pub mod LineRefusals
 pub mod Numbers
 pub mod Soundness
 pub mod ImportExactly
+pub mod OffsetInside
+pub mod Saturation
 pub mod ExportLaws
 pub mod TextFits
 pub mod RuleParts

@@ -1,9 +1,11 @@
 -- Import and export refuse only by the numbers that the rules give them.
-use mathlib.Core.Path.{_≡_, refl}
-use mathlib.Core.Bool.{Bool, true, false, not, cond, _&&_}
+use mathlib.Core.Path.{_≡_, refl, sym, _∙_, ap}
+use mathlib.Core.Bool.{Bool, true, false, true≢false, not, cond, _&&_}
 use mathlib.Core.List.{List, [], _∷_, _++_}
-use Prim.Native.Nat.{ℕ, zero, suc, _+_}
+use mathlib.Core.Logic.{_↔_}
+use Prim.Native.Nat.{ℕ, zero, suc, _≤_, _<_}
 use native.Mathlib.Omega.{arith}
+use borrow.Author.Tests.{ltb-true, ltb-false}
 use lib.Dec.{leb, ltb}
 use lib.ListN.{length, drop}
 use Rattle.plan.specs.Kinds.{Bytes}
@@ -87,6 +89,41 @@ export-numbers list out number e = by (not (jobsHold list)) (ltb (length out) (l
     by true b e = let n : number ≡ unsound = cc in rw n refl
     by false true e = let n : number ≡ bufferTooShort = cc in rw n refl
     by false false e = absurd (let z : _≡_ {A = ℕ} 0 1 = cc in omega arith)
+
+-- When each answer of the export is given: 21 exactly when a rule from 5 to 9 is broken, 22 exactly when none is and the
+-- output is shorter than the text, and otherwise the text's length.
+pub record ExportExactly (list : JobList) (out : Bytes) : Type 0 where
+  pub unsound-exactly : (exported list out .answer ≡ refused unsound) ↔ (jobsHold list ≡ false)
+  pub short-exactly : (exported list out .answer ≡ refused bufferTooShort) ↔ ((jobsHold list ≡ true) × (length out < length (listText list)))
+  pub written-exactly : (n : ℕ) → (exported list out .answer ≡ wrote n)
+      ↔ ((jobsHold list ≡ true) × (length (listText list) ≤ length out) × (length (listText list) ≡ n))
+
+pub export-exactly : (list : JobList) (out : Bytes) → ExportExactly list out
+unfolding exported
+export-exactly list out = by (jobsHold list) refl (ltb (length out) (length (listText list))) refl
+  where
+    long : ℕ
+    long = length (listText list)
+
+    by : (holds : Bool) → jobsHold list ≡ holds → (short : Bool) → ltb (length out) long ≡ short → ExportExactly list out
+    by false h short s =
+        record {
+          unsound-exactly = ((λ e. h), (λ e. rw h refl));
+          short-exactly = ((λ e. absurd (let z : _≡_ {A = ℕ} unsound bufferTooShort = cc (rw h at e) in omega (arith, z))), (λ e. absurd (true≢false (sym (e .0) ∙ h))));
+          written-exactly = λ n. ((λ e. absurd (let z : _≡_ {A = ℕ} 0 1 = cc (rw h at e) in omega arith)), (λ e. absurd (true≢false (sym (e .0) ∙ h))));
+        }
+    by true h true s =
+        record {
+          unsound-exactly = ((λ e. absurd (let z : _≡_ {A = ℕ} bufferTooShort unsound = cc (rw (h, s) at e) in omega (arith, z))), (λ e. absurd (true≢false (sym h ∙ e))));
+          short-exactly = ((λ e. (h, ltb-true (length out) long s)), (λ e. rw (h, s) refl));
+          written-exactly = λ n. ((λ e. absurd (let z : _≡_ {A = ℕ} 0 1 = cc (rw (h, s) at e) in omega arith)), (λ e. absurd (omega (arith, e .1, ltb-true (length out) long s))));
+        }
+    by true h false s =
+        record {
+          unsound-exactly = ((λ e. absurd (let z : _≡_ {A = ℕ} 0 1 = cc (rw (h, s) at e) in omega arith)), (λ e. absurd (true≢false (sym h ∙ e))));
+          short-exactly = ((λ e. absurd (let z : _≡_ {A = ℕ} 0 1 = cc (rw (h, s) at e) in omega arith)), (λ e. absurd (omega (arith, e .1, ltb-false (length out) long s))));
+          written-exactly = λ n. ((λ e. (h, ltb-false (length out) long s, cc (rw (h, s) at e))), (λ e. rw (h, s) (ap wrote (e .2))));
+        }
 
 -- A refused export leaves the output as it was.
 pub export-refused-leaves : (list : JobList) (out : Bytes) (number : ℕ) → exported list out .answer ≡ refused number → exported list out .out ≡ out

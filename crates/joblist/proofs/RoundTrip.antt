@@ -259,28 +259,33 @@ exportedBy bad short bytes out =
     cond bad (withheld unsound out)
     (cond short (withheld bufferTooShort out) (record { answer = wrote (length bytes); out = bytes ++ drop (length bytes) out }))
 
--- What the export leaves in its output is imported: the same count, and the same counted jobs.
-pub exported-and-imported : (list : JobList) (out : List ℕ) (n : ℕ) → length (list .jobs) ≡ mostJobs
-    → ((i : ℕ) → i < list .count → jobIn list i .name .0 < 256 ^ 8) → exported list out .answer ≡ wrote n
-    → _≡_ {A = ImportEffect} (imported (take n (exported list out .out))) (record { answer = []; list = listOf (take (list .count) (list .jobs)) })
+-- What a done export leaves in its output is the list's text.
+pub exported-is-text : (list : JobList) (out : List ℕ) (n : ℕ) → exported list out .answer ≡ wrote n
+    → (take n (exported list out .out) ≡ listText list) × (jobsHold list ≡ true)
 unfolding exported
-exported-and-imported list out n records named e =
-    by (jobsHold list) refl (ltb (length out) (length (listText list))) e
+exported-is-text list out n e = by (jobsHold list) refl (ltb (length out) (length (listText list))) e
   where
     by : (holds : Bool) → jobsHold list ≡ holds → (short : Bool)
         → exportedBy (not holds) short (listText list) out .answer ≡ wrote n
-        → _≡_ {A = ImportEffect} (imported (take n (exportedBy (not holds) short (listText list) out .out))) (record { answer = []; list = listOf (take (list .count) (list .jobs)) })
+        → (take n (exportedBy (not holds) short (listText list) out .out) ≡ listText list) × (jobsHold list ≡ true)
     by true h false e =
         let long : length (listText list) ≡ n = cc in
-        ap imported (take-at (listText list) (drop (length (listText list)) out) n long)
-        ∙ import-after-export list h records named
+        (take-at (listText list) (drop (length (listText list)) out) n long, h)
     by true h true e = absurd (let z : _≡_ {A = ℕ} 0 1 = cc in omega arith)
     by false h short e = absurd (let z : _≡_ {A = ℕ} 0 1 = cc in omega arith)
 
+-- So it is imported: the same count, and the same counted jobs.
+pub exported-and-imported : (list : JobList) (out : List ℕ) (n : ℕ) → length (list .jobs) ≡ mostJobs
+    → ((i : ℕ) → i < list .count → jobIn list i .name .0 < 256 ^ 8) → exported list out .answer ≡ wrote n
+    → _≡_ {A = ImportEffect} (imported (take n (exported list out .out))) (record { answer = []; list = listOf (take (list .count) (list .jobs)) })
+exported-and-imported list out n records named e =
+    let x = exported-is-text list out n e in
+    ap imported (x .0) ∙ import-after-export list (x .1) records named
+
 -- What the import takes, written as text, is taken again and gives the same list.
-pub import-again : (text : List ℕ) → imported text .answer ≡ [] → imported (listText (imported text .list)) ≡ imported text
+text-again : (text : List ℕ) → imported text .answer ≡ [] → imported (listText (imported text .list)) ≡ imported text
 unfolding imported
-import-again text e = by (jobText text 0) refl e
+text-again text e = by (jobText text 0) refl e
   where
     by : (s : Parsed (List Job)) → jobText text 0 ≡ s → importedFrom s .answer ≡ [] → importedFrom (jobText (listText (importedFrom s .list)) 0) ≡ importedFrom s
     by (got jobs next) h e =
@@ -292,3 +297,8 @@ import-again text e = by (jobText text 0) refl e
         import-after-export list (t .holds) records (λ i b. rw (getD-pad jobs (mostJobs - length jobs) i noJob) (t .eight i b))
         ∙ ap (λ l. record { answer = []; list = listOf l }) (take-at jobs pad (length jobs) refl)
     by (no k) h e = absurd (let z : _≡_ {A = ℕ} 0 1 = cc in omega arith)
+
+-- What the import takes, exported, imports to the same list.
+pub import-again : (text out : List ℕ) (n : ℕ) → imported text .answer ≡ [] → exported (imported text .list) out .answer ≡ wrote n
+    → imported (take n (exported (imported text .list) out .out)) ≡ imported text
+import-again text out n taken done = ap imported (exported-is-text (imported text .list) out n done .0) ∙ text-again text taken

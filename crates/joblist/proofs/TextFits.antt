@@ -19,7 +19,7 @@ use Rattle.text.proofs.Decimal.{decimal-length}
 use Rattle.csv.specs.Grammar.{quote}
 use Rattle.joblist.specs.Import.{header}
 use Rattle.joblist.specs.Export.{needsQuotes, doubled, fieldText, gradeText, lineText, linesText, listText, Answer, wrote, refused, ExportEffect, withheld, exported}
-use Rattle.joblist.specs.inner.Longest.{longestLine, longestText}
+use Rattle.joblist.specs.Longest.{longestLine, longestText}
 use Rattle.joblist.proofs.ExportLaws.{field-plain, number-plain, grade-plain}
 use Rattle.joblist.proofs.RuleParts.{Meets, meets, small}
 
@@ -59,7 +59,7 @@ line-length j r s d =
     rw (grade-plain (j .grade), field-plain c (number-plain (j .release .0)), field-plain e (number-plain (j .size .0)), field-plain f (number-plain (j .deadline .0)))
     (simp length-append (omega (arith, field-length a, eight, grade-length (j .grade), decimal-length (j .release .0) r, decimal-length (j .size .0) s, decimal-length (j .deadline .0) d)))
 
--- The numbers of a counted job have at most nine digits.
+-- The numbers of a counted job have at most `mostDigits` digits.
 module _ (l : JobList) (m : Meets l) where
   numbers-short : (i : ℕ) → i < l .count → (jobIn l i .release .0 < 10 ^ mostDigits) × (jobIn l i .size .0 < 10 ^ mostDigits) × (jobIn l i .deadline .0 < 10 ^ mostDigits)
   numbers-short i h =

@@ -1,9 +1,11 @@
 -- Writing a job list: its header, then a line for each job.
+use mathlib.Core.Path.{_≡_}
 use mathlib.Core.Bool.{Bool, false, not, cond, _||_}
 use mathlib.Core.List.{List, [], _∷_, _++_}
-use Prim.Native.Nat.{ℕ, zero, suc}
+use mathlib.Core.Logic.{_⊎_}
+use Prim.Native.Nat.{ℕ, zero, suc, _<_}
 use lib.Dec.{ltb, eqb}
-use lib.ListN.{length, drop}
+use lib.ListN.{length, getD, drop}
 use Rattle.plan.specs.Kinds.{Bytes, Number}
 use Rattle.plan.specs.Refusal.{unsound, bufferTooShort}
 use Rattle.plan.specs.Rules.{hi, jobIn, countedIn, jobsHold}
@@ -26,6 +28,14 @@ doubled (b ∷ l) = cond (eqb b quote) (quote ∷ quote ∷ doubled l) (b ∷ do
 -- A field as it is written: in quotes only if it must be.
 unfoldable pub fieldText : Bytes → Bytes
 fieldText l = cond (needsQuotes l) (quote ∷ doubled l ++ (quote ∷ [])) l
+
+-- Some bytes have a quote or a comma among them.
+abbrev pub Special : Bytes → Type 0
+Special l = (k : ℕ) × (k < length l) × ((getD l k 0 ≡ quote) ⊎ (getD l k 0 ≡ comma))
+
+-- A field as it is written begins with a quote.
+abbrev pub InQuotes : Bytes → Type 0
+InQuotes written = (rest : Bytes) × (written ≡ quote ∷ rest)
 
 -- The letter of a grade.
 abbrev pub gradeText : ℕ → Bytes
@@ -69,3 +79,8 @@ exported list out =
     cond (not (jobsHold list)) (withheld unsound out)
     (cond (ltb (length out) (length bytes)) (withheld bufferTooShort out)
     (record { answer = wrote (length bytes); out = bytes ++ drop (length bytes) out }))
+
+-- Two lists have the same count and the same counted jobs. Their other records may differ: the export looks at none of them.
+pub record SameJobs (a b : JobList) : Type 0 where
+  pub count : a .count ≡ b .count
+  pub jobs : (i : ℕ) → i < countedIn a → jobIn a i ≡ jobIn b i

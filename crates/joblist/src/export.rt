@@ -25,7 +25,7 @@ ghost use Rattle.text.specs.inner.Growth.{Grown};
 ghost use Rattle.csv.specs.Grammar.{comma, lineEnd};
 ghost use Rattle.joblist.specs.Export.{needsQuotes, doubled, fieldText, gradeText, lineText, linesText};
 ghost use Rattle.joblist.specs.Answers.{Exports};
-ghost use Rattle.joblist.specs.inner.Longest.{longestName, longestNumbers, longestLine};
+ghost use Rattle.joblist.specs.Longest.{longestName, longestNumbers, longestLine};
 
 // The greatest length of a name's field: two quotes, and each byte doubled.
 const LONGEST_NAME: usize = 2 + 2 * Edition::NAME_BYTES;

@@ -7,16 +7,11 @@ use Rattle.plan.specs.Rules.{jobIn, countedIn, jobsHold}
 use Rattle.plan.specs.Same.{Same}
 use Rattle.plan.specs.declared.kinds.JobList.{JobList}
 use Rattle.plan.specs.declared.kinds.Plan.{Plan}
-use Rattle.joblist.specs.Export.{lineText, linesText, listText, exported}
+use Rattle.joblist.specs.Export.{lineText, linesText, listText, exported, SameJobs}
 use Rattle.hostmemory.specs.Memory.{shortList, listHeld}
 use Rattle.gateway.specs.Calls.{exportCall}
 use Rattle.promises.proofs.SameSlot.{grades-same, bounds-same}
 use Rattle.promises.proofs.SameVerdict.{names-hold-same, names-differ-same}
-
--- Two lists are the same.
-pub record SameJobs (a b : JobList) : Type 0 where
-  pub count : a .count ≡ b .count
-  pub jobs : (i : ℕ) → i < countedIn a → jobIn a i ≡ jobIn b i
 
 -- A list's jobs as those of a plan without rates.
 abbrev planWith : JobList → Plan

@@ -23,7 +23,14 @@ abbrev pub itemRefusal : ItemRead → Refusal
 itemRefusal (item.Item s next) = noRefusal
 itemRefusal (item.Refused refusal) = refusal
 
--- The grade that a field names, from what is known of its bytes: 72 is H, 76 is L.
+-- The bytes of the letters that name the grades, H and L.
+abbrev pub letterHi : ℕ
+letterHi = 72
+
+abbrev pub letterLo : ℕ
+letterLo = 76
+
+-- The grade that a field names, from what is known of its bytes.
 abbrev pub gradeSeen : Seen → ℕ
 gradeSeen s =
-    cond (eqb (s .length) 1 && eqb (s .name) 72) hi (cond (eqb (s .length) 1 && eqb (s .name) 76) lo noGrade)
+    cond (eqb (s .length) 1 && eqb (s .name) letterHi) hi (cond (eqb (s .length) 1 && eqb (s .name) letterLo) lo noGrade)

@@ -10,7 +10,7 @@ use Rattle.text.specs.inner.Growth.{Grown}
 use Rattle.text.proofs.Growth.{adds-grown, grown-twice, grown-same}
 use Rattle.csv.specs.Grammar.{comma}
 use Rattle.joblist.specs.Export.{fieldText, gradeText}
-use Rattle.joblist.specs.inner.Longest.{longestName}
+use Rattle.joblist.specs.Longest.{longestName}
 use Rattle.joblist.proofs.ExportLaws.{grade-length, line-joined}
 use Rattle.joblist.proofs.export.add_line.Statement.{statement}
 use Rattle.joblist.proofs.export.add_line.Tie as tie

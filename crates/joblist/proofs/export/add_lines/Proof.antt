@@ -7,7 +7,7 @@ use borrow.Author.Needs.{needs}
 use Rattle.text.specs.inner.Growth.{Grown}
 use Rattle.text.proofs.Growth.{grown-by-none, grown-twice, grown-same}
 use Rattle.joblist.specs.Export.{linesText}
-use Rattle.joblist.specs.inner.Longest.{longestLine}
+use Rattle.joblist.specs.Longest.{longestLine}
 use Rattle.joblist.proofs.ExportLaws.{lines-start, lines-next}
 use Rattle.joblist.proofs.export.add_lines.Statement.{statement}
 use Rattle.joblist.proofs.export.add_lines.Tie as tie

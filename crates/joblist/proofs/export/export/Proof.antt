@@ -12,7 +12,7 @@ use Rattle.text.specs.inner.Growth.{Grown}
 use Rattle.text.proofs.Growth.{adds-grown, grown-twice, grown-same}
 use Rattle.joblist.specs.Import.{header}
 use Rattle.joblist.specs.Export.{listText}
-use Rattle.joblist.specs.inner.Longest.{longestText}
+use Rattle.joblist.specs.Longest.{longestText}
 use Rattle.joblist.proofs.RuleParts.{Meets, meets, small}
 use Rattle.joblist.proofs.ExportLaws.{list-text, exported-unsound, exported-short, exported-whole}
 use Rattle.joblist.proofs.export.export.Statement.{statement}

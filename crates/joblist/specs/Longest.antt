@@ -1,5 +1,4 @@
--- For the contracts of internal functions; no promise rests on this file. The greatest lengths of the
--- parts of a line, whatever its numbers are.
+-- Room for the text of a job list: no part of it is longer than these bounds, whatever its numbers are.
 use Prim.Native.Nat.{ℕ, _+_, _*_}
 use lib.ListN.{length}
 use Rattle.plan.specs.Edition.{nameBytes, mostJobs}
