@@ -165,6 +165,7 @@ fn slot_line(d: &Description, plan: &Plan, run: &mut Run, speed: u16) -> Result<
 fn outcome_word(outcome: Outcome) -> &'static str {
     match outcome {
         Outcome::Met => "met",
+        Outcome::Ended => "ended",
         Outcome::Discarded => "discarded",
         Outcome::Missed => "missed",
         Outcome::Open => "open",

@@ -37,6 +37,7 @@ pub struct Run {
     pub slow: bool,
     pub below_floor: bool,
     pub carried: [u32; MOST_JOBS],
+    pub ended: [bool; MOST_JOBS],
 }
 
 impl Job {

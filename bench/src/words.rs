@@ -7,9 +7,10 @@ use crate::step;
 const HEAD_WORDS: usize = 3;
 const JOB_WORDS: usize = 5;
 const MARK_WORDS: usize = 3;
+const ENDED_START: usize = MARK_WORDS + MOST_JOBS;
 
 pub const PLAN_WORDS: usize = HEAD_WORDS + JOB_WORDS * MOST_JOBS;
-pub const RUN_WORDS: usize = MARK_WORDS + MOST_JOBS;
+pub const RUN_WORDS: usize = ENDED_START + MOST_JOBS;
 
 /// Serves one slot at a speed. A refusal leaves run and grants as they were.
 pub fn step_words(
@@ -22,7 +23,7 @@ pub fn step_words(
     let (Some(words), Some(run)) = (plan.get(..PLAN_WORDS), run.get_mut(..RUN_WORDS)) else {
         return Err(TOO_SHORT);
     };
-    if run[1] > 1 || run[2] > 1 {
+    if run[1] > 1 || run[2] > 1 || !are_marks(&run[ENDED_START..]) {
         return Err(UNSOUND);
     }
     // Both are filled where they stand: a function that returned them would have them copied.
@@ -31,8 +32,14 @@ pub fn step_words(
     let mut in_hand = NO_RUN;
     fill_run(&mut in_hand, run);
     step(&plan, table, &mut in_hand, speed, grants)?;
-    put_run(run, &in_hand);
+    put_slot(run, &in_hand);
     Ok(())
+}
+
+/// Whether all words are 0 or 1.
+#[inline]
+fn are_marks(words: &[u32]) -> bool {
+    words.iter().fold(0, |bits, &word| bits | word) <= 1
 }
 
 const NO_JOB: Job = Job {
@@ -53,6 +60,7 @@ const NO_RUN: Run = Run {
     slow: false,
     below_floor: false,
     carried: [0; MOST_JOBS],
+    ended: [false; MOST_JOBS],
 };
 
 /// Fills in the counted jobs. A word that its field has no room for becomes the field's greatest
@@ -80,12 +88,16 @@ fn fill_run(run: &mut Run, words: &[u32]) {
     run.clock = words[0];
     run.slow = words[1] == 1;
     run.below_floor = words[2] == 1;
-    run.carried.copy_from_slice(&words[MARK_WORDS..]);
+    run.carried.copy_from_slice(&words[MARK_WORDS..ENDED_START]);
+    for (ended, &word) in run.ended.iter_mut().zip(&words[ENDED_START..]) {
+        *ended = word == 1;
+    }
 }
 
+/// Writes what a slot changes: the ended marks stay.
 #[inline]
-fn put_run(words: &mut [u32], run: &Run) {
-    let (marks, carried) = words.split_at_mut(MARK_WORDS);
+fn put_slot(words: &mut [u32], run: &Run) {
+    let (marks, carried) = words[..ENDED_START].split_at_mut(MARK_WORDS);
     marks.copy_from_slice(&[run.clock, run.slow.into(), run.below_floor.into()]);
     carried.copy_from_slice(&run.carried);
 }
@@ -110,6 +122,7 @@ pub fn plan_words(plan: &Plan) -> [u64; PLAN_WORDS] {
 /// A run as a host keeps it.
 pub fn run_words(run: &Run) -> [u32; RUN_WORDS] {
     let mut words = [0; RUN_WORDS];
-    put_run(&mut words, run);
+    put_slot(&mut words, run);
+    words[ENDED_START..].copy_from_slice(&run.ended.map(u32::from));
     words
 }

@@ -42,6 +42,7 @@ fn run_of(run: &reference::run::Run) -> Run {
         slow: run.slow,
         below_floor: run.below_floor,
         carried: run.carried,
+        ended: run.ended,
     }
 }
 
@@ -67,6 +68,7 @@ fn reference_run(run: &Run) -> reference::run::Run {
         slow: run.slow,
         below_floor: run.below_floor,
         carried: run.carried,
+        ended: run.ended,
     }
 }
 
@@ -285,7 +287,8 @@ fn words_that_hold_no_plan_or_run() {
     assert_eq!(answer(&plan, &run), Ok(()));
     assert_eq!(answer(&plan[1..], &run), Err(refusal::TOO_SHORT));
     assert_eq!(answer(&plan, &run[1..]), Err(refusal::TOO_SHORT));
-    for mark in [1, 2] {
+    // The marks of the run, and the ended marks of the first and the last job.
+    for mark in [1, 2, 35, 66] {
         let mut run = run;
         run[mark] = 2;
         assert_eq!(answer(&plan, &run), Err(refusal::UNSOUND));

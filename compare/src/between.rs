@@ -8,23 +8,33 @@ use crate::both::{Both, Difference};
 use crate::memory::Memory;
 use crate::shorts::{short, SHORTS};
 use crate::words::{
-    job_at, BELOW_FLOOR, CLOCK, DEADLINE, FLOOR, GRADE, JOB_COUNT, MARK_WORDS, NORMAL_RATE,
+    job_at, BELOW_FLOOR, CARRIED, CLOCK, DEADLINE, ENDED, FLOOR, GRADE, JOB_COUNT, NORMAL_RATE,
     RELEASE, SIZE, SLOW,
 };
 
 /// Marks that are neither 0 nor 1, some of them with such a last byte or half.
-pub const WRONG_MARKS: [u32; 6] = [2, 3, 0x100, 0x101, 0x1_0001, u32::MAX];
+const WRONG_MARKS: [u32; 8] = [2, 3, 0x100, 0x101, 0x1_0001, 1 << 31, (1 << 31) + 1, u32::MAX];
 
-/// A call with a speed above the rate, a short buffer, or a wrong word in the plan or the run.
+/// A wrong mark and where it stands: one of the run's own two, a counted job's, or any job's.
+pub fn wrong_mark(prng: &mut Prng, jobs: usize) -> (usize, u32) {
+    let counted = ENDED + prng.index(jobs.max(1));
+    let any = ENDED + prng.index(MOST_JOBS);
+    let at = prng.pick(&[SLOW, BELOW_FLOOR, counted, any]);
+    (at, prng.pick(&WRONG_MARKS))
+}
+
+/// A call with a speed above the rate, a position that no job has, a short buffer, or a wrong word
+/// in the plan or the run.
 pub fn refused(both: &mut Both, prng: &mut Prng, memory: &mut Memory) -> Result<(), Difference> {
     memory.lend_all();
-    match prng.below(4) {
+    match prng.below(5) {
         0 => too_fast(both, prng, memory),
-        1 => {
+        1 => no_such_job(both, prng, memory),
+        2 => {
             let call = prng.pick(&SHORTS);
             short(both, prng, memory, call)
         }
-        2 => with_wrong_plan(both, prng, memory),
+        3 => with_wrong_plan(both, prng, memory),
         _ => with_wrong_run(both, prng, memory),
     }
 }
@@ -36,7 +46,16 @@ fn too_fast(both: &mut Both, prng: &mut Prng, memory: &mut Memory) -> Result<(),
     Ok(())
 }
 
-/// A step, an outcome or a start with a word of the plan that breaks a rule.
+/// A word on a job that the plan has not; some positions are those of a job in fewer bits.
+fn no_such_job(both: &mut Both, prng: &mut Prng, memory: &mut Memory) -> Result<(), Difference> {
+    let jobs = memory.jobs();
+    let i = prng.index(jobs.max(1));
+    let position = prng.pick(&[jobs, MOST_JOBS, i | 1 << 8, i | 1 << 16, i | 1 << 32, usize::MAX]);
+    both.end(memory, position)?;
+    Ok(())
+}
+
+/// A step, a word on a job, an outcome or a start with a word of the plan that breaks a rule.
 fn with_wrong_plan(
     both: &mut Both,
     prng: &mut Prng,
@@ -63,36 +82,38 @@ fn with_wrong_plan(
     let (at, wrong) = prng.pick(&changes);
     let right = words[at];
     memory.plan.put(at, &[wrong]);
-    match prng.below(4) {
+    match prng.below(5) {
         0 => both.outcome(memory, 0)?,
         1 => both.start(memory)?,
+        2 => both.end(memory, 0)?,
         _ => both.step(memory, 1)?,
     };
     memory.plan.put(at, &[right]);
     Ok(())
 }
 
-/// A step or an outcome with a word of the run that cannot stand there.
+/// A step, a word on a job or an outcome with a word of the run that cannot stand there.
 fn with_wrong_run(both: &mut Both, prng: &mut Prng, memory: &mut Memory) -> Result<(), Difference> {
     let i = prng.index(memory.jobs().max(1));
     let size = memory.plan.contents()[job_at(i) + SIZE].min(u64::from(u32::MAX) - 1) as u32;
-    let mark = prng.pick(&WRONG_MARKS);
     let changes = [
-        (SLOW, mark),
-        (BELOW_FLOOR, mark),
         (CLOCK, MOST_DEADLINE + 1),
         (CLOCK, u32::MAX),
-        (MARK_WORDS + i, size + 1),
-        (MARK_WORDS + i, u32::MAX),
+        (CARRIED + i, size + 1),
+        (CARRIED + i, u32::MAX),
     ];
-    let (at, wrong) = prng.pick(&changes);
+    let (at, wrong) = if prng.once_in(2) {
+        wrong_mark(prng, memory.jobs())
+    } else {
+        prng.pick(&changes)
+    };
     let right = memory.run.contents()[at];
     memory.run.put(at, &[wrong]);
-    if prng.once_in(3) {
-        both.outcome(memory, i)?;
-    } else {
-        both.step(memory, 1)?;
-    }
+    match prng.below(4) {
+        0 => both.outcome(memory, i)?,
+        1 => both.end(memory, i)?,
+        _ => both.step(memory, 1)?,
+    };
     memory.run.put(at, &[right]);
     Ok(())
 }

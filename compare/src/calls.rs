@@ -34,7 +34,7 @@ impl Both {
         };
         let wrong_at = &mut offset.model_mut()[0];
         let expected = model::read(file.model(), plan.model_mut(), table.model_mut(), wrong_at);
-        self.end(Call::Read, got, expected, &mut [file, plan, table, offset])
+        self.finish(Call::Read, got, expected, &mut [file, plan, table, offset])
     }
 
     /// Where the name begins, or 0.
@@ -70,7 +70,7 @@ impl Both {
         };
         let length = &mut written.model_mut()[0];
         let expected = model::write(plan.model(), table.model(), out.model_mut(), length);
-        self.end(Call::Write, got, expected, &mut [plan, table, out, written])
+        self.finish(Call::Write, got, expected, &mut [plan, table, out, written])
     }
 
     pub fn judge(&mut self, memory: &mut Memory) -> Result<u32, Difference> {
@@ -89,7 +89,7 @@ impl Both {
             )
         };
         let expected = model::judge(plan.model(), table.model(), location.model_mut());
-        self.end(Call::Judge, got, expected, &mut [plan, table, location])
+        self.finish(Call::Judge, got, expected, &mut [plan, table, location])
     }
 
     pub fn slack(&mut self, memory: &mut Memory) -> Result<u32, Difference> {
@@ -115,7 +115,7 @@ impl Both {
         };
         let figure = &mut slack.model_mut()[0];
         let expected = model::slack(plan.model(), table.model(), figure, location.model_mut());
-        self.end(Call::Slack, got, expected, &mut [plan, table, slack, location])
+        self.finish(Call::Slack, got, expected, &mut [plan, table, slack, location])
     }
 
     pub fn start(&mut self, memory: &mut Memory) -> Result<u32, Difference> {
@@ -141,7 +141,7 @@ impl Both {
         };
         let (run_words, location_words) = (run.model_mut(), location.model_mut());
         let expected = model::start(plan.model(), table.model(), run_words, location_words);
-        self.end(Call::Start, got, expected, &mut [plan, table, run, location])
+        self.finish(Call::Start, got, expected, &mut [plan, table, run, location])
     }
 
     pub fn step(&mut self, memory: &mut Memory, speed: u16) -> Result<u32, Difference> {
@@ -167,7 +167,18 @@ impl Both {
         };
         let (run_words, grant_words) = (run.model_mut(), grants.model_mut());
         let expected = model::step(plan.model(), table.model(), run_words, speed, grant_words);
-        self.end(Call::Step, got, expected, &mut [plan, table, run, grants])
+        self.finish(Call::Step, got, expected, &mut [plan, table, run, grants])
+    }
+
+    pub fn end(&mut self, memory: &mut Memory, position: usize) -> Result<u32, Difference> {
+        if self.tells {
+            println!("the job at position {} is said to have ended", position);
+        }
+        let Memory { plan, run, .. } = memory;
+        let (words, length) = (run.archive_mut(), run.lent());
+        let got = unsafe { gateway_end(plan.archive(), plan.lent(), words, length, position) };
+        let expected = model::end(plan.model(), run.model_mut(), position);
+        self.finish(Call::End, got, expected, &mut [plan, run])
     }
 
     pub fn outcome(&mut self, memory: &mut Memory, position: usize) -> Result<u32, Difference> {
@@ -175,7 +186,7 @@ impl Both {
         let (words, length) = (run.archive(), run.lent());
         let got = unsafe { gateway_outcome(plan.archive(), plan.lent(), words, length, position) };
         let expected = model::outcome(plan.model(), run.model(), position);
-        self.end(Call::Outcome, got, expected, &mut [plan, run])
+        self.finish(Call::Outcome, got, expected, &mut [plan, run])
     }
 
     pub fn import(
@@ -190,7 +201,7 @@ impl Both {
         let got = unsafe { gateway_import(text.archive(), text.lent(), words, length, wrong_at) };
         let wrong_at = &mut offset.model_mut()[0];
         let expected = model::import(text.model(), list.model_mut(), wrong_at);
-        self.end(Call::Import, got, expected, &mut [text, list, offset])
+        self.finish(Call::Import, got, expected, &mut [text, list, offset])
     }
 
     pub fn export(&mut self, listing: &mut Listing) -> Result<u32, Difference> {
@@ -204,11 +215,11 @@ impl Both {
         let got = unsafe { gateway_export(list.archive(), list.lent(), bytes, room, length) };
         let length = &mut written.model_mut()[0];
         let expected = model::export(list.model(), out.model_mut(), length);
-        self.end(Call::Export, got, expected, &mut [list, out, written])
+        self.finish(Call::Export, got, expected, &mut [list, out, written])
     }
 
     /// Compares a call whose answer is a number, and gives that number.
-    fn end(
+    fn finish(
         &mut self,
         call: Call,
         got: u32,

@@ -1,10 +1,11 @@
 //! All calls on one input: on a plan file with speeds, on a plan in hand with a run and speeds, on
 //! texts of job lists, and on a list in hand.
 
+use gateway::{Plan, Run};
 use reference::edition::{LARGEST_FILE, MOST_JOBS, TABLE_PLACES};
 use reference::generate::{damaged_input, file, hand, job_list, job_text, quoted_list};
 use reference::generate::{fixed_files, fixed_hands, fixed_lists, fixed_texts};
-use reference::generate::{FileInput, HandInput, Lent, ListInput, Prng, Purpose};
+use reference::generate::{words, FileInput, HandInput, Lent, ListInput, Prng, Purpose};
 use reference::joblist::import;
 use reference::reader::reader;
 use reference::refusal::{DONE, TOO_SHORT};
@@ -13,10 +14,10 @@ use crate::both::{Both, Difference};
 use crate::buffer::Buffer;
 use crate::lists::{on_list, on_text};
 use crate::memory::Memory;
-use crate::night::{night, outcomes};
+use crate::night::{night, standings, Course, Wrapped};
 use crate::shorts::{short, short_read, SHORTS};
 use crate::twist::twist;
-use crate::words::{words_of_plan, words_of_run};
+use crate::words::{plan_of, run_of, words_of_plan, words_of_run};
 use crate::{plans, texts, wrapper};
 
 /// Buffers that are just long enough for every plan.
@@ -152,13 +153,14 @@ impl Source {
             Source::Fixed(_) => 0,
             Source::Drawn(_, seed) => *seed,
         };
+        let origin = Origin { seed, number };
         let prng = &mut Prng::new(seed, Purpose::Lending, number);
         let input = self.input(number);
         if let Some(file) = &input.file {
-            on_file(both, prng, file, number)?;
+            on_file(both, prng, file, origin)?;
         }
         if let Some(hand) = &input.hand {
-            on_hand(both, prng, hand, number)?;
+            on_hand(both, prng, hand, origin)?;
         }
         for text in &input.texts {
             on_text(both, prng, text)?;
@@ -170,12 +172,33 @@ impl Source {
     }
 }
 
+/// What an input is drawn from.
+#[derive(Clone, Copy)]
+struct Origin {
+    seed: u64,
+    number: u64,
+}
+
+impl Origin {
+    /// A night at these speeds that begins with the run in memory. One with a wrong mark has no
+    /// words of the host.
+    fn course<'a>(&self, memory: &Memory, speeds: &'a [u16]) -> Course<'a> {
+        let plan = plan_of(memory.plan.contents());
+        let run = run_of(memory.run.contents());
+        let words = run.map(|run| words(self.seed, self.number, &plan, &run, speeds));
+        Course {
+            speeds,
+            words: words.unwrap_or_default(),
+        }
+    }
+}
+
 /// Reads the file and looks up names; then all calls on the plan that was read.
 fn on_file(
     both: &mut Both,
     prng: &mut Prng,
     input: &FileInput,
-    number: u64,
+    origin: Origin,
 ) -> Result<(), Difference> {
     let mut file = Buffer::of("file", &input.file, input.file.len());
     let mut memory = Memory::known(prng, &input.lent);
@@ -193,14 +216,20 @@ fn on_file(
         None => return Ok(()),
     };
     let (started, run) = plans::compare(both, prng, &mut memory, Some(&plan))?;
-    shorts(both, prng, &mut memory, number)?;
+    shorts(both, prng, &mut memory, origin.number)?;
     if started != u32::from(DONE) {
         return Ok(());
     }
-    // The wrapper always lends enough grants: a night with too few is none for it.
+    let course = origin.course(&memory, &input.speeds);
+    let wrapped = wrapped(&memory, Some(&plan), run);
+    night(both, prng, &mut memory, &course, wrapped)
+}
+
+/// The plan and the run for the wrapper. It always lends enough grants: a night with too few is
+/// none for it.
+fn wrapped<'a>(memory: &Memory, plan: Option<&'a Plan>, run: Option<Run>) -> Wrapped<'a> {
     let has_grants = memory.grants.lent() >= memory.jobs();
-    let run = run.filter(|_| has_grants).map(|run| (&plan, run));
-    night(both, prng, &mut memory, &input.speeds, run)
+    plan.zip(run).filter(|_| has_grants)
 }
 
 /// Names at positions that the file has, at the first that it has not, and far beyond.
@@ -223,7 +252,7 @@ fn on_hand(
     both: &mut Both,
     prng: &mut Prng,
     input: &HandInput,
-    number: u64,
+    origin: Origin,
 ) -> Result<(), Difference> {
     let mut memory = Memory::known(prng, &input.lent);
     memory.plan.put(0, &words_of_plan(&input.plan));
@@ -234,9 +263,12 @@ fn on_hand(
     let plan = wrapper::in_hand(&memory);
     plans::compare(both, prng, &mut memory, plan.as_ref())?;
     memory.run.put(0, &given);
-    shorts(both, prng, &mut memory, number)?;
-    outcomes(both, prng, &mut memory, &None)?;
-    night(both, prng, &mut memory, &input.speeds, None)
+    shorts(both, prng, &mut memory, origin.number)?;
+    let run = wrapper::run_in_hand(both, &memory)?;
+    let wrapped = wrapped(&memory, plan.as_ref(), run);
+    standings(both, prng, &mut memory, &wrapped)?;
+    let course = origin.course(&memory, &input.speeds);
+    night(both, prng, &mut memory, &course, wrapped)
 }
 
 /// Some calls with a short buffer; numbers that follow each other take turns.

@@ -6,7 +6,8 @@ use reference::judge::judge as judge_plan;
 use reference::lookup::name_lookup;
 use reference::reader::reader;
 use reference::refusal::{Refusal, DONE, TOO_SHORT, UNSOUND};
-use reference::run::{outcome as outcome_of, start as start_run, step as step_run, Outcome};
+use reference::run::{end as end_job, outcome as outcome_of, start as start_run, step as step_run};
+use reference::run::{Outcome, Run};
 use reference::slack::{slack_figure, SlackFigure};
 use reference::writer::writer;
 
@@ -19,6 +20,7 @@ pub const MET: u32 = 257;
 pub const DISCARDED: u32 = 258;
 pub const MISSED: u32 = 259;
 pub const OPEN: u32 = 260;
+pub const ENDED: u32 = 261;
 
 pub fn read(file: &[u8], plan: &mut [u64], table: &mut [u32], offset: &mut usize) -> u32 {
     if plan.len() < PLAN_WORDS {
@@ -85,6 +87,17 @@ pub fn start(plan: &[u64], table: &[u32], run: &mut [u32], location: &mut [u64])
 }
 
 pub fn step(plan: &[u64], table: &[u32], run: &mut [u32], speed: u16, grants: &mut [u32]) -> u32 {
+    let change = |record: &mut Run| step_run(&plan_of(plan), table, record, speed, grants);
+    change_run(plan, run, change)
+}
+
+pub fn end(plan: &[u64], run: &mut [u32], position: usize) -> u32 {
+    let change = |record: &mut Run| end_job(&plan_of(plan), record, position as u64);
+    change_run(plan, run, change)
+}
+
+/// A call on a plan and a run that changes the run's record and answers a number.
+fn change_run(plan: &[u64], run: &mut [u32], change: impl FnOnce(&mut Run) -> u8) -> u32 {
     if plan.len() < PLAN_WORDS || run.len() < RUN_WORDS {
         return TOO_SHORT.into();
     }
@@ -92,7 +105,7 @@ pub fn step(plan: &[u64], table: &[u32], run: &mut [u32], speed: u16, grants: &m
         Some(record) => record,
         None => return UNSOUND.into(),
     };
-    let number = step_run(&plan_of(plan), table, &mut record, speed, grants);
+    let number = change(&mut record);
     run[..RUN_WORDS].copy_from_slice(&words_of_run(&record));
     number.into()
 }
@@ -107,6 +120,7 @@ pub fn outcome(plan: &[u64], run: &[u32], position: usize) -> u32 {
     };
     match outcome_of(&plan_of(plan), &record, position as u64) {
         Ok(Outcome::Met) => MET,
+        Ok(Outcome::Ended) => ENDED,
         Ok(Outcome::Discarded) => DISCARDED,
         Ok(Outcome::Missed) => MISSED,
         Ok(Outcome::Open) => OPEN,

@@ -16,7 +16,7 @@ const INPUTS: [u64; 3] = [0, 1, 2];
 fn pointers(call: Call) -> usize {
     match call {
         Call::Name => 1,
-        Call::Outcome => 2,
+        Call::End | Call::Outcome => 2,
         Call::Judge | Call::Import | Call::Export => 3,
         Call::Read | Call::Write | Call::Slack | Call::Start | Call::Step => 4,
     }

@@ -21,7 +21,7 @@ pub enum Which {
 }
 
 /// Each call on a plan in memory with each buffer that it asks for.
-pub const SHORTS: [(Call, Which); 19] = [
+pub const SHORTS: [(Call, Which); 21] = [
     (Call::Write, Which::Plan),
     (Call::Write, Which::Table),
     (Call::Write, Which::Out),
@@ -39,6 +39,8 @@ pub const SHORTS: [(Call, Which); 19] = [
     (Call::Step, Which::Table),
     (Call::Step, Which::Run),
     (Call::Step, Which::Grants),
+    (Call::End, Which::Plan),
+    (Call::End, Which::Run),
     (Call::Outcome, Which::Plan),
     (Call::Outcome, Which::Run),
 ];
@@ -63,6 +65,7 @@ pub fn short(
         Call::Slack => both.slack(memory)?,
         Call::Start => both.start(memory)?,
         Call::Step => both.step(memory, SPEED)?,
+        Call::End => both.end(memory, 0)?,
         Call::Outcome => both.outcome(memory, 0)?,
         Call::Read | Call::Name => unreachable!("these take a file"),
         Call::Import | Call::Export => unreachable!("these take a list"),

@@ -35,6 +35,8 @@ pub fn show_hand(input: &HandInput) {
         "run at {}, slow {}, below floor {}, carried {:?}",
         run.clock, run.slow, run.below_floor, run.carried
     );
+    let ended: Vec<usize> = (0..run.ended.len()).filter(|&i| run.ended[i]).collect();
+    println!("ended marks at {:?}", ended);
     show_rest(&input.lent, &input.speeds);
 }
 

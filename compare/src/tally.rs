@@ -4,11 +4,11 @@ use std::collections::BTreeMap;
 use std::fmt;
 
 use reference::refusal::{
-    ABOVE_RATE, AT_LAST_DEADLINE, DONE, FLOOR_RULE, HEADER, JOB_COUNT, LINE, OUTSIDE_WINDOW,
-    ROW_ORDER, TIMES_OR_SIZE, TOO_SHORT, UNSOUND, VERSION,
+    ABOVE_RATE, AT_LAST_DEADLINE, CANNOT_END, DONE, FLOOR_RULE, HEADER, JOB_COUNT, LINE,
+    NO_SUCH_POSITION, OUTSIDE_WINDOW, ROW_ORDER, TIMES_OR_SIZE, TOO_SHORT, UNSOUND, VERSION,
 };
 
-use crate::model::{DISCARDED, MET, MISSED, NONE_ESSENTIAL, OPEN};
+use crate::model::{DISCARDED, ENDED, MET, MISSED, NONE_ESSENTIAL, OPEN};
 
 /// The calls for hosts.
 #[derive(Clone, Copy, Debug, PartialEq, Eq, PartialOrd, Ord)]
@@ -20,12 +20,13 @@ pub enum Call {
     Slack,
     Start,
     Step,
+    End,
     Outcome,
     Import,
     Export,
 }
 
-pub const CALLS: [Call; 10] = [
+pub const CALLS: [Call; 11] = [
     Call::Read,
     Call::Name,
     Call::Write,
@@ -33,6 +34,7 @@ pub const CALLS: [Call; 10] = [
     Call::Slack,
     Call::Start,
     Call::Step,
+    Call::End,
     Call::Outcome,
     Call::Import,
     Call::Export,
@@ -55,6 +57,7 @@ impl fmt::Display for Call {
             Call::Slack => "slack",
             Call::Start => "start",
             Call::Step => "step",
+            Call::End => "end",
             Call::Outcome => "outcome",
             Call::Import => "import",
             Call::Export => "export",
@@ -83,9 +86,10 @@ fn numbers(call: Call) -> Vec<u32> {
         Call::Judge | Call::Start => judged(FLOOR_RULE),
         Call::Slack => [judged(ABOVE_RATE), vec![NONE_ESSENTIAL]].concat(),
         Call::Step => wide([DONE].into_iter().chain(AT_LAST_DEADLINE..=TOO_SHORT)),
+        Call::End => wide([DONE, UNSOUND, TOO_SHORT, NO_SUCH_POSITION, CANNOT_END]),
         Call::Outcome => [
             wide([UNSOUND, TOO_SHORT]),
-            vec![MET, DISCARDED, MISSED, OPEN],
+            vec![MET, ENDED, DISCARDED, MISSED, OPEN],
         ]
         .concat(),
         Call::Import => wide(
@@ -125,6 +129,7 @@ fn shown(call: Call, number: u32) -> String {
         (Call::Import, IMPORTED) => "taken".to_string(),
         (_, NONE_ESSENTIAL) => "none essential".to_string(),
         (_, MET) => "met".to_string(),
+        (_, ENDED) => "ended".to_string(),
         (_, DISCARDED) => "discarded".to_string(),
         (_, MISSED) => "missed".to_string(),
         (_, OPEN) => "open".to_string(),

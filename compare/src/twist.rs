@@ -6,12 +6,12 @@ use std::ops::Range;
 use reference::edition::MOST_JOBS;
 use reference::generate::Prng;
 
-use crate::between::WRONG_MARKS;
+use crate::between::wrong_mark;
 use crate::buffer::Buffer;
 use crate::memory::Memory;
 use crate::words::{
-    job_at, listed_at, BELOW_FLOOR, DEADLINE, FLOOR, GRADE, JOB_COUNT, LISTED_COUNT, LIST_WORDS,
-    MARK_WORDS, NORMAL_RATE, PLAN_WORDS, RELEASE, RUN_WORDS, SIZE, SLOW,
+    job_at, listed_at, CARRIED, DEADLINE, ENDED, FLOOR, GRADE, JOB_COUNT, LISTED_COUNT, LIST_WORDS,
+    NORMAL_RATE, PLAN_WORDS, RELEASE, RUN_WORDS, SIZE,
 };
 
 /// The bits that the fields of a plan file have: rates; the count and a grade; times and sizes.
@@ -60,8 +60,8 @@ fn one_word(prng: &mut Prng, memory: &mut Memory) {
         (JOB_COUNT, BYTE_BITS),
     ];
     if prng.once_in(4) {
-        let mark = prng.pick(&[SLOW, BELOW_FLOOR]);
-        memory.run.put(mark, &[prng.pick(&WRONG_MARKS)]);
+        let (at, mark) = wrong_mark(prng, memory.jobs());
+        memory.run.put(at, &[mark]);
         return;
     }
     enlarge(prng, &mut memory.plan, &[&head[..], &fields].concat());
@@ -93,12 +93,15 @@ fn put_rubbish(prng: &mut Prng, buffer: &mut Buffer<u64>, places: Range<usize>) 
     }
 }
 
-/// Any words in the records from the count on, and in what is carried for them.
+/// Any words in the records from the count on and in what is carried for them, and any marks there.
 fn rubbish(prng: &mut Prng, memory: &mut Memory) {
     let jobs = memory.jobs();
     put_rubbish(prng, &mut memory.plan, job_at(jobs)..PLAN_WORDS);
-    for at in MARK_WORDS + jobs..RUN_WORDS {
+    for at in CARRIED + jobs..ENDED {
         let word = prng.word() as u32;
         memory.run.put(at, &[word]);
+    }
+    for at in ENDED + jobs..RUN_WORDS {
+        memory.run.put(at, &[prng.below(2) as u32]);
     }
 }

@@ -27,13 +27,20 @@ pub const LISTED_JOBS: usize = 1;
 
 pub const LIST_WORDS: usize = LISTED_JOBS + JOB_WORDS * MOST_JOBS;
 
-/// The clock and both marks come first, then the units carried for each of 32 jobs.
+/// The clock and both marks come first, then the units carried for each of 32 jobs, then the ended
+/// mark of each.
 pub const CLOCK: usize = 0;
 pub const SLOW: usize = 1;
 pub const BELOW_FLOOR: usize = 2;
-pub const MARK_WORDS: usize = 3;
+pub const CARRIED: usize = 3;
+pub const ENDED: usize = CARRIED + MOST_JOBS;
 
-pub const RUN_WORDS: usize = MARK_WORDS + MOST_JOBS;
+pub const RUN_WORDS: usize = ENDED + MOST_JOBS;
+
+/// Where each of the 34 marks of a run stands.
+pub fn marks() -> impl Iterator<Item = usize> {
+    [SLOW, BELOW_FLOOR].into_iter().chain(ENDED..RUN_WORDS)
+}
 
 /// What a refusal names.
 pub const LOCATION_WORDS: usize = 2;
@@ -109,23 +116,29 @@ fn words_of_jobs(jobs: &[Job]) -> Vec<u64> {
     words
 }
 
-/// The run that at least 35 words say; none if a mark is neither 0 nor 1.
+/// The run that at least 67 words say; none if a mark is neither 0 nor 1.
 pub fn run_of(words: &[u32]) -> Option<Run> {
-    if words[SLOW] > 1 || words[BELOW_FLOOR] > 1 {
+    if marks().any(|mark| words[mark] > 1) {
         return None;
     }
     let mut carried = [0; MOST_JOBS];
-    carried.copy_from_slice(&words[MARK_WORDS..RUN_WORDS]);
+    carried.copy_from_slice(&words[CARRIED..ENDED]);
+    let mut ended = [false; MOST_JOBS];
+    for (mark, &word) in ended.iter_mut().zip(&words[ENDED..RUN_WORDS]) {
+        *mark = word == 1;
+    }
     Some(Run {
         clock: words[CLOCK],
         slow: words[SLOW] == 1,
         below_floor: words[BELOW_FLOOR] == 1,
         carried,
+        ended,
     })
 }
 
 pub fn words_of_run(run: &Run) -> Vec<u32> {
     let mut words = vec![run.clock, run.slow.into(), run.below_floor.into()];
     words.extend(run.carried);
+    words.extend(run.ended.map(u32::from));
     words
 }

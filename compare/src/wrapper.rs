@@ -5,16 +5,16 @@
 
 use gateway::{export_jobs, import_jobs, Grade, Job, Location, Outcome, Plan, Refusal, Run};
 use reference::edition::{HI, LO, MOST_INTERVALS, MOST_JOBS, NAME_BYTES, TABLE_PLACES};
-use reference::refusal::{DONE, TOO_SHORT};
+use reference::refusal::{DONE, TOO_SHORT, UNSOUND};
 
 use crate::both::{Both, Difference};
 use crate::buffer::Buffer;
 use crate::memory::{Listing, Memory};
-use crate::model::{DISCARDED, MET, MISSED, NONE_ESSENTIAL, OPEN};
+use crate::model::{DISCARDED, ENDED, MET, MISSED, NONE_ESSENTIAL, OPEN};
 use crate::tally::Call;
 use crate::words::{
-    job_at, listed_at, DEADLINE, FLOOR, GRADE, JOB_COUNT, JOB_WORDS, LISTED_COUNT, LOCATION_WORDS,
-    MARK_WORDS, NAME, NORMAL_RATE, RELEASE, RUN_WORDS, SIZE,
+    job_at, listed_at, run_of, DEADLINE, FLOOR, GRADE, JOB_COUNT, JOB_WORDS, LISTED_COUNT,
+    LOCATION_WORDS, NAME, NORMAL_RATE, RELEASE, RUN_WORDS, SIZE,
 };
 
 fn is_done(number: u32) -> bool {
@@ -54,15 +54,15 @@ fn place_words(number: u32, memory: &Memory) -> Vec<u64> {
     [&[number.into()], location].concat()
 }
 
-/// The clock, both marks, and the units carried.
+/// The clock, both marks, the units carried, and the ended marks.
 fn run_words(run: &Run) -> Vec<u64> {
     let mut words = vec![
         run.clock().into(),
         run.is_slow().into(),
         run.is_below_floor().into(),
     ];
-    let carried = (0..RUN_WORDS - MARK_WORDS).map(|i| run.carried(i).map_or(u64::MAX, u64::from));
-    words.extend(carried);
+    words.extend((0..MOST_JOBS).map(|i| run.carried(i).map_or(u64::MAX, u64::from)));
+    words.extend((0..MOST_JOBS).map(|i| run.has_ended(i).map_or(u64::MAX, u64::from)));
     words
 }
 
@@ -88,6 +88,15 @@ pub fn in_hand(memory: &Memory) -> Option<Plan> {
         plan.allot(place / MOST_INTERVALS, place % MOST_INTERVALS, units);
     }
     Some(plan)
+}
+
+/// The run in memory, if the wrapper takes it: it refuses those with a wrong mark, and no other.
+pub fn run_in_hand(both: &mut Both, memory: &Memory) -> Result<Option<Run>, Difference> {
+    let words = memory.run.contents();
+    let result = Run::from_words(words);
+    let expected = run_of(words).map_or(UNSOUND, |_| DONE);
+    both.agree(Call::Outcome, vec![number_of(&result)], vec![expected.into()])?;
+    Ok(result.ok())
 }
 
 fn job(words: &[u64]) -> Option<Job> {
@@ -240,6 +249,21 @@ pub fn step(
     both.agree(Call::Step, wrapped, bare)
 }
 
+/// Says once more that a job has ended.
+pub fn end(
+    both: &mut Both,
+    plan: &Plan,
+    run: &mut Run,
+    position: usize,
+    number: u32,
+    memory: &Memory,
+) -> Result<(), Difference> {
+    let result = run.end(plan, position);
+    let wrapped = [vec![number_of(&result)], run_words(run)].concat();
+    let bare = [vec![number.into()], bare_run_words(memory)].concat();
+    both.agree(Call::End, wrapped, bare)
+}
+
 pub fn outcome(
     both: &mut Both,
     plan: &Plan,
@@ -249,6 +273,7 @@ pub fn outcome(
 ) -> Result<(), Difference> {
     let wrapped = match run.outcome(plan, position) {
         Ok(Outcome::Met) => MET,
+        Ok(Outcome::Ended) => ENDED,
         Ok(Outcome::Discarded) => DISCARDED,
         Ok(Outcome::Missed) => MISSED,
         Ok(Outcome::Open) => OPEN,

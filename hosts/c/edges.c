@@ -1,5 +1,5 @@
 /* What gateway.h says at the edges: buffers of length 0 that are NULL, offsets of files and texts that end early, a job list inside a plan,
- * speeds above 16 bits, answers in words. It prints each sentence that does not hold; the exit status is then 1. */
+ * jobs that have ended, speeds above 16 bits, answers in words. It prints each sentence that does not hold; the exit status is then 1. */
 #include <stdio.h>
 #include <string.h>
 
@@ -110,8 +110,32 @@ static void slots_of_nothing(void)
     too_short(gateway_step(plan, GATEWAY_PLAN_WORDS, table, GATEWAY_TABLE_PLACES, NULL, 0, 1, grants, GATEWAY_MOST_JOBS), "step: no run");
     too_short(gateway_step(plan, GATEWAY_PLAN_WORDS, NULL, 0, run, GATEWAY_RUN_WORDS, 1, grants, GATEWAY_MOST_JOBS), "step: no table");
     too_short(gateway_step(plan, GATEWAY_PLAN_WORDS, table, GATEWAY_TABLE_PLACES, run, GATEWAY_RUN_WORDS, 1, NULL, 0), "step: no grants");
+    too_short(gateway_end(NULL, 0, run, GATEWAY_RUN_WORDS, 0), "end: no plan");
+    too_short(gateway_end(plan, GATEWAY_PLAN_WORDS, NULL, 0, 0), "end: no run");
     too_short(gateway_outcome(NULL, 0, run, GATEWAY_RUN_WORDS, 0), "outcome: no plan");
     too_short(gateway_outcome(plan, GATEWAY_PLAN_WORDS, NULL, 0, 0), "outcome: no run");
+}
+
+static uint32_t tell_of(size_t position)
+{
+    return gateway_end(plan, GATEWAY_PLAN_WORDS, run, GATEWAY_RUN_WORDS, position);
+}
+
+/* The run has just been started. */
+static void word_that_a_job_has_ended(void)
+{
+    uint32_t after[GATEWAY_RUN_WORDS];
+    expect(GATEWAY_INDEX_ENDED(GATEWAY_MOST_JOBS) == GATEWAY_RUN_WORDS, "end: the marks go up to the run's end");
+    memcpy(after, run, sizeof run);
+    expect(tell_of(1) == GATEWAY_NO_SUCH_JOB && tell_of(SIZE_MAX) == GATEWAY_NO_SUCH_JOB, "end: a position that no job has is refused by 25");
+    expect(memcmp(run, after, sizeof run) == 0, "end: a refused word leaves the run");
+    after[GATEWAY_INDEX_ENDED(0)] = 1;
+    expect(tell_of(0) == GATEWAY_DONE, "end: the job is running");
+    expect(memcmp(run, after, sizeof run) == 0, "end: the job's mark is set, and nothing else changes");
+    expect(tell_of(0) == GATEWAY_CANNOT_END, "end: a job that has ended is refused by 26");
+    expect(gateway_outcome(plan, GATEWAY_PLAN_WORDS, run, GATEWAY_RUN_WORDS, 0) == GATEWAY_ENDED, "outcome: the job has ended");
+    run[GATEWAY_INDEX_ENDED(GATEWAY_MOST_JOBS - 1)] = 2;
+    expect(tell_of(1) == GATEWAY_UNSOUND, "end: a mark of 2 is refused by 21, past the count too");
 }
 
 static void importing_of_nothing(void)
@@ -158,7 +182,7 @@ static void speeds_and_words(void)
     expect(gateway_speed(3, plan) == 2 && gateway_speed(UINT64_C(65537), plan) == 2, "speed: the normal rate if more is measured");
     plan[GATEWAY_INDEX_NORMAL_RATE] = UINT64_MAX;
     expect(gateway_speed(UINT64_MAX, plan) == UINT16_MAX, "speed: at most 65,535 whatever the plan says");
-    expect(gateway_words(GATEWAY_WRONG_HEADER + 1) == gateway_words(GATEWAY_OPEN + 1), "words: a number that is no answer");
+    expect(gateway_words(GATEWAY_CANNOT_END + 1) == gateway_words(GATEWAY_ENDED + 1), "words: a number that is no answer");
 }
 
 int main(void)
@@ -172,6 +196,7 @@ int main(void)
     writing_of_nothing();
     judging_of_nothing();
     slots_of_nothing();
+    word_that_a_job_has_ended();
     importing_of_nothing();
     exporting_of_nothing();
     list_inside_a_plan();

@@ -1,6 +1,6 @@
 /* For hosts in C and C++: plan files, judging, slots and job lists, on memory that the host lends.
  *
- * Every call answers a number: 0 when it is done, a refusal's number from 1 to 24 (enum gateway_refusal), or a number from 256 on for the
+ * Every call answers a number: 0 when it is done, a refusal's number from 1 to 26 (enum gateway_refusal), or a number from 256 on for the
  * results that are named below. Every buffer is a pointer and then its length, counted in elements. What a call is not said to change stays.
  *
  * No call relies on checks by the host: every content of the lent memory means exactly one plan, run or job list, or is refused by 21. What
@@ -57,14 +57,16 @@ extern "C" {
 #define GATEWAY_TABLE_PLACES (GATEWAY_MOST_JOBS * GATEWAY_MOST_INTERVALS)
 #define GATEWAY_INDEX_ALLOTMENT(i, j) (GATEWAY_MOST_INTERVALS * (size_t)(i) + (size_t)(j))
 
-/* A run lives in 35 words of 32 bits: the clock, the slow mark, the below-floor mark, and the units carried for each of 32 jobs.
- * A mark is 0 or 1; any other mark is refused by 21. */
+/* A run lives in 67 words of 32 bits: the clock, the slow mark, the below-floor mark, the units carried for each of 32 jobs, then an ended
+ * mark for each of 32 jobs. A mark is 0 or 1; any other mark is refused by 21, also that of a job from the count on. Nothing else is asked of
+ * the words of jobs from the count on. */
 #define GATEWAY_MARK_WORDS 3
-#define GATEWAY_RUN_WORDS (GATEWAY_MARK_WORDS + GATEWAY_MOST_JOBS)
+#define GATEWAY_RUN_WORDS (GATEWAY_MARK_WORDS + 2 * GATEWAY_MOST_JOBS)
 #define GATEWAY_INDEX_CLOCK 0
 #define GATEWAY_INDEX_SLOW 1
 #define GATEWAY_INDEX_BELOW_FLOOR 2
 #define GATEWAY_INDEX_CARRIED(i) (GATEWAY_MARK_WORDS + (size_t)(i))
+#define GATEWAY_INDEX_ENDED(i) (GATEWAY_MARK_WORDS + GATEWAY_MOST_JOBS + (size_t)(i))
 
 /* A location has two words of 64 bits: with 15 job and interval, with 16 job and 0, with 17 interval and 0, with 18 interval and deadline,
  * with any other answer of judge and start 0 and 0. */
@@ -95,7 +97,9 @@ enum gateway_refusal {
     GATEWAY_UNSOUND = 21,
     GATEWAY_BUFFER_TOO_SHORT = 22,
     GATEWAY_WRONG_LINE = 23,
-    GATEWAY_WRONG_HEADER = 24
+    GATEWAY_WRONG_HEADER = 24,
+    GATEWAY_NO_SUCH_JOB = 25,
+    GATEWAY_CANNOT_END = 26
 };
 
 /* Results that are no refusals. */
@@ -104,7 +108,8 @@ enum gateway_result {
     GATEWAY_MET = 257,
     GATEWAY_DISCARDED = 258,
     GATEWAY_MISSED = 259,
-    GATEWAY_OPEN = 260
+    GATEWAY_OPEN = 260,
+    GATEWAY_ENDED = 261
 };
 
 /* Reads a plan file.
@@ -148,11 +153,19 @@ uint32_t gateway_start(const uint64_t *plan, size_t plan_length, const uint32_t 
 
 /* Carries one slot at a speed in units. A speed has 16 bits everywhere; gateway_speed below makes one of any measured number.
  * In: plan, table, run and speed. Out: the run, advanced in place, and for each job its grant. Answers 0, 22, 21, 19 or 20.
+ * A job whose ended mark is set gets 0, and what it leaves goes to the others.
  * After any refusal run and grants stay. grants has at least as many places as the plan has jobs; places beyond stay. */
 uint32_t gateway_step(const uint64_t *plan, size_t plan_length, const uint32_t *table, size_t table_length, uint32_t *run, size_t run_length, uint16_t speed, uint32_t *grants, size_t grants_length);
 
+/* The host's word that a job's transfer has ended before its size was carried. It is said between two slots, and no call clears the mark.
+ * In: plan, run and the job's position. Out: the run, in which the job's ended mark is set and nothing else changes. Answers, in this order,
+ * 22 (plan or run too short), 21 (as gateway_step's 21), 25 (no job has the position), 26 (the clock is before the job's release, or its outcome
+ * is already met, ended, discarded or missed) or 0. After any refusal the run stays. */
+uint32_t gateway_end(const uint64_t *plan, size_t plan_length, uint32_t *run, size_t run_length, size_t position);
+
 /* How a job's transfer ended.
- * In: plan, run and the job's position. Answers GATEWAY_MET, GATEWAY_DISCARDED, GATEWAY_MISSED, GATEWAY_OPEN, 22 or 21. No buffer is changed. */
+ * In: plan, run and the job's position. Answers the first of GATEWAY_MET, GATEWAY_ENDED, GATEWAY_DISCARDED, GATEWAY_MISSED and GATEWAY_OPEN that
+ * holds, or 22 or 21; 21 also if no job has the position. No buffer is changed. */
 uint32_t gateway_outcome(const uint64_t *plan, size_t plan_length, const uint32_t *run, size_t run_length, size_t position);
 
 /* Reads a job list as text: comma-separated lines by RFC 4180, after the header name,grade,release,size,deadline.
@@ -210,12 +223,14 @@ static inline const char *gateway_words(uint32_t answer)
         "the plan, the run or the job list is not sound",
         "a lent buffer has too few elements",
         "a line of the job list is not well formed",
-        "the job list does not begin with its header"
+        "the job list does not begin with its header",
+        "there is no such job",
+        "the job is not running: it is not yet released, or it is over already"
     };
-    static const char *const results[] = { "no job is essential", "met", "discarded", "missed", "open" };
-    if (answer <= GATEWAY_WRONG_HEADER)
+    static const char *const results[] = { "no job is essential", "met", "discarded", "missed", "open", "ended" };
+    if (answer <= GATEWAY_CANNOT_END)
         return refusals[answer];
-    if (answer >= GATEWAY_NONE_ESSENTIAL && answer <= GATEWAY_OPEN)
+    if (answer >= GATEWAY_NONE_ESSENTIAL && answer <= GATEWAY_ENDED)
         return results[answer - GATEWAY_NONE_ESSENTIAL];
     return "the library gives no such number";
 }

@@ -3,6 +3,8 @@
  * With --check it reads a plan file alone, and says what the plan asks, whether it is accepted, how much slack it has, whether it is written
  * again as the same file, and how each transfer of an accepted plan ends at the floor. Then the exit status is 0 for an accepted plan and 1
  * for any other.
+ * With --end it reads a plan file alone, starts the plan, says of each position in turn that its job has ended, also of the first position that
+ * no job has, and runs the plan at the floor. It prints what each word is answered and how each transfer ends; the exit status is as with --check.
  * With --import it reads a job list as text, and says which jobs it has and whether they are exported as the same text. Then the exit status is
  * 0 for a text that is taken and 1 for any other. With --refusals it prints what each refusal says. */
 #include <stdio.h>
@@ -77,6 +79,11 @@ static void print_outcomes(size_t file_length)
     }
 }
 
+static uint32_t start(void)
+{
+    return gateway_start(plan, GATEWAY_PLAN_WORDS, table, GATEWAY_TABLE_PLACES, run, GATEWAY_RUN_WORDS, location, GATEWAY_LOCATION_WORDS);
+}
+
 static int night(void)
 {
     uint8_t two[2];
@@ -86,7 +93,7 @@ static int night(void)
     if (refused != GATEWAY_DONE)
         fprintf(stderr, "the file is wrong at byte %u\n", (unsigned)offset);
     else
-        refused = gateway_start(plan, GATEWAY_PLAN_WORDS, table, GATEWAY_TABLE_PLACES, run, GATEWAY_RUN_WORDS, location, GATEWAY_LOCATION_WORDS);
+        refused = start();
     if (refused != GATEWAY_DONE) {
         printf("refused %u\n", (unsigned)refused);
         return 0;
@@ -155,11 +162,11 @@ static void print_written(size_t length)
     printf("written again: %s %u bytes\n", same ? "the same" : "other", (unsigned)written);
 }
 
-/* Runs an accepted plan at its floor until a step is refused, which is at the last deadline. */
+/* Runs a started plan at its floor until a step is refused, which is at the last deadline. */
 static void print_floor_night(size_t file_length)
 {
     uint16_t speed = gateway_speed(plan[GATEWAY_INDEX_FLOOR], plan);
-    uint32_t refused = gateway_start(plan, GATEWAY_PLAN_WORDS, table, GATEWAY_TABLE_PLACES, run, GATEWAY_RUN_WORDS, location, GATEWAY_LOCATION_WORDS);
+    uint32_t refused = GATEWAY_DONE;
     while (refused == GATEWAY_DONE)
         refused = gateway_step(plan, GATEWAY_PLAN_WORDS, table, GATEWAY_TABLE_PLACES, run, GATEWAY_RUN_WORDS, speed, grants, GATEWAY_MOST_JOBS);
     printf("at the floor, until %s:\n", gateway_words(refused));
@@ -184,8 +191,35 @@ static int check(void)
     print_verdict(refused);
     print_slack();
     print_written(length);
-    if (refused != GATEWAY_DONE)
+    if (refused != GATEWAY_DONE || start() != GATEWAY_DONE)
         return 1;
+    print_floor_night(length);
+    return 0;
+}
+
+static void print_word(size_t position)
+{
+    uint32_t refused = gateway_end(plan, GATEWAY_PLAN_WORDS, run, GATEWAY_RUN_WORDS, position);
+    printf("position %u: ", (unsigned)position);
+    if (refused == GATEWAY_DONE)
+        puts(gateway_words(refused));
+    else
+        printf("refused %u: %s\n", (unsigned)refused, gateway_words(refused));
+}
+
+static int end_all(void)
+{
+    size_t length = read_file();
+    uint32_t refused = gateway_read(file, length, plan, GATEWAY_PLAN_WORDS, table, GATEWAY_TABLE_PLACES, &offset);
+    if (refused != GATEWAY_DONE)
+        return print_refused(refused);
+    refused = start();
+    if (refused != GATEWAY_DONE) {
+        print_verdict(refused);
+        return 1;
+    }
+    for (size_t i = 0; i <= plan[GATEWAY_INDEX_JOB_COUNT]; i++)
+        print_word(i);
     print_floor_night(length);
     return 0;
 }
@@ -223,7 +257,7 @@ static int import(void)
 
 static int print_refusals(void)
 {
-    for (uint32_t number = GATEWAY_WRONG_VERSION; number <= GATEWAY_WRONG_HEADER; number++)
+    for (uint32_t number = GATEWAY_WRONG_VERSION; number <= GATEWAY_CANNOT_END; number++)
         printf("%u %s\n", (unsigned)number, gateway_words(number));
     return 0;
 }
@@ -234,10 +268,12 @@ int main(int count, char **words)
         return night();
     if (count == 2 && strcmp(words[1], "--check") == 0)
         return check();
+    if (count == 2 && strcmp(words[1], "--end") == 0)
+        return end_all();
     if (count == 2 && strcmp(words[1], "--import") == 0)
         return import();
     if (count == 2 && strcmp(words[1], "--refusals") == 0)
         return print_refusals();
-    fputs("usage: host-c < PLAN-AND-SPEEDS\n       host-c --check < PLAN\n       host-c --import < JOBS\n       host-c --refusals\n", stderr);
+    fputs("usage: host-c < PLAN-AND-SPEEDS\n       host-c --check < PLAN\n       host-c --end < PLAN\n       host-c --import < JOBS\n       host-c --refusals\n", stderr);
     return 2;
 }

@@ -2,13 +2,14 @@
 
 pub const MOST_JOBS: usize = 32;
 
-// The rates and the job count; each job; the clock and both marks.
+// The rates and the job count; each job; the clock and both marks of a run.
 pub const HEAD_WORDS: usize = 3;
 pub const JOB_WORDS: usize = 5;
 pub const MARK_WORDS: usize = 3;
 
 pub const PLAN_WORDS: usize = HEAD_WORDS + JOB_WORDS * MOST_JOBS;
-pub const RUN_WORDS: usize = MARK_WORDS + MOST_JOBS;
+// After them the units carried for each job, and the ended mark of each.
+pub const RUN_WORDS: usize = MARK_WORDS + 2 * MOST_JOBS;
 // The job count and each job: what a plan has from its count on.
 pub const LIST_WORDS: usize = 1 + JOB_WORDS * MOST_JOBS;
 pub const LOCATION_WORDS: usize = 2;
@@ -22,6 +23,7 @@ extern "C" {
     pub fn gateway_slack(plan: *const u64, plan_length: usize, table: *const u32, table_length: usize, slack: *mut i64, location: *mut u64, location_length: usize) -> u32;
     pub fn gateway_start(plan: *const u64, plan_length: usize, table: *const u32, table_length: usize, run: *mut u32, run_length: usize, location: *mut u64, location_length: usize) -> u32;
     pub fn gateway_step(plan: *const u64, plan_length: usize, table: *const u32, table_length: usize, run: *mut u32, run_length: usize, speed: u16, grants: *mut u32, grants_length: usize) -> u32;
+    pub fn gateway_end(plan: *const u64, plan_length: usize, run: *mut u32, run_length: usize, position: usize) -> u32;
     pub fn gateway_outcome(plan: *const u64, plan_length: usize, run: *const u32, run_length: usize, position: usize) -> u32;
     pub fn gateway_import(text: *const u8, text_length: usize, list: *mut u64, list_length: usize, offset: *mut usize) -> u32;
     pub fn gateway_export(list: *const u64, list_length: usize, out: *mut u8, out_length: usize, written: *mut usize) -> u32;

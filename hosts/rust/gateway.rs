@@ -20,12 +20,13 @@ pub const NAME_BYTES: usize = 8;
 
 pub const TABLE_PLACES: usize = MOST_JOBS * MOST_INTERVALS;
 
-/// Where a run's words say what; job i's units carried are at `CARRIED + i`.
+/// Where a run's words say what; job i's units carried are at `CARRIED + i`, its ended mark at `ENDED + i`.
 pub mod index {
     pub const CLOCK: usize = 0;
     pub const SLOW: usize = 1;
     pub const BELOW_FLOOR: usize = 2;
     pub const CARRIED: usize = super::calls::MARK_WORDS;
+    pub const ENDED: usize = CARRIED + super::calls::MOST_JOBS;
 }
 
 // Where a plan's words say what. From the count on they are the list of its jobs.
@@ -39,6 +40,7 @@ const MET: u32 = 257;
 const DISCARDED: u32 = 258;
 const MISSED: u32 = 259;
 const OPEN: u32 = 260;
+const ENDED: u32 = 261;
 
 /// The numbers of refusals, named as in `gateway.h`.
 pub mod refusal {
@@ -66,6 +68,8 @@ pub mod refusal {
     pub const BUFFER_TOO_SHORT: u8 = 22;
     pub const WRONG_LINE: u8 = 23;
     pub const WRONG_HEADER: u8 = 24;
+    pub const NO_SUCH_JOB: u8 = 25;
+    pub const CANNOT_END: u8 = 26;
 
     /// What a refusal's number says, as `gateway_words` of `gateway.h` says it.
     pub fn words(number: u8) -> &'static str {
@@ -94,6 +98,8 @@ pub mod refusal {
             BUFFER_TOO_SHORT => "a lent buffer has too few elements",
             WRONG_LINE => "a line of the job list is not well formed",
             WRONG_HEADER => "the job list does not begin with its header",
+            NO_SUCH_JOB => "there is no such job",
+            CANNOT_END => "the job is not running: it is not yet released, or it is over already",
             _ => "the library gives no such number",
         }
     }
@@ -248,6 +254,7 @@ pub struct Slack {
 #[derive(Clone, Copy, Debug, PartialEq, Eq)]
 pub enum Outcome {
     Met,
+    Ended,
     Discarded,
     Missed,
     Open,
@@ -257,6 +264,7 @@ impl fmt::Display for Outcome {
     fn fmt(&self, f: &mut fmt::Formatter<'_>) -> fmt::Result {
         f.write_str(match self {
             Outcome::Met => "met",
+            Outcome::Ended => "ended",
             Outcome::Discarded => "discarded",
             Outcome::Missed => "missed",
             Outcome::Open => "open",
@@ -476,8 +484,8 @@ impl Run {
     pub fn from_words(words: &[u32]) -> Result<Run, Refusal> {
         let words: Option<[u32; RUN_WORDS]> = words.get(..RUN_WORDS).and_then(|w| w.try_into().ok());
         let words = words.ok_or(Refusal::nowhere(refusal::BUFFER_TOO_SHORT))?;
-        let marks_hold = words[index::SLOW] <= 1 && words[index::BELOW_FLOOR] <= 1;
-        if marks_hold { Ok(Run { words }) } else { Err(Refusal::nowhere(refusal::UNSOUND)) }
+        let mut marks = words[index::SLOW..index::CARRIED].iter().chain(&words[index::ENDED..]);
+        if marks.all(|&mark| mark <= 1) { Ok(Run { words }) } else { Err(Refusal::nowhere(refusal::UNSOUND)) }
     }
 
     /// The run's words, to store; [`index`] says which of them says what.
@@ -496,12 +504,21 @@ impl Run {
         done(number).map(|()| grants)
     }
 
+    /// The host's word that the transfer of the job at a position has ended before its size was carried. It gets nothing in later slots, and
+    /// what it leaves goes to the others. 25 if there is no such job, 26 if it is not yet released or over already; a refusal leaves the run as
+    /// it was.
+    pub fn end(&mut self, plan: &Plan, position: usize) -> Result<(), Refusal> {
+        // SAFETY: each pointer is valid for the length beside it; the run is borrowed for writing.
+        done(unsafe { gateway_end(plan.words.as_ptr(), PLAN_WORDS, self.words.as_mut_ptr(), RUN_WORDS, position) })
+    }
+
     /// How a job's transfer ended, or that it is still open.
     pub fn outcome(&self, plan: &Plan, position: usize) -> Result<Outcome, Refusal> {
         // SAFETY: each pointer is valid for the length beside it.
         let number = unsafe { gateway_outcome(plan.words.as_ptr(), PLAN_WORDS, self.words.as_ptr(), RUN_WORDS, position) };
         match number {
             MET => Ok(Outcome::Met),
+            ENDED => Ok(Outcome::Ended),
             DISCARDED => Ok(Outcome::Discarded),
             MISSED => Ok(Outcome::Missed),
             OPEN => Ok(Outcome::Open),
@@ -526,17 +543,24 @@ impl Run {
 
     /// The units carried for a job; none where there is no such place.
     pub fn carried(&self, job: usize) -> Option<u32> {
-        self.words[index::CARRIED..].get(job).copied()
+        self.words[index::CARRIED..index::ENDED].get(job).copied()
+    }
+
+    /// Whether the host has said that a job has ended; none where there is no such place.
+    pub fn has_ended(&self, job: usize) -> Option<bool> {
+        self.words[index::ENDED..].get(job).map(|&mark| mark == 1)
     }
 }
 
 impl fmt::Debug for Run {
     fn fmt(&self, f: &mut fmt::Formatter<'_>) -> fmt::Result {
+        let ended: Vec<usize> = (0..MOST_JOBS).filter(|&job| self.has_ended(job) == Some(true)).collect();
         f.debug_struct("Run")
             .field("clock", &self.clock())
             .field("slow", &self.is_slow())
             .field("below_floor", &self.is_below_floor())
-            .field("carried", &&self.words[index::CARRIED..])
+            .field("carried", &&self.words[index::CARRIED..index::ENDED])
+            .field("ended", &ended)
             .finish()
     }
 }

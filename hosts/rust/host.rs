@@ -3,6 +3,9 @@
 //! With `--check` it reads a plan file alone, and says what the plan asks, whether it is accepted, how much slack it has, whether it is
 //! written again as the same file, and how each transfer of an accepted plan ends at the floor. Then the exit status is 0 for an accepted
 //! plan and 1 for any other.
+//! With `--end` it reads a plan file alone, starts the plan, says of each position in turn that its job has ended, also of the first position
+//! that no job has, and runs the plan at the floor. It prints what each word is answered and how each transfer ends; the exit status is as with
+//! `--check`.
 //! With `--import` it reads a job list as text, and says which jobs it has and whether they are exported as the same text. Then the exit status
 //! is 0 for a text that is taken and 1 for any other. With `--refusals` it prints what each refusal says.
 
@@ -91,9 +94,8 @@ fn write_jobs(jobs: impl Iterator<Item = Job>, out: &mut impl Write) -> io::Resu
     Ok(())
 }
 
-/// Runs a plan at its floor until a step is refused, which is at the last deadline. Between two slots the run is kept as words.
-fn floor_night(plan: &Plan) -> Result<(Run, Refusal), Refusal> {
-    let mut run = plan.start()?;
+/// Runs a started plan at its floor until a step is refused, which is at the last deadline. Between two slots the run is kept as words.
+fn floor_night(plan: &Plan, mut run: Run) -> Result<(Run, Refusal), Refusal> {
     loop {
         if let Err(refusal) = run.step(plan, plan.floor()) {
             return Ok((run, refusal));
@@ -101,6 +103,16 @@ fn floor_night(plan: &Plan) -> Result<(Run, Refusal), Refusal> {
         let stored = run.words().to_vec();
         run = Run::from_words(&stored)?;
     }
+}
+
+fn write_floor_night(file: &[u8], plan: &Plan, run: Run, out: &mut impl Write) -> io::Result<bool> {
+    let (run, last) = match floor_night(plan, run) {
+        Ok(night) => night,
+        Err(_) => return Ok(false),
+    };
+    writeln!(out, "at the floor, until {}:", last.words())?;
+    write_outcomes(file, &run, plan, out)?;
+    Ok(true)
 }
 
 fn slack_line(plan: &Plan) -> String {
@@ -125,13 +137,24 @@ fn check(file: &[u8], out: &mut impl Write) -> io::Result<bool> {
     let again = plan.write().unwrap_or_default();
     writeln!(out, "{}", slack_line(&plan))?;
     writeln!(out, "written again: {} {} bytes", if again == file { "the same" } else { "other" }, again.len())?;
-    let (run, end) = match floor_night(&plan) {
-        Ok(night) => night,
-        Err(_) => return Ok(false),
+    match plan.start() {
+        Ok(run) => write_floor_night(file, &plan, run, out),
+        Err(_) => Ok(false),
+    }
+}
+
+fn end_all(file: &[u8], out: &mut impl Write) -> io::Result<bool> {
+    let (plan, mut run) = match open(file) {
+        Ok(opened) => opened,
+        Err(refusal) => return writeln!(out, "{refusal}").map(|()| false),
     };
-    writeln!(out, "at the floor, until {}:", end.words())?;
-    write_outcomes(file, &run, &plan, out)?;
-    Ok(true)
+    for position in 0..=plan.job_count() {
+        match run.end(&plan, position) {
+            Ok(()) => writeln!(out, "position {position}: done")?,
+            Err(refusal) => writeln!(out, "position {position}: {refusal}")?,
+        }
+    }
+    write_floor_night(file, &plan, run, out)
 }
 
 fn import(text: &[u8], out: &mut impl Write) -> io::Result<bool> {
@@ -146,7 +169,7 @@ fn import(text: &[u8], out: &mut impl Write) -> io::Result<bool> {
 }
 
 fn write_refusals(out: &mut impl Write) -> io::Result<()> {
-    (refusal::WRONG_VERSION..=refusal::WRONG_HEADER).try_for_each(|number| writeln!(out, "{number} {}", refusal::words(number)))
+    (refusal::WRONG_VERSION..=refusal::CANNOT_END).try_for_each(|number| writeln!(out, "{number} {}", refusal::words(number)))
 }
 
 fn read_input() -> io::Result<Vec<u8>> {
@@ -168,10 +191,14 @@ fn main() -> io::Result<ExitCode> {
             let input = read_input()?;
             check(&input[..file_length(&input)], &mut out)?
         }
+        ["--end"] => {
+            let input = read_input()?;
+            end_all(&input[..file_length(&input)], &mut out)?
+        }
         ["--import"] => import(&read_input()?, &mut out)?,
         ["--refusals"] => write_refusals(&mut out).map(|()| true)?,
         _ => {
-            eprintln!("usage: host-rust < PLAN-AND-SPEEDS\n       host-rust --check < PLAN\n       host-rust --import < JOBS\n       host-rust --refusals");
+            eprintln!("usage: host-rust < PLAN-AND-SPEEDS\n       host-rust --check < PLAN\n       host-rust --end < PLAN\n       host-rust --import < JOBS\n       host-rust --refusals");
             return Ok(ExitCode::from(2));
         }
     };

@@ -26,11 +26,6 @@ impl Job {
         }
     }
 
-    /// Whether the job may be served in the slot at clock `t`.
-    pub fn live(&self, t: u32) -> bool {
-        self.release <= t && t < self.deadline
-    }
-
     /// Whether the interval lies inside the job's window.
     pub fn covers(&self, interval: &Interval) -> bool {
         self.release <= interval.start && interval.end <= self.deadline

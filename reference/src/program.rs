@@ -84,6 +84,7 @@ fn job_line(plan: &Plan, run: &Run, position: usize) -> Vec<u8> {
     let outcome = outcome(plan, run, position as u64).expect("a started run stays sound");
     let word = match outcome {
         Outcome::Met => "met",
+        Outcome::Ended => "ended",
         Outcome::Discarded => "discarded",
         Outcome::Missed => "missed",
         Outcome::Open => "open",

@@ -27,6 +27,8 @@ pub const UNSOUND: u8 = 21;
 pub const TOO_SHORT: u8 = 22;
 pub const LINE: u8 = 23;
 pub const HEADER: u8 = 24;
+pub const NO_SUCH_POSITION: u8 = 25;
+pub const CANNOT_END: u8 = 26;
 
 /// A refusal with its places, listed in the order in which they are named.
 ///

@@ -1,4 +1,4 @@
-//! A run: its start, one slot of it, and the outcome of each job.
+//! A run: its start, one slot of it, the host's word that a job has ended, and the outcome of each job.
 
 use crate::edition::{HI, LO, MOST_JOBS, TABLE_PLACES};
 use crate::judge::judge;
@@ -12,12 +12,14 @@ pub struct Run {
     pub slow: bool,
     pub below_floor: bool,
     pub carried: [u32; MOST_JOBS],
+    pub ended: [bool; MOST_JOBS],
 }
 
 /// How a job stands in a run.
 #[derive(Clone, Copy, Debug, PartialEq, Eq)]
 pub enum Outcome {
     Met,
+    Ended,
     Discarded,
     Missed,
     Open,
@@ -32,6 +34,7 @@ pub fn start(plan: &Plan, table: &[u32]) -> Result<Run, Refusal> {
         slow: false,
         below_floor: false,
         carried: [0; MOST_JOBS],
+        ended: [false; MOST_JOBS],
     })
 }
 
@@ -59,24 +62,50 @@ pub fn step(plan: &Plan, table: &[u32], run: &mut Run, speed: u16, grants: &mut 
     refusal::DONE
 }
 
+/// The host's word that the job at a position has ended: 0 when done, else the refusal number with
+/// the run as it was.
+pub fn end(plan: &Plan, run: &mut Run, position: u64) -> u8 {
+    if !sound_to_run(plan, run) {
+        return refusal::UNSOUND;
+    }
+    if position >= plan.count {
+        return refusal::NO_SUCH_POSITION;
+    }
+    let position = position as usize;
+    let job = &plan.counted()[position];
+    // A job that is not open has been met, ended, discarded or missed already.
+    if run.clock < job.release || standing(job, run, position) != Outcome::Open {
+        return refusal::CANNOT_END;
+    }
+    run.ended[position] = true;
+    refusal::DONE
+}
+
 /// The outcome of the job at a position, or the refusal number.
 pub fn outcome(plan: &Plan, run: &Run, position: u64) -> Result<Outcome, u8> {
     if !sound_to_run(plan, run) || position >= plan.count {
         return Err(refusal::UNSOUND);
     }
-    let job = &plan.counted()[position as usize];
-    if u64::from(run.carried[position as usize]) == job.size {
-        Ok(Outcome::Met)
+    let position = position as usize;
+    Ok(standing(&plan.counted()[position], run, position))
+}
+
+/// The outcome of a job in a sound run: the first of the five that holds.
+fn standing(job: &Job, run: &Run, position: usize) -> Outcome {
+    if u64::from(run.carried[position]) == job.size {
+        Outcome::Met
+    } else if run.ended[position] {
+        Outcome::Ended
     } else if job.grade == LO && run.slow {
-        Ok(Outcome::Discarded)
+        Outcome::Discarded
     } else if run.clock >= job.deadline {
-        Ok(Outcome::Missed)
+        Outcome::Missed
     } else {
-        Ok(Outcome::Open)
+        Outcome::Open
     }
 }
 
-/// What a slot and an outcome ask of plan and run.
+/// What a slot, a word of the host and an outcome ask of plan and run.
 fn sound_to_run(plan: &Plan, run: &Run) -> bool {
     numbers_hold(plan)
         && first_release(plan.counted()) <= run.clock
@@ -117,14 +146,19 @@ fn serve(plan: &Plan, table: &[u32], run: &Run, speed: u16) -> Vec<u32> {
 
 /// The positions of the jobs to be served, in the order of their turns.
 fn turns(jobs: &[Job], run: &Run) -> Vec<usize> {
-    let served = |job: &Job| job.live(run.clock) && (job.grade == HI || !run.slow);
-    let mut positions: Vec<usize> = (0..jobs.len()).filter(|&i| served(&jobs[i])).collect();
+    let served = |&i: &usize| live(&jobs[i], run, i) && (jobs[i].grade == HI || !run.slow);
+    let mut positions: Vec<usize> = (0..jobs.len()).filter(served).collect();
     // HI before LO, then the earlier deadline, then the lower position.
     positions.sort_by_key(|&i| (jobs[i].grade == LO, jobs[i].deadline, i));
     positions
 }
 
-/// The units that a job in its turn may have at most.
+/// Whether the present slot lies in a job's window and the job has not ended.
+fn live(job: &Job, run: &Run, position: usize) -> bool {
+    job.release <= run.clock && run.clock < job.deadline && !run.ended[position]
+}
+
+/// The units that a job in its turn may have at most. An ended job has no turn: its due is 0.
 fn due(plan: &Plan, table: &[u32], run: &Run, position: usize) -> u64 {
     let size = plan.counted()[position].size;
     let carried = u64::from(run.carried[position]);

@@ -3,6 +3,7 @@
 //!
 //! Archive and model are compared in these calls too, so both have to give the written answer.
 
+mod ended;
 mod files;
 mod judged;
 mod largest;
@@ -59,6 +60,8 @@ pub fn all() -> Result<u64, String> {
     slots::refused(cases)?;
     slots::shorts(cases)?;
     slots::outcomes(cases)?;
+    ended::words(cases)?;
+    ended::runs(cases)?;
     sums::columns(cases)?;
     sums::dues(cases)?;
     largest::file(cases)?;

@@ -8,17 +8,17 @@ use super::Cases;
 use crate::both::{Both, Difference};
 use crate::memory::Memory;
 use crate::model::{DISCARDED, MET, MISSED, OPEN};
-use crate::words::{JOB_COUNT, MARK_WORDS, PLAN_WORDS, RUN_WORDS};
+use crate::words::{CARRIED, JOB_COUNT, PLAN_WORDS, RUN_WORDS};
 
 /// The first words of a run of two jobs: clock, both marks, units carried.
-type Run = [u32; 5];
+pub type Run = [u32; 5];
 
-const STARTED: Run = [0, 0, 0, 0, 0];
-const AT_THE_END: Run = [10, 0, 0, 6, 8];
-const PAST_THE_END: Run = [11, 0, 0, 6, 8];
+pub const STARTED: Run = [0, 0, 0, 0, 0];
+pub const AT_THE_END: Run = [10, 0, 0, 6, 8];
+pub const PAST_THE_END: Run = [11, 0, 0, 6, 8];
 
-/// Plan E with a run; nothing is carried for other jobs.
-fn e_with(run: Run) -> Memory {
+/// Plan E with a run; nothing is carried for other jobs, and no job has ended.
+pub fn e_with(run: Run) -> Memory {
     let mut memory = memory_of(&JOBS, &ROWS);
     memory.run.put(0, &[0; RUN_WORDS]);
     memory.run.put(0, &run);
@@ -26,7 +26,7 @@ fn e_with(run: Run) -> Memory {
 }
 
 /// Takes a slot: the number, the grants of both jobs, and the run afterwards.
-fn step(
+pub fn step(
     both: &mut Both,
     memory: &mut Memory,
     speed: u16,
@@ -34,7 +34,7 @@ fn step(
     let number = both.step(memory, speed)?;
     let (grants, words) = (memory.grants.contents(), memory.run.contents());
     let mut run = STARTED;
-    run.copy_from_slice(&words[..MARK_WORDS + 2]);
+    run.copy_from_slice(&words[..CARRIED + 2]);
     Ok((number, [grants[0], grants[1]], run))
 }
 
@@ -67,7 +67,7 @@ pub fn done(cases: &mut Cases) -> Result<(), String> {
 }
 
 /// Holds a step to a refusal that leaves run and grants alone.
-fn refused_step(
+pub fn refused_step(
     cases: &mut Cases,
     case: &str,
     memory: &mut Memory,

@@ -7,7 +7,7 @@ use super::plan_e::{memory_of, HI, JOBS, LO};
 use super::Cases;
 use crate::memory::Memory;
 use crate::words::{
-    DEADLINE, GRADE, HEAD_WORDS, JOB_WORDS, MARK_WORDS, NAME, PLAN_WORDS, RUN_WORDS, SIZE,
+    CARRIED, DEADLINE, GRADE, HEAD_WORDS, JOB_WORDS, NAME, PLAN_WORDS, RUN_WORDS, SIZE,
 };
 
 /// As few jobs as can have 2^31 units together, at most 100,000,000 each.
@@ -58,7 +58,7 @@ pub fn columns(cases: &mut Cases) -> Result<(), String> {
 pub fn dues(cases: &mut Cases) -> Result<(), String> {
     let memory = &mut heavy(HALF + 1, HI);
     let size = memory.table.contents()[0];
-    memory.run.put(MARK_WORDS, &[size - 10]);
+    memory.run.put(CARRIED, &[size - 10]);
     let got = cases.both.step(memory, 1_000);
     cases.expect("22 jobs are due 2^31 units", got, 0)?;
     let grants = &memory.grants.contents()[..JOB_COUNT as usize];

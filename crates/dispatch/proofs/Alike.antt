@@ -2,7 +2,7 @@
 -- sizes and deadlines of its counted jobs. Plans that agree in these get the same from both.
 use mathlib.Core.Path.{_≡_, refl, sym, _∙_, ap, ap₂}
 use mathlib.Core.Logic.{_≢_}
-use mathlib.Core.Bool.{Bool, true, false, not, _&&_, _||_}
+use mathlib.Core.Bool.{Bool, true, false, not, _&&_, _||_, cond}
 use mathlib.Core.List.{List, [], _∷_, _++_}
 use Prim.Native.Nat.{ℕ, suc, _+_, _*_, _-_, _≤_, _<_, min}
 use native.Mathlib.Omega.{arith}
@@ -19,21 +19,22 @@ use Rattle.plan.specs.Edition.{mostJobs, mostIntervals, places}
 use Rattle.plan.specs.Rules.{jobsOf, counted, jobOf, release, deadline, size, hi, isHi, gradeAllowed, windowAllowed, sizeAllowed, gradesHold, boundsHold}
 use Rattle.plan.specs.Boundaries.{boundariesTo, boundaries, intervals, come, present, firstRelease, lastDeadline}
 use Rattle.plan.specs.Table.{allotment}
-use Rattle.plan.specs.Report.{Report}
+use Rattle.plan.specs.Refusal.{unsound, noSuchJob, cannotEnd}
+use Rattle.plan.specs.Report.{Report, orElse, fault}
 use Rattle.plan.specs.declared.kinds.Plan.{Plan}
 use Rattle.plan.proofs.BoundaryOrder.{boundaries-ext}
 use Rattle.plan.proofs.PresentInterval.{present-inside}
 use Rattle.dispatch.specs.declared.Run.{Run}
-use Rattle.dispatch.specs.Dues.{carriedOf, live, slowAfter, goal, due}
+use Rattle.dispatch.specs.Dues.{carriedOf, endedOf, live, slowAfter, goal, due}
 use Rattle.dispatch.specs.Order.{queue, order}
-use Rattle.dispatch.specs.Step.{slotSound, refusedBy, slotFault, granted, advanced, slotBy, stepped, outcome}
+use Rattle.dispatch.specs.Step.{Ending, isOpen, WordEffect, endBy, slotSound, refusedBy, slotFault, granted, advanced, slotBy, stepped, outcome, endFault, toldEnded}
 use Rattle.dispatch.proofs.Queues.{queued, queue-ext, serve-ext, queued-both, queued-below}
 use Rattle.dispatch.proofs.SlotSoundness.{SlotSound, slot-sound}
 
 -- If nothing is refused, plan and run are sound and the clock is not at the end.
-none-refused : (bad short ended fast : Bool) → refusedBy bad short ended fast ≡ [] → (bad ≡ false) × (ended ≡ false)
-none-refused true short ended fast e = let z : _≡_ {A = ℕ} 0 1 = cc in absurd (omega arith)
-none-refused false true ended fast e = let z : _≡_ {A = ℕ} 0 1 = cc in absurd (omega arith)
+none-refused : (bad short over fast : Bool) → refusedBy bad short over fast ≡ [] → (bad ≡ false) × (over ≡ false)
+none-refused true short over fast e = let z : _≡_ {A = ℕ} 0 1 = cc in absurd (omega arith)
+none-refused false true over fast e = let z : _≡_ {A = ℕ} 0 1 = cc in absurd (omega arith)
 none-refused false false true fast e = let z : _≡_ {A = ℕ} 0 1 = cc in absurd (omega arith)
 none-refused false false false fast e = (refl, refl)
 
@@ -136,25 +137,25 @@ module _ (p : Plan) (table : List ℕ) (q : Plan) (other : List ℕ) (same : Ali
   slow-same : (run : Run) (v : ℕ) → slowAfter p run v ≡ slowAfter q run v
   slow-same run v = ap (λ r. run .slow || ltb v (r .0)) (same .n)
 
-  live-same : (t i : ℕ) → i < counted p → live p t i ≡ live q t i
-  live-same t i h = ap₂ (λ a b. leb a t && ltb t b) (same .release i h) (same .deadline i h)
+  live-same : (run : Run) (i : ℕ) → i < counted p → live p run i ≡ live q run i
+  live-same run i h = ap₂ (λ a b. not (endedOf run i) && (leb a (run .clock .0) && ltb (run .clock .0) b)) (same .release i h) (same .deadline i h)
 
-  order-same : (t : ℕ) (slow : Bool) → order p t slow ≡ order q t slow
+  order-same : (run : Run) (slow : Bool) → order p run slow ≡ order q run slow
   unfolding order
-  order-same t slow =
+  order-same run slow =
       ap₂ _++_
-      (queue-ext _ _ _ _ (counted p) (λ k h. ap₂ _&&_ (live-same t k h) (hi-same k h)) (same .deadline) ∙ ap (queue _ _) counted-same)
-      (queue-ext _ _ _ _ (counted p) (λ k h. ap₂ (λ a b. a && not b && not slow) (live-same t k h) (hi-same k h)) (same .deadline)
+      (queue-ext _ _ _ _ (counted p) (λ k h. ap₂ _&&_ (live-same run k h) (hi-same k h)) (same .deadline) ∙ ap (queue _ _) counted-same)
+      (queue-ext _ _ _ _ (counted p) (λ k h. ap₂ (λ a b. a && not b && not slow) (live-same run k h) (hi-same k h)) (same .deadline)
       ∙ ap (queue _ _) counted-same)
 
-  order-below : (t : ℕ) (slow : Bool) (k : ℕ) → queued k (order p t slow) ≡ true → k < counted p
+  order-below : (run : Run) (slow : Bool) (k : ℕ) → queued k (order p run slow) ≡ true → k < counted p
   unfolding order
-  order-below t slow k e = two-below _ _ (deadline p) (counted p) k e
+  order-below run slow k e = two-below _ _ (deadline p) (counted p) k e
 
   -- In a done call, what is due depends only on the table's own places.
   due-same : (run : Run) (v : ℕ) (grants : List ℕ) → Done p table run v grants → (slow : Bool) (i : ℕ) → i < counted p
       → due p table run slow i ≡ due q other run slow i
-  due-same run v grants d slow i h = ap (λ x. x - carriedOf run i) (goal-same slow)
+  due-same run v grants d slow i h = ap (λ x. cond (endedOf run i) 0 (x - carriedOf run i)) (goal-same slow)
     where
       t : ℕ
       t = run .clock .0
@@ -176,8 +177,8 @@ module _ (p : Plan) (table : List ℕ) (q : Plan) (other : List ℕ) (same : Ali
   unfolding granted
   granted-same run v grants d =
       serve-ext _ (due q other run (slowAfter p run v)) v _ _
-      (λ k s. due-same run v grants d (slowAfter p run v) k (order-below (run .clock .0) (slowAfter p run v) k s))
-      ∙ rw (order-same (run .clock .0) (slowAfter p run v), counted-same, slow-same run v) refl
+      (λ k s. due-same run v grants d (slowAfter p run v) k (order-below run (slowAfter p run v) k s))
+      ∙ rw (order-same run (slowAfter p run v), counted-same, slow-same run v) refl
 
   advanced-same : (run : Run) (v : ℕ) (grants : List ℕ) → granted p table run v grants ≡ granted q other run v grants
       → advanced p table run v grants ≡ advanced q other run v grants
@@ -205,3 +206,25 @@ module _ (p : Plan) (table : List ℕ) (q : Plan) (other : List ℕ) (same : Ali
       let here : i < counted p = asked-counted p run i e in
       rw (slot-sound-same run, same .count, same .size i here, hi-same i here, same .deadline i here) refl)
       (λ e. let e′ : (slotSound q run && ltb i (q .count)) ≡ false = rw (← (slot-sound-same run), ← (same .count)) e in rw (e, e′) refl)
+
+  -- And the effect of the word that a job has ended.
+  pub alike-told : (run : Run) (i : ℕ) → toldEnded p run i ≡ toldEnded q run i
+  unfolding endFault toldEnded
+  alike-told run i =
+      if-true (slotSound p run && ltb i (p .count))
+      (λ e.
+      let here : i < counted p = asked-counted p run i e in
+      ap (λ o. told (slotSound p run) (ltb i (p .count)) (ltb (run .clock .0) (release p i)) o) (alike-outcome run i)
+      ∙ rw (slot-sound-same run, same .count, same .release i here) refl)
+      (λ e.
+      if-true (slotSound p run)
+      (λ s. let none : ltb i (p .count) ≡ false = rw s at e in
+      rw (← (slot-sound-same run), s, ← (same .count), none) refl)
+      (λ s. rw (← (slot-sound-same run), s) refl))
+    where
+      -- The effect by what is tested.
+      told : Bool → Bool → Bool → Ending → WordEffect
+      told sound counts early ending =
+          endBy
+          (orElse (fault (not sound) (unsound ∷ []))
+          (orElse (fault (not counts) (noSuchJob ∷ [])) (fault (early || not (isOpen ending)) (cannotEnd ∷ [])))) run i

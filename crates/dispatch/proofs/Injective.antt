@@ -5,9 +5,9 @@ use Rattle.plan.specs.Report.{Report}
 use Rattle.dispatch.specs.declared.answers.Answer.{Answer}
 use Rattle.dispatch.specs.declared.answers.Answer.the-variants as answer
 use Rattle.dispatch.specs.declared.answers.Outcome.{Outcome}
-use Rattle.dispatch.specs.declared.answers.Outcome.the-variants.{Met, Discarded, Missed, Open, Refused}
+use Rattle.dispatch.specs.declared.answers.Outcome.the-variants.{Met, Ended, Discarded, Missed, Open, Refused}
 use Rattle.dispatch.specs.Answers.{answerView, outcomeView}
-use Rattle.dispatch.specs.Step.{Ending, met, discarded, missed, stillOpen, refused}
+use Rattle.dispatch.specs.Step.{Ending, met, endedEarly, discarded, missed, stillOpen, refused}
 
 -- A left inverse of `answerView`.
 abbrev answerOf : Report → Answer
@@ -25,6 +25,7 @@ answerView-injective a b e = sym (answer-back a) ∙ ap answerOf e ∙ answer-ba
 -- A left inverse of `outcomeView`.
 abbrev outcomeOf : Ending → Outcome
 outcomeOf met = Met
+outcomeOf endedEarly = Ended
 outcomeOf discarded = Discarded
 outcomeOf missed = Missed
 outcomeOf stillOpen = Open
@@ -32,6 +33,7 @@ outcomeOf (refused n) = Refused n
 
 outcome-back : (o : Outcome) → outcomeOf (outcomeView o) ≡ o
 outcome-back Met = refl
+outcome-back Ended = refl
 outcome-back Discarded = refl
 outcome-back Missed = refl
 outcome-back Open = refl

@@ -13,3 +13,5 @@ pub mod TurnLaws
 pub mod Sharing
 pub mod SlotOver
 pub mod OutcomeColumns
+pub mod EndColumns
+pub mod WordLimits

@@ -16,7 +16,7 @@ use Rattle.plan.specs.Columns.{Columns}
 use Rattle.plan.specs.declared.kinds.Outline.{Outline}
 use Rattle.plan.specs.declared.kinds.Plan.{Plan}
 use Rattle.dispatch.specs.declared.Run.{Run}
-use Rattle.dispatch.specs.Step.{Ending, met, discarded, missed, stillOpen, refused, soundAt, slotSound, outcome}
+use Rattle.dispatch.specs.Step.{Ending, met, endedEarly, discarded, missed, stillOpen, refused, soundAt, slotSound, outcome}
 use Rattle.dispatch.specs.inner.Columns.{planOn}
 use Rattle.dispatch.proofs.Alike.{asked-counted, alike-outcome}
 use Rattle.dispatch.proofs.ColumnPlan.{columns-alike}
@@ -62,21 +62,28 @@ module _ (o : Outline) (grades releases sizes deadlines : List ℕ) (run : Run) 
         (rw (s, lt-ltb i (o .count) h, size-on o grades releases sizes deadlines i here, eq-eqb (getD (run .carried) i 0) (getD sizes i 0) e) refl)
 
     module _ (n : getD (run .carried) i 0 ≢ getD sizes i 0) where
-      pub discarded-ends : (not (eqb (getD grades i 0) hi) && run .slow) ≡ true → AllEnd discarded
+      pub ended-ends : getD (run .ended) i false ≡ true → AllEnd endedEarly
       unfolding outcome slotSound
-      discarded-ends e =
-          all-end discarded
-          (rw (s, lt-ltb i (o .count) h, size-on o grades releases sizes deadlines i here, ne-eqb (getD (run .carried) i 0) (getD sizes i 0) n, grade-on o grades releases sizes deadlines i here, e) refl)
+      ended-ends e =
+          all-end endedEarly
+          (rw (s, lt-ltb i (o .count) h, size-on o grades releases sizes deadlines i here, ne-eqb (getD (run .carried) i 0) (getD sizes i 0) n, e) refl)
 
-      module _ (k : (not (eqb (getD grades i 0) hi) && run .slow) ≡ false) where
-        pub missed-ends : getD deadlines i 0 ≤ run .clock .0 → AllEnd missed
+      module _ (w : getD (run .ended) i false ≡ false) where
+        pub discarded-ends : (not (eqb (getD grades i 0) hi) && run .slow) ≡ true → AllEnd discarded
         unfolding outcome slotSound
-        missed-ends l =
-            all-end missed
-            (rw (s, lt-ltb i (o .count) h, size-on o grades releases sizes deadlines i here, ne-eqb (getD (run .carried) i 0) (getD sizes i 0) n, grade-on o grades releases sizes deadlines i here, k, deadline-on o grades releases sizes deadlines i here, le-leb (getD deadlines i 0) (run .clock .0) l) refl)
+        discarded-ends e =
+            all-end discarded
+            (rw (s, lt-ltb i (o .count) h, size-on o grades releases sizes deadlines i here, ne-eqb (getD (run .carried) i 0) (getD sizes i 0) n, w, grade-on o grades releases sizes deadlines i here, e) refl)
 
-        pub open-ends : run .clock .0 < getD deadlines i 0 → AllEnd stillOpen
-        unfolding outcome slotSound
-        open-ends l =
-            all-end stillOpen
-            (rw (s, lt-ltb i (o .count) h, size-on o grades releases sizes deadlines i here, ne-eqb (getD (run .carried) i 0) (getD sizes i 0) n, grade-on o grades releases sizes deadlines i here, k, deadline-on o grades releases sizes deadlines i here, lt-leb (getD deadlines i 0) (run .clock .0) l) refl)
+        module _ (k : (not (eqb (getD grades i 0) hi) && run .slow) ≡ false) where
+          pub missed-ends : getD deadlines i 0 ≤ run .clock .0 → AllEnd missed
+          unfolding outcome slotSound
+          missed-ends l =
+              all-end missed
+              (rw (s, lt-ltb i (o .count) h, size-on o grades releases sizes deadlines i here, ne-eqb (getD (run .carried) i 0) (getD sizes i 0) n, w, grade-on o grades releases sizes deadlines i here, k, deadline-on o grades releases sizes deadlines i here, le-leb (getD deadlines i 0) (run .clock .0) l) refl)
+
+          pub open-ends : run .clock .0 < getD deadlines i 0 → AllEnd stillOpen
+          unfolding outcome slotSound
+          open-ends l =
+              all-end stillOpen
+              (rw (s, lt-ltb i (o .count) h, size-on o grades releases sizes deadlines i here, ne-eqb (getD (run .carried) i 0) (getD sizes i 0) n, w, grade-on o grades releases sizes deadlines i here, k, deadline-on o grades releases sizes deadlines i here, lt-leb (getD deadlines i 0) (run .clock .0) l) refl)

@@ -13,13 +13,13 @@ use Rattle.plan.specs.declared.kinds.Plan.{Plan}
 use Rattle.plan.specs.Report.{Report, isNone}
 use Rattle.dispatch.specs.declared.Run.{Run}
 use Rattle.dispatch.specs.declared.soundness.Readiness.{Readiness}
-use Rattle.dispatch.specs.declared.soundness.Readiness.the-variants.{Unsound, Ended, Running}
+use Rattle.dispatch.specs.declared.soundness.Readiness.the-variants.{Unsound, Over, Running}
 use Rattle.dispatch.specs.Step.{soundAt, refusedBy, slotSound, slotFault, slotBy}
 use Rattle.dispatch.specs.inner.Readiness.{readiness, isSound, faultBy}
 
--- A readiness, from whether it is sound and whether it is ended.
+-- A readiness, from whether it is sound and whether it is over.
 abbrev from : Bool → Bool → Readiness
-from sound ended = cond (not sound) Unsound (cond ended Ended Running)
+from sound over = cond (not sound) Unsound (cond over Over Running)
 
 fault-from : (b e : Bool) (short fast : Bool) → faultBy (from b e) short fast ≡ refusedBy (not b) short e fast
 fault-from true true short fast = refl

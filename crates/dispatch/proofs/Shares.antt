@@ -69,7 +69,7 @@ module _ (p : Plan) (table : List ℕ) (run : Run) (v : ℕ) (grants : List ℕ)
   claims = claim p table run slow
 
   abbrev alive : ℕ → Bool
-  alive = live p (run .clock .0)
+  alive = live p run
 
   abbrev hiTest : ℕ → Bool
   hiTest k = alive k && isHi p k
@@ -146,7 +146,7 @@ module _ (p : Plan) (table : List ℕ) (run : Run) (v : ℕ) (grants : List ℕ)
       ∙ sym (sum-add (λ k. on (hiTest k) (dues k)) (λ k. on (loTest k && ahead (deadline p) k i) (dues k)) n)
       ∙ sum-ext _ _ n (λ k l. rw h (sym (before-lo (alive k) (isHi p k) slow (ahead (deadline p) k i) (dues k))))))
 
-  no-share : (i : ℕ) → i < n → served p (run .clock .0) slow i ≡ false → hiTest i ≡ false → loTest i ≡ false → grant i ≡ share p table run v i
+  no-share : (i : ℕ) → i < n → served p run slow i ≡ false → hiTest i ≡ false → loTest i ≡ false → grant i ≡ share p table run v i
   unfolding share
   no-share i counts e hi-out lo-out = no-grant i counts hi-out lo-out ∙ rw e (omega arith)
 

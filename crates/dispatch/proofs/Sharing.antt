@@ -19,7 +19,7 @@ use Rattle.plan.specs.Table.{allotment}
 use Rattle.plan.specs.declared.kinds.Outline.{Outline}
 use Rattle.plan.specs.declared.kinds.Plan.{Plan}
 use Rattle.dispatch.specs.declared.Run.{Run}
-use Rattle.dispatch.specs.Dues.{live, slowAfter, due}
+use Rattle.dispatch.specs.Dues.{carriedOf, inItsWindow, live, slowAfter, goal, due}
 use Rattle.dispatch.specs.Order.{rankAt, rank, queue, serve}
 use Rattle.dispatch.specs.Step.{granted}
 use Rattle.dispatch.specs.inner.Columns.{planOn}
@@ -67,10 +67,12 @@ module _ (o : Outline) (grades releases sizes deadlines table carried : List ℕ
   abbrev t : ℕ
   t = run .clock .0
 
-  module _ (held : run .carried ≡ carried) (marked : slowAfter q run v ≡ run .slow)
+  module _ (held : run .carried ≡ carried) (unended : run .ended ≡ []) (marked : slowAfter q run v ≡ run .slow)
       (begun : run .slow ≡ false → spans ≡ suc (present q t)) where
-    live-on : (k : ℕ) → k < n → live q t k ≡ liveIn t releases deadlines k
-    live-on k l = ap₂ (λ a b. leb a t && ltb t b) (release-on o grades releases sizes deadlines k l) (deadline-on o grades releases sizes deadlines k l)
+    live-on : (k : ℕ) → k < n → live q run k ≡ liveIn t releases deadlines k
+    live-on k l =
+        ap (λ e. not (getD e k false) && inItsWindow q t k) unended
+        ∙ ap₂ (λ a b. leb a t && ltb t b) (release-on o grades releases sizes deadlines k l) (deadline-on o grades releases sizes deadlines k l)
 
     hi-on : (k : ℕ) → k < n → isHi q k ≡ eqb (getD grades k 0) hi
     hi-on k l = ap (λ g. eqb g hi) (grade-on o grades releases sizes deadlines k l)
@@ -80,17 +82,20 @@ module _ (o : Outline) (grades releases sizes deadlines table carried : List ℕ
 
     -- What is due by the columns is what is due by the rules.
     due-on : (k : ℕ) → k < n → due q table run (slowAfter q run v) k ≡ dueIn (run .slow) spans sizes carried table k
-    due-on k l = ap (λ s. due q table run s k) marked ∙ go (run .slow) refl
+    due-on k l = ap (λ s. due q table run s k) marked ∙ ap (λ e. cond (getD e k false) 0 (left (run .slow))) unended ∙ go (run .slow) refl
       where
-        go : (slow : Bool) → run .slow ≡ slow → due q table run slow k ≡ dueIn slow spans sizes carried table k
+        left : Bool → ℕ
+        left slow = goal q table t slow k - carriedOf run k
+
+        go : (slow : Bool) → run .slow ≡ slow → left slow ≡ dueIn slow spans sizes carried table k
         go true e = ap₂ (λ s c. s - getD c k 0) (size-on o grades releases sizes deadlines k l) held
         go false e =
             ap₂ (λ s c. min s (sum (allotment mostIntervals table k) (suc (present q t))) - getD c k 0) (size-on o grades releases sizes deadlines k l) held
             ∙ ap (λ x. min (getD sizes k 0) (sum (allotment mostIntervals table k) x) - getD carried k 0) (sym (begun e))
 
-    served-on : (k : ℕ) → k < n → served q t (slowAfter q run v) k ≡ servedIn t (run .slow) grades releases deadlines k
+    served-on : (k : ℕ) → k < n → served q run (slowAfter q run v) k ≡ servedIn t (run .slow) grades releases deadlines k
     served-on k l =
-        ap (λ s. served q t s k) marked
+        ap (λ s. served q run s k) marked
         ∙ ap₂ (λ a h. a && (h || not (run .slow))) (live-on k l) (hi-on k l)
 
     claim-on : (k : ℕ) → k < n → claimIn t (run .slow) spans grades releases sizes deadlines carried table k ≡ claim q table run (slowAfter q run v) k
@@ -107,10 +112,10 @@ module _ (o : Outline) (grades releases sizes deadlines table carried : List ℕ
 
     -- The queues of the columns are those of the rules.
     hi-queue : queue (classIn true t grades releases deadlines) (rankIn grades deadlines) n
-        ≡ queue (λ k. live q t k && isHi q k) (deadline q) n
+        ≡ queue (λ k. live q run k && isHi q k) (deadline q) n
     hi-queue =
         sym
-        (by-rank q (λ k. live q t k && isHi q k) true (λ k l e. and-second (live q t k) (isHi q k) e)
+        (by-rank q (λ k. live q run k && isHi q k) true (λ k l e. and-second (live q run k) (isHi q k) e)
         ∙ queue-ext _ (classIn true t grades releases deadlines) _ (rankIn grades deadlines) n
         (λ k l. ap₂ _&&_ (live-on k l) (hi-on k l)) rank-on)
       where
@@ -120,13 +125,13 @@ module _ (o : Outline) (grades releases sizes deadlines table carried : List ℕ
         and-second false false e = e
 
     lo-queue : run .slow ≡ false → queue (classIn false t grades releases deadlines) (rankIn grades deadlines) n
-        ≡ queue (λ k. live q t k && not (isHi q k) && not (slowAfter q run v)) (deadline q) n
+        ≡ queue (λ k. live q run k && not (isHi q k) && not (slowAfter q run v)) (deadline q) n
     lo-queue e =
         sym
-        (by-rank q (λ k. live q t k && not (isHi q k) && not (slowAfter q run v)) false
-        (λ k l passes. lower (live q t k) (isHi q k) (not (slowAfter q run v)) passes)
+        (by-rank q (λ k. live q run k && not (isHi q k) && not (slowAfter q run v)) false
+        (λ k l passes. lower (live q run k) (isHi q k) (not (slowAfter q run v)) passes)
         ∙ queue-ext _ (classIn false t grades releases deadlines) _ (rankIn grades deadlines) n
-        (λ k l. rw (marked, e) (last (live q t k) (isHi q k) ∙ ap₂ (λ a h. a && not h) (live-on k l) (hi-on k l))) rank-on)
+        (λ k l. rw (marked, e) (last (live q run k) (isHi q k) ∙ ap₂ (λ a h. a && not h) (live-on k l) (hi-on k l))) rank-on)
       where
         lower : (a h b : Bool) → (a && not h && b) ≡ true → h ≡ false
         lower a false b e = refl
@@ -146,10 +151,10 @@ module _ (o : Outline) (grades releases sizes deadlines table carried : List ℕ
       duesIn = dueIn (run .slow) spans sizes carried table
 
       abbrev hiTest : ℕ → Bool
-      hiTest k = live q t k && isHi q k
+      hiTest k = live q run k && isHi q k
 
       abbrev loTest : ℕ → Bool
-      loTest k = live q t k && not (isHi q k) && not (slowAfter q run v)
+      loTest k = live q run k && not (isHi q k) && not (slowAfter q run v)
 
       abbrev essential : List ℕ
       essential = queue hiTest (deadline q) n
@@ -192,7 +197,7 @@ module _ (o : Outline) (grades releases sizes deadlines table carried : List ℕ
       unfolding serve
       no-others e =
           ap (λ l. serve dues (v - over dues essential) l (serve dues v essential blank))
-          (queue-none loTest (deadline q) n (λ k l. rw (marked, e) (and-false (live q t k && not (isHi q k)))))
+          (queue-none loTest (deadline q) n (λ k l. rw (marked, e) (and-false (live q run k && not (isHi q k)))))
 
       -- What the jobs get in turns is what the rules grant.
       pub turns-granted : inTurns t (run .slow) grades releases deadlines duesIn v n (filled (λ k. 0) n grants) ≡ granted q table run v grants

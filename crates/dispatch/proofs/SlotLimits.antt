@@ -32,11 +32,11 @@ module _ (p : Plan) (table : List ℕ) (run : Run) (v : ℕ) (grants : List ℕ)
       omega (
         arith,
         within-claim p table run v grants i l,
-        on-less (served p (run .clock .0) (slowAfter p run v) i) (due p table run (slowAfter p run v) i),
+        on-less (served p run (slowAfter p run v) i) (due p table run (slowAfter p run v) i),
       )
 
   -- A job that is not live is granted nothing.
-  pub never-unless-live : (i : ℕ) → i < counted p → live p (run .clock .0) i ≡ false → grant i ≡ 0
+  pub never-unless-live : (i : ℕ) → i < counted p → live p run i ≡ false → grant i ≡ 0
   never-unless-live i l dead =
       let nothing : claim p table run (slowAfter p run v) i ≡ 0 = rw dead refl in
       omega (arith, within-claim p table run v grants i l)
@@ -61,7 +61,7 @@ module _ (p : Plan) (table : List ℕ) (run : Run) (v : ℕ) (grants : List ℕ)
       → getD (stepped p table run v grants .grants) i 0 ≤ due p table run (slowAfter p run v) i
   done-within-due e i l = rw (done-leaves e .1) (never-above-due i l)
 
-  pub done-live-only : stepped p table run v grants .answer ≡ [] → (i : ℕ) → i < counted p → live p (run .clock .0) i ≡ false
+  pub done-live-only : stepped p table run v grants .answer ≡ [] → (i : ℕ) → i < counted p → live p run i ≡ false
       → getD (stepped p table run v grants .grants) i 0 ≡ 0
   done-live-only e i l dead = rw (done-leaves e .1) (never-unless-live i l dead)
 

@@ -20,7 +20,7 @@ use Rattle.plan.specs.declared.kinds.Plan.{Plan}
 use Rattle.dispatch.specs.Step.{soundAt}
 use Rattle.dispatch.specs.inner.Columns.{planOn}
 use Rattle.dispatch.specs.inner.Readiness.{jobSound, readiness}
-use Rattle.dispatch.specs.declared.soundness.Readiness.the-variants.{Unsound, Ended, Running}
+use Rattle.dispatch.specs.declared.soundness.Readiness.the-variants.{Unsound, Over, Running}
 use Rattle.dispatch.proofs.ColumnPlan.{job-on}
 
 -- The parts of soundness in the order of the definition, from the order of the code.
@@ -133,8 +133,8 @@ module _ (o : Outline) (grades releases sizes deadlines : List ℕ) where
     pub told-outside : outside ≡ true → readiness q t carried ≡ Unsound
     told-outside e = rw (clock-outside e) refl
 
-    pub told-ended : rulesOn ≡ true → outside ≡ false → t ≡ greatest (λ i. getD deadlines i 0) n → readiness q t carried ≡ Ended
-    told-ended r e last = rw (sound-inside r e, eq-eqb t (lastDeadline q) (last ∙ sym last-on)) refl
+    pub told-over : rulesOn ≡ true → outside ≡ false → t ≡ greatest (λ i. getD deadlines i 0) n → readiness q t carried ≡ Over
+    told-over r e last = rw (sound-inside r e, eq-eqb t (lastDeadline q) (last ∙ sym last-on)) refl
 
     pub told-running : rulesOn ≡ true → outside ≡ false → t ≢ greatest (λ i. getD deadlines i 0) n → readiness q t carried ≡ Running
     told-running r e before = rw (sound-inside r e, ne-eqb t (lastDeadline q) (λ last. before (last ∙ last-on))) refl

@@ -1,6 +1,7 @@
 -- The answers of the calls in the rules' terms. Their views are injective
 -- (`answerView-injective`, `outcomeView-injective`).
 use mathlib.Core.Path.{_≡_}
+use mathlib.Core.Bool.{Bool}
 use mathlib.Core.List.{List, [], _∷_}
 use Prim.Native.Nat.{ℕ}
 use Rattle.plan.specs.Kinds.{Position, Row, Speed, Table}
@@ -10,16 +11,17 @@ use Rattle.plan.specs.declared.kinds.Plan.{Plan}
 use Rattle.judge.specs.Verdict.{judged}
 use Rattle.plan.specs.Report.{Report}
 use Rattle.judge.specs.Answers as verdict
-use Rattle.dispatch.specs.Step.{Ending, met, discarded, missed, stillOpen, refused, started, noRun, startFrom, stepped, outcome}
+use Rattle.dispatch.specs.Step.{Ending, met, endedEarly, discarded, missed, stillOpen, refused, started, noRun, startFrom, stepped, outcome, toldEnded}
 use Rattle.dispatch.specs.declared.Run.{Run}
 use Rattle.dispatch.specs.declared.answers.Answer.{Answer}
 use Rattle.dispatch.specs.declared.answers.Answer.the-variants as answer
 use Rattle.dispatch.specs.declared.answers.Outcome.{Outcome}
-use Rattle.dispatch.specs.declared.answers.Outcome.the-variants.{Met, Discarded, Missed, Open, Refused}
+use Rattle.dispatch.specs.declared.answers.Outcome.the-variants.{Met, Ended, Discarded, Missed, Open, Refused}
 use Rattle.dispatch.specs.declared.start.Started.{Started}
 use Rattle.dispatch.specs.declared.Moment.{Moment}
 use Rattle.dispatch.specs.declared.step.Slot.{Slot}
 use Rattle.dispatch.specs.declared.step.Stepped.{Stepped}
+use Rattle.dispatch.specs.declared.early.Told.{Told}
 
 -- The view of a slot's answer: empty if done, otherwise the refusal number.
 abbrev pub answerView : Answer → Report
@@ -29,6 +31,7 @@ answerView (answer.Refused n) = n ∷ []
 -- The view of an outcome.
 abbrev pub outcomeView : Outcome → Ending
 outcomeView Met = met
+outcomeView Ended = endedEarly
 outcomeView Discarded = discarded
 outcomeView Missed = missed
 outcomeView Open = stillOpen
@@ -39,15 +42,15 @@ abbrev pub Starts : (p : Plan) (table : Table) (r : Started) → Type 0
 Starts p table r = (verdict.verdictView (r .verdict) ≡ judged p table) × (r .run ≡ startFrom (judged p table) (started p) noRun)
 
 -- A run, from its parts.
-abbrev pub runAt : (at : Moment) (carried : Row) → Run
-runAt at carried = record { clock = at .clock; slow = at .slow; below = at .below; carried = carried }
+abbrev pub runAt : (at : Moment) (carried : Row) (ended : List Bool) → Run
+runAt at carried ended = record { clock = at .clock; slow = at .slow; below = at .below; carried = carried; ended = ended }
 
 -- The contract of `slot_over`: for every plan whose outline and columns it is lent, its answer, the run
 -- and the grant row at exit are the effect of the slot's call.
-abbrev pub StepsOver : (o : Outline) (grades releases sizes deadlines : List ℕ) (table : Table) (at : Moment) (v : Speed) (carried grants : Row) (r : Slot) (carried-left left : List ℕ) → Type 0
-StepsOver o grades releases sizes deadlines table at v carried grants r carried-left left =
+abbrev pub StepsOver : (o : Outline) (grades releases sizes deadlines : List ℕ) (table : Table) (at : Moment) (v : Speed) (ended : List Bool) (carried grants : Row) (r : Slot) (carried-left left : List ℕ) → Type 0
+StepsOver o grades releases sizes deadlines table at v ended carried grants r carried-left left =
     (p : Plan) → Columns p o grades releases sizes deadlines
-    → record { answer = answerView (r .answer); run = runAt (r .next) carried-left; grants = left } ≡ stepped p table (runAt at carried) v grants
+    → record { answer = answerView (r .answer); run = runAt (r .next) carried-left ended; grants = left } ≡ stepped p table (runAt at carried ended) v grants
 
 -- The contract of `step`: its answer, the run and the grant row
 -- at exit are the effect of the slot's call.
@@ -62,3 +65,12 @@ Ends p run position r = outcomeView r ≡ outcome p run position
 abbrev pub EndsOver : (o : Outline) (grades releases sizes deadlines : List ℕ) (run : Run) (position : Position) (r : Outcome) → Type 0
 EndsOver o grades releases sizes deadlines run position r =
     (p : Plan) → Columns p o grades releases sizes deadlines → Ends p run position r
+
+-- The contract of `end_early`: its answer and the run are the effect of the word that the job at the position has ended.
+abbrev pub Tells : (p : Plan) (run : Run) (position : Position) (r : Told) → Type 0
+Tells p run position r = record { answer = answerView (r .answer); run = r .run } ≡ toldEnded p run position
+
+-- The contract of `end_over`: for every plan whose outline and columns it is lent, its answer and the run are the effect
+-- of the word that the job at the position has ended.
+abbrev pub TellsOver : (o : Outline) (grades releases sizes deadlines : List ℕ) (run : Run) (position : Position) (r : Told) → Type 0
+TellsOver o grades releases sizes deadlines run position r = (p : Plan) → Columns p o grades releases sizes deadlines → Tells p run position r

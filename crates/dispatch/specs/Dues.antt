@@ -1,5 +1,5 @@
 -- What is due to each job in a slot.
-use mathlib.Core.Bool.{Bool, cond, _&&_, _||_}
+use mathlib.Core.Bool.{Bool, false, not, cond, _&&_, _||_}
 use Prim.Native.Nat.{suc, _-_, min}
 use lib.Dec.{leb, ltb}
 use lib.ListN.{getD}
@@ -16,13 +16,17 @@ use Rattle.dispatch.specs.declared.Run.{Run}
 abbrev pub carriedOf : (run : Run) (i : Position) → Amount
 carriedOf run i = getD (run .carried) i 0
 
+-- Whether the host has told that job i ended; false past the end of the run's list.
+abbrev pub endedOf : (run : Run) (i : Position) → Bool
+endedOf run i = getD (run .ended) i false
+
 -- Job i is in its window at time t: its release is at or before t, and its deadline is after t.
 abbrev pub inItsWindow : (p : Plan) (t : Time) (i : Position) → Bool
 inItsWindow p t i = leb (release p i) t && ltb t (deadline p i)
 
--- Job i is live at time t: it is in its window.
-abbrev pub live : (p : Plan) (t : Time) (i : Position) → Bool
-live p t i = inItsWindow p t i
+-- Job i is live in a run: it has not ended, and it is in its window at the clock.
+abbrev pub live : (p : Plan) (run : Run) (i : Position) → Bool
+live p run i = not (endedOf run i) && inItsWindow p (run .clock .0) i
 
 -- The sum of job i's allotments at intervals 0 to `present p t`, both included.
 abbrev pub allottedBy : (p : Plan) (table : Table) (t : Time) (i : Position) → Amount
@@ -41,6 +45,6 @@ belowAfter p run v = run .below || ltb v (p .d .0)
 abbrev pub goal : (p : Plan) (table : Table) (t : Time) (slow : Bool) (i : Position) → Amount
 goal p table t slow i = cond slow (size p i) (min (size p i) (allottedBy p table t i))
 
--- What is due to job i: its goal less what is carried, or 0 if more is carried.
+-- What is due to job i: 0 if it has ended, otherwise its goal less what is carried, or 0 if more is carried.
 abbrev pub due : (p : Plan) (table : Table) (run : Run) (slow : Bool) (i : Position) → Amount
-due p table run slow i = goal p table (run .clock .0) slow i - carriedOf run i
+due p table run slow i = cond (endedOf run i) 0 (goal p table (run .clock .0) slow i - carriedOf run i)

@@ -1,30 +1,36 @@
 -- A run: its start, the effect of a slot's call, and the outcome of each job.
-use mathlib.Core.Bool.{Bool, false, not, cond, _&&_, _||_}
+use mathlib.Core.Bool.{Bool, true, false, not, cond, _&&_, _||_}
 use mathlib.Core.List.{List, [], _∷_, _++_}
 use Prim.Native.Nat.{ℕ, zero, suc, _+_}
 use lib.Dec.{leb, ltb, eqb}
-use lib.ListN.{length, getD, drop, replicate}
+use lib.ListN.{length, getD, set, drop, replicate}
 use Rattle.plan.specs.Kinds.{Position, Row, Speed, Table, Time}
 use Rattle.plan.specs.Edition.{mostJobs, places}
-use Rattle.plan.specs.Refusal.{clockAtEnd, speedAboveNormal, unsound, bufferTooShort}
+use Rattle.plan.specs.Refusal.{clockAtEnd, speedAboveNormal, unsound, bufferTooShort, noSuchJob, cannotEnd}
 use Rattle.base.specs.Below.{every}
-use Rattle.plan.specs.Rules.{jobsOf, counted, size, deadline, isHi, ratesHold, countHolds, gradesHold, boundsHold}
+use Rattle.plan.specs.Rules.{jobsOf, counted, release, size, deadline, isHi, ratesHold, countHolds, gradesHold, boundsHold}
 use Rattle.plan.specs.Boundaries.{firstRelease, lastDeadline}
 use Rattle.plan.specs.declared.kinds.Plan.{Plan}
 use Rattle.judge.specs.Verdict.{judged}
 use Rattle.plan.specs.Report.{Report, orElse, fault}
 use Rattle.dispatch.specs.declared.Run.{Run}
-use Rattle.dispatch.specs.Dues.{carriedOf, slowAfter, belowAfter, due}
+use Rattle.dispatch.specs.Dues.{carriedOf, endedOf, slowAfter, belowAfter, due}
 use Rattle.dispatch.specs.Order.{order, serve}
 
--- A run at its start: the clock at the first release, nothing carried, both marks clear.
+-- A run at its start: the clock at the first release, nothing carried, no job ended, both marks clear.
 unfoldable pub started : Plan → Run
 started p =
-    record { clock = record { 0 = firstRelease p }; slow = false; below = false; carried = replicate mostJobs 0 }
+    record {
+      clock = record { 0 = firstRelease p };
+      slow = false;
+      below = false;
+      carried = replicate mostJobs 0;
+      ended = replicate mostJobs false;
+    }
 
 -- The all-zero record that comes with a refused start.
 abbrev pub noRun : Run
-noRun = record { clock = record { 0 = 0 }; slow = false; below = false; carried = replicate mostJobs 0 }
+noRun = record { clock = record { 0 = 0 }; slow = false; below = false; carried = replicate mostJobs 0; ended = replicate mostJobs false }
 
 -- The record that a start leaves: the new run if the report is empty, otherwise the record as it was.
 abbrev pub startFrom : Report → Run → Run → Run
@@ -49,9 +55,9 @@ slotSound p run = soundAt p (run .clock .0) (run .carried)
 
 -- The first refusal of a slot's call that applies, in the order 21, 22, 19, 20; empty if none does.
 abbrev pub refusedBy : Bool → Bool → Bool → Bool → Report
-refusedBy bad short ended fast =
+refusedBy bad short over fast =
     orElse (fault bad (unsound ∷ []))
-    (orElse (fault short (bufferTooShort ∷ [])) (orElse (fault ended (clockAtEnd ∷ [])) (fault fast (speedAboveNormal ∷ []))))
+    (orElse (fault short (bufferTooShort ∷ [])) (orElse (fault over (clockAtEnd ∷ [])) (fault fast (speedAboveNormal ∷ []))))
 
 -- The refusal of a slot's call; empty if there is none.
 unfoldable pub slotFault : (p : Plan) (table : Table) (run : Run) (v : Speed) (grants : Row) → Report
@@ -63,7 +69,7 @@ slotFault p table run v grants =
 -- served jobs get; entries past them are unchanged.
 unfoldable pub granted : (p : Plan) (table : Table) (run : Run) (v : Speed) (grants : Row) → Row
 granted p table run v grants =
-    serve (due p table run (slowAfter p run v)) v (order p (run .clock .0) (slowAfter p run v))
+    serve (due p table run (slowAfter p run v)) v (order p run (slowAfter p run v))
     (replicate (counted p) 0 ++ drop (counted p) grants)
 
 -- Adds the first n numbers of a second list to those of l, as far as both lists go; the rest of l is
@@ -74,7 +80,7 @@ added (suc n) [] grants = []
 added (suc n) (x ∷ l) [] = x ∷ l
 added (suc n) (x ∷ l) (g ∷ grants) = (x + g) ∷ added n l grants
 
--- The run after a slot that is not refused: its clock, marks and carried units.
+-- The run after a slot that is not refused: its clock, marks and carried units. No slot ends a job.
 unfoldable pub advanced : (p : Plan) (table : Table) (run : Run) (v : Speed) (grants : Row) → Run
 advanced p table run v grants =
     record {
@@ -82,6 +88,7 @@ advanced p table run v grants =
       slow = slowAfter p run v;
       below = belowAfter p run v;
       carried = added (counted p) (run .carried) (granted p table run v grants);
+      ended = run .ended;
     }
 
 -- The effect of a slot's call: its answer (empty if done), the run and the grant row.
@@ -103,6 +110,7 @@ stepped p table run v grants = slotBy (slotFault p table run v grants) p table r
 -- The outcome of a job, or the refusal of the plan, the run or the position.
 pub data Ending : Type 0 where
   met : Ending
+  endedEarly : Ending
   discarded : Ending
   missed : Ending
   stillOpen : Ending
@@ -111,16 +119,53 @@ pub data Ending : Type 0 where
 -- The refusal that an outcome is, as a report; empty if it is none.
 abbrev pub endingReport : Ending → Report
 endingReport met = []
+endingReport endedEarly = []
 endingReport discarded = []
 endingReport missed = []
 endingReport stillOpen = []
 endingReport (refused number) = number ∷ []
 
 -- The outcome of job i: 21 on the grounds of a slot's 21 and for a position not below the count;
--- otherwise the first that applies of met, discarded, missed and open.
+-- otherwise the first that applies of met, ended, discarded, missed and open.
 unfoldable pub outcome : (p : Plan) (run : Run) (i : Position) → Ending
 outcome p run i =
     cond (not (slotSound p run && ltb i (p .count))) (refused unsound)
     (cond (eqb (carriedOf run i) (size p i)) met
+    (cond (endedOf run i) endedEarly
     (cond (not (isHi p i) && run .slow) discarded
-    (cond (leb (deadline p i) (run .clock .0)) missed stillOpen)))
+    (cond (leb (deadline p i) (run .clock .0)) missed stillOpen))))
+
+-- Whether an outcome is open: neither met, ended, discarded nor missed.
+abbrev pub isOpen : Ending → Bool
+isOpen met = false
+isOpen endedEarly = false
+isOpen discarded = false
+isOpen missed = false
+isOpen stillOpen = true
+isOpen (refused number) = false
+
+-- The refusal of the host's word that job i has ended, in the order 21, 25, 26; empty if there is none.
+unfoldable pub endFault : (p : Plan) (run : Run) (i : Position) → Report
+endFault p run i =
+    orElse (fault (not (slotSound p run)) (unsound ∷ []))
+    (orElse (fault (not (ltb i (p .count))) (noSuchJob ∷ []))
+    (fault (ltb (run .clock .0) (release p i) || not (isOpen (outcome p run i))) (cannotEnd ∷ [])))
+
+-- The run with the mark of job i set, and nothing else changed.
+abbrev pub endedWith : (run : Run) (i : Position) → Run
+endedWith run i =
+    record { clock = run .clock; slow = run .slow; below = run .below; carried = run .carried; ended = set (run .ended) i true }
+
+-- The effect of such a word: its answer (empty if done) and the run.
+pub record WordEffect : Type 0 where
+  pub answer : Report
+  pub run : Run
+
+-- The effect by the refusal found: a refused word leaves the run as it was.
+abbrev pub endBy : Report → (run : Run) (i : Position) → WordEffect
+endBy [] run i = record { answer = []; run = endedWith run i }
+endBy (number ∷ rest) run i = record { answer = number ∷ rest; run = run }
+
+-- The effect of the host's word that job i has ended.
+unfoldable pub toldEnded : (p : Plan) (run : Run) (i : Position) → WordEffect
+toldEnded p run i = endBy (endFault p run i) run i

@@ -1,6 +1,6 @@
 // The answers of the calls on a run; a refusal holds its number.
 
-// The answer of a slot's call.
+// The answer of a slot's call, and of the word that a job has ended.
 pub enum Answer {
     Done,
     Refused(u8),
@@ -9,6 +9,7 @@ pub enum Answer {
 // The outcome of a job, or a refusal.
 pub enum Outcome {
     Met,
+    Ended,
     Discarded,
     Missed,
     Open,

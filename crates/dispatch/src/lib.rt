@@ -1,6 +1,7 @@
 // One slot, one run: the run record, its start, the grants of a slot, and the outcome of each job.
 pub mod answers;
 mod claims;
+pub mod early;
 mod essential;
 pub mod outcome;
 pub mod ranks;
@@ -13,16 +14,17 @@ mod turns;
 use plan::edition::Edition;
 use plan::kinds::Slots;
 
-// A run: the clock, the two marks, and the units carried for each job. Entries from the job count
-// on are zero at the start, and no slot changes them.
+// A run: the clock, the two marks, and for each job the units carried and whether the host has told that it
+// ended. Entries from the job count on are zero and clear at the start, and no call changes them.
 pub struct Run {
     pub clock: Slots,
     pub slow: bool,
     pub below: bool,
     pub carried: [u32; Edition::MOST_JOBS],
+    pub ended: [bool; Edition::MOST_JOBS],
 }
 
-// A run without its carried units.
+// A run without what it holds for each job.
 pub struct Moment {
     pub clock: Slots,
     pub slow: bool,

@@ -27,6 +27,7 @@ pub fn outcome_over(
 {
     let clock = run.clock;
     let carried = run.carried;
+    let ended = run.ended;
     if !is_sound(readiness_of(o, grades, releases, sizes, deadlines, clock, &carried)) {
         return Outcome::Refused(UNSOUND);
     }
@@ -37,6 +38,9 @@ pub fn outcome_over(
     let size = as_units(sizes[position]);
     if had.0 == size.0 {
         return Outcome::Met;
+    }
+    if ended[position] {
+        return Outcome::Ended;
     }
     if (grades[position] != HI as u32) & run.slow {
         return Outcome::Discarded;

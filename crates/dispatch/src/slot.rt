@@ -13,7 +13,8 @@ use plan::kinds::Slots;
 use plan::kinds::Units;
 use plan::rules::counted_within;
 ghost use mathlib.Core.Path.{_≡_};
-ghost use mathlib.Core.Bool.{true, false, _||_};
+ghost use mathlib.Core.Bool.{true, false, cond, _||_};
+ghost use mathlib.Core.List.{[]};
 ghost use Prim.Native.Nat.{ℕ, suc, _+_, _≤_, _<_, _^_, min};
 ghost use lib.Dec.{ltb};
 ghost use lib.ListN.{length, getD};
@@ -23,7 +24,7 @@ ghost use Rattle.plan.specs.Boundaries.{present};
 ghost use Rattle.plan.specs.Rules.{counted, release, deadline};
 ghost use Rattle.plan.specs.declared.kinds.Plan.{Plan};
 ghost use Rattle.dispatch.specs.inner.Columns.{planOn};
-ghost use Rattle.dispatch.specs.inner.Turns.{servedIn, dueIn, KnownDue, inTurns};
+ghost use Rattle.dispatch.specs.inner.Turns.{settledIn, servedIn, dueIn, KnownDue, inTurns};
 ghost use Rattle.dispatch.specs.Step.{granted};
 
 // Writes the claims to the grant row.
@@ -34,6 +35,29 @@ fn grant_claims(claims: &[u32; Edition::MOST_JOBS], jobs: usize, grants: &mut [u
     let mut i = 0;
     while i < jobs {
         grants[i] = claims[i];
+        i += 1;
+    }
+}
+
+// What a job counts as carried in a slot: its size if it has ended, so that nothing is due to it.
+fn settled_of(ended: bool, size: u32, carried: u32) -> u32
+    ensures { λ r. ⌜ r ≡ cond ended size carried ⌝ }
+{
+    if ended { size } else { carried }
+}
+
+// Writes what the jobs count as carried in a slot.
+pub(crate) fn settle(
+    ended: &[bool; Edition::MOST_JOBS],
+    sizes: &[u32; Edition::MOST_JOBS],
+    carried: &[u32; Edition::MOST_JOBS],
+    settled: &mut [u32; Edition::MOST_JOBS],
+)
+    ensures { λ r. ⌜ now (settled .exit) ≡ filled (settledIn (now (ended .entry)) (now (sizes .entry)) (now (carried .entry))) mostJobs (now (settled .entry)) ⌝ }
+{
+    let mut i = 0;
+    while i < Edition::MOST_JOBS {
+        settled[i] = settled_of(ended[i], sizes[i], carried[i]);
         i += 1;
     }
 }
@@ -128,7 +152,8 @@ fn spans_of(
     begun_by(count, releases, deadlines, clock) as u32
 }
 
-// Writes the grants of a slot at speed v that is not refused. `slow` is the slow mark after the slot.
+// Writes the grants of a slot at speed v that is not refused. `slow` is the slow mark after the slot, and
+// `carried` what the jobs count as carried in it.
 pub(crate) fn share_out(
     o: Outline,
     v: Rate,
@@ -143,7 +168,7 @@ pub(crate) fn share_out(
     grants: &mut [u32],
 )
     requires { ⌜ (min (o .count) mostJobs ≤ length (now grants)) × ((k : ℕ) → k < min (o .count) mostJobs → getD (now deadlines) k 0 ≤ mostDeadline) × (v .0 ≤ mostRate) × (ltb (v .0) (o .n .0) ≡ true → slow ≡ true) ⌝ }
-    ensures { λ r. ⌜ now (grants .exit) ≡ granted (planOn o (now (grades .entry)) (now (releases .entry)) (now (sizes .entry)) (now (deadlines .entry))) (now (table .entry)) (record { clock = clock; slow = slow; below = false; carried = now (carried .entry) }) (v .0) (now (grants .entry)) ⌝ }
+    ensures { λ r. ⌜ now (grants .exit) ≡ granted (planOn o (now (grades .entry)) (now (releases .entry)) (now (sizes .entry)) (now (deadlines .entry))) (now (table .entry)) (record { clock = clock; slow = slow; below = false; carried = now (carried .entry); ended = [] }) (v .0) (now (grants .entry)) ⌝ }
 {
     let jobs = counted_within(o.count);
     let most = v.over(Slots(1));

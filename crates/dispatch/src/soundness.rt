@@ -18,12 +18,12 @@ ghost use Rattle.base.specs.Below.{every, least, greatest};
 ghost use Rattle.plan.specs.Edition.{mostJobs};
 ghost use Rattle.plan.specs.Rules.{gradeAllowed};
 ghost use Rattle.dispatch.specs.inner.Columns.{planOn};
-ghost use Rattle.dispatch.specs.inner.Readiness.{readiness, isSound, isEnded, jobSound};
+ghost use Rattle.dispatch.specs.inner.Readiness.{readiness, isSound, isOver, jobSound};
 
 pub(crate) enum Readiness {
     Unsound,
     // The clock is at the last deadline.
-    Ended,
+    Over,
     Running,
 }
 
@@ -131,7 +131,7 @@ pub(crate) fn readiness_of(
         return Readiness::Unsound;
     }
     if clock.0 == last.0 {
-        return Readiness::Ended;
+        return Readiness::Over;
     }
     Readiness::Running
 }
@@ -141,17 +141,17 @@ pub(crate) fn is_sound(s: Readiness) -> bool
 {
     match s {
         Readiness::Unsound => false,
-        Readiness::Ended => true,
+        Readiness::Over => true,
         Readiness::Running => true,
     }
 }
 
-pub(crate) fn is_ended(s: Readiness) -> bool
-    ensures { λ r. ⌜ r ≡ isEnded s ⌝ }
+pub(crate) fn is_over(s: Readiness) -> bool
+    ensures { λ r. ⌜ r ≡ isOver s ⌝ }
 {
     match s {
         Readiness::Unsound => false,
-        Readiness::Ended => true,
+        Readiness::Over => true,
         Readiness::Running => false,
     }
 }

@@ -20,16 +20,18 @@ pub struct Started {
     pub run: Run,
 }
 
-// A run at a given clock, with nothing carried and both marks clear.
+// A run at a given clock, with nothing carried, no job ended and both marks clear.
 fn fresh(clock: Slots) -> Run
-    ensures { λ r. ⌜ r ≡ record { clock = clock; slow = false; below = false; carried = replicate mostJobs 0 } ⌝ }
+    ensures { λ r. ⌜ r ≡ record { clock = clock; slow = false; below = false; carried = replicate mostJobs 0; ended = replicate mostJobs false } ⌝ }
 {
     let carried = [0u32; Edition::MOST_JOBS];
+    let ended = [false; Edition::MOST_JOBS];
     Run {
         clock,
         slow: false,
         below: false,
         carried,
+        ended,
     }
 }
 

@@ -4,9 +4,10 @@ use crate::Run;
 use crate::answers::Answer;
 use crate::slot::carry_grants;
 use crate::slot::mark_after;
+use crate::slot::settle;
 use crate::slot::share_out;
 use crate::soundness::Readiness;
-use crate::soundness::is_ended;
+use crate::soundness::is_over;
 use crate::soundness::is_sound;
 use crate::soundness::readiness_of;
 use plan::columns::columns_of;
@@ -49,7 +50,7 @@ fn answer_to(readiness: Readiness, short: bool, n: Rate, v: Rate) -> Answer
     if short {
         return Answer::Refused(BUFFER_TOO_SHORT);
     }
-    if is_ended(readiness) {
+    if is_over(readiness) {
         return Answer::Refused(CLOCK_AT_END);
     }
     if n.0 < v.0 {
@@ -78,10 +79,11 @@ pub fn slot_over(
     table: &[u32],
     at: Moment,
     v: u16,
+    ended: &[bool; Edition::MOST_JOBS],
     carried: &mut [u32; Edition::MOST_JOBS],
     grants: &mut [u32],
 ) -> Slot
-    ensures { λ r. ⌜ StepsOver o (now (grades .entry)) (now (releases .entry)) (now (sizes .entry)) (now (deadlines .entry)) (now (table .entry)) at v (now (carried .entry)) (now (grants .entry)) r (now (carried .exit)) (now (grants .exit)) ⌝ }
+    ensures { λ r. ⌜ StepsOver o (now (grades .entry)) (now (releases .entry)) (now (sizes .entry)) (now (deadlines .entry)) (now (table .entry)) at v (now (ended .entry)) (now (carried .entry)) (now (grants .entry)) r (now (carried .exit)) (now (grants .exit)) ⌝ }
 {
     let speed = Rate(v);
     let clock = at.clock;
@@ -94,6 +96,8 @@ pub fn slot_over(
     }
     let slow = mark_after(at.slow, speed, o.n);
     let below = mark_after(at.below, speed, o.d);
+    let mut settled = [0u32; Edition::MOST_JOBS];
+    settle(ended, sizes, carried, &mut settled);
     share_out(
         o,
         speed,
@@ -103,7 +107,7 @@ pub fn slot_over(
         releases,
         sizes,
         deadlines,
-        carried,
+        &settled,
         table,
         grants,
     );
@@ -134,6 +138,7 @@ pub fn step(p: Plan, table: &[u32], run: Run, v: u16, grants: &mut [u32]) -> Ste
     let slow = run.slow;
     let below = run.below;
     let at = Moment { clock, slow, below };
+    let ended = run.ended;
     let mut carried = run.carried;
     let s = slot_over(
         o,
@@ -144,6 +149,7 @@ pub fn step(p: Plan, table: &[u32], run: Run, v: u16, grants: &mut [u32]) -> Ste
         table,
         at,
         v,
+        &ended,
         &mut carried,
         grants,
     );
@@ -157,6 +163,7 @@ pub fn step(p: Plan, table: &[u32], run: Run, v: u16, grants: &mut [u32]) -> Ste
         slow,
         below,
         carried,
+        ended,
     };
     Stepped { answer, run: after }
 }

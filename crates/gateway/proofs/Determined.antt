@@ -5,8 +5,8 @@ use mathlib.Core.List.{List}
 use Prim.Native.Nat.{ℕ}
 use lib.IntN.{ℤ}
 use Rattle.planfile.specs.Reader.{nameFound}
-use Rattle.gateway.specs.Calls.{HostJudgeEffect, HostSlackEffect, HostStartEffect, HostStepEffect, HostReadEffect, HostWriteEffect, HostImportEffect, HostExportEffect, judgeCall, startCall, stepCall, outcomeCall, slackCall, readCall, writeCall, importCall, exportCall}
-use Rattle.gateway.specs.Answers.{HostReads, HostWrites, HostShows, HostJudges, HostMeasures, HostStarts, HostSteps, HostEnds, HostImports, HostExports}
+use Rattle.gateway.specs.Calls.{HostJudgeEffect, HostSlackEffect, HostStartEffect, HostStepEffect, HostReadEffect, HostWriteEffect, HostImportEffect, HostExportEffect, HostEndEffect, judgeCall, startCall, stepCall, outcomeCall, slackCall, readCall, writeCall, importCall, exportCall, endCall}
+use Rattle.gateway.specs.Answers.{HostReads, HostWrites, HostShows, HostJudges, HostMeasures, HostStarts, HostSteps, HostEnds, HostImports, HostExports, HostTells}
 
 -- `gateway_read`.
 pub one-read : (file plan table : List ℕ) (was r s : ℕ) (words others cells other-cells : List ℕ) (offset other : ℕ) → HostReads file plan table was r words cells offset
@@ -109,3 +109,13 @@ one-export list out was r s left other length long d e =
 
 pub some-export : (list out : List ℕ) (was : ℕ) → (r : ℕ) × (left : List ℕ) × (length : ℕ) × HostExports list out was r left length
 some-export list out was = let c = exportCall list out was in (c .number, c .out, c .length, refl)
+
+-- `gateway_end`.
+pub one-end : (plan run : List ℕ) (position r s : ℕ) (words others : List ℕ) → HostTells plan run position r words
+    → HostTells plan run position s others → (r ≡ s) × (words ≡ others)
+one-end plan run position r s words others d e =
+    let same = d ∙ sym e in
+    (ap (λ (x : HostEndEffect). x .number) same, ap (λ (x : HostEndEffect). x .run) same)
+
+pub some-end : (plan run : List ℕ) (position : ℕ) → (r : ℕ) × (words : List ℕ) × HostTells plan run position r words
+some-end plan run position = let c = endCall plan run position in (c .number, c .run, refl)

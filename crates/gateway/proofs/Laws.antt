@@ -1,5 +1,5 @@
 -- Laws for the calls: what follows from the length tests, what a start leaves, and a call on a run by what its slot or outcome is.
-use mathlib.Core.Path.{_≡_, refl, sym}
+use mathlib.Core.Path.{_≡_, refl, sym, _∙_, ap}
 use mathlib.Core.Bool.{true, false, true≢false, _||_}
 use mathlib.Core.List.{List, [], _∷_}
 use Prim.Native.Nat.{ℕ, _≤_}
@@ -8,13 +8,18 @@ use lib.Dec.{ltb}
 use lib.ListN.{length}
 use Rattle.plan.specs.Columns.{Columns}
 use Rattle.plan.specs.declared.kinds.Outline.{Outline}
+use Rattle.plan.specs.Rules.{counted}
 use Rattle.plan.specs.declared.kinds.Plan.{Plan}
 use Rattle.plan.specs.Report.{Report, isNone, numberOf}
-use Rattle.dispatch.specs.Step.{started, stepped, outcome}
+use Rattle.dispatch.specs.Step.{SlotEffect, started, slotFault, granted, advanced, slotBy, stepped, outcome, toldEnded}
+use Rattle.dispatch.specs.Answers.{runAt}
+use Rattle.dispatch.specs.declared.Moment.{Moment}
 use Rattle.dispatch.specs.declared.Run.{Run}
+use Rattle.dispatch.proofs.RowShares.{added-length}
 use Rattle.base.proofs.Logic.{neither}
-use Rattle.hostmemory.specs.Memory.{shortPlan, shortRun, planOf, marksHold, runOf, runPut}
-use Rattle.gateway.specs.Calls.{startWords, stepCall, endingNumber, outcomeCall}
+use Rattle.hostmemory.specs.Memory.{shortPlan, shortRun, planOf, marksHold, runOf, slotPut, runPut}
+use Rattle.hostmemory.proofs.RoundTrip.{slot-put, carried-all}
+use Rattle.gateway.specs.Calls.{startWords, stepCall, endingNumber, outcomeCall, endCall}
 
 -- Neither of two buffers is too short.
 pub both-long : (a b : List ℕ) (m n : ℕ) → (ltb (length a) m || ltb (length b) n) ≡ false → (m ≤ length a) × (n ≤ length b)
@@ -58,3 +63,28 @@ pub outcome-words : (plan run : List ℕ) (position : ℕ) {number : ℕ} → (s
     → number ≡ endingNumber (outcome (planOf plan) (runOf run) position) → number ≡ outcomeCall plan run position
 unfolding outcomeCall
 outcome-words plan run position long marks n = rw (long, marks) n
+
+-- The same for the call that tells of an ended job.
+pub end-words : (plan run : List ℕ) (position : ℕ) {answer : Report} {next : Run} {number : ℕ} {left : List ℕ}
+    → (shortPlan plan || shortRun run) ≡ false → marksHold run ≡ true
+    → record { answer = answer; run = next } ≡ toldEnded (planOf plan) (runOf run) position → number ≡ numberOf answer → left ≡ runPut run next
+    → record { number = number; run = left } ≡ endCall plan run position
+unfolding endCall
+end-words plan run position long marks told n l = rw (long, marks, ← told, n, l) refl
+
+-- A slot leaves as many carried units as there were.
+pub stepped-long : (p : Plan) (table : List ℕ) (run : Run) (v : ℕ) (grants : List ℕ)
+    → length (stepped p table run v grants .run .carried) ≡ length (run .carried)
+unfolding stepped advanced
+stepped-long p table run v grants = by (slotFault p table run v grants)
+  where
+    by : (r : Report) → length (slotBy r p table run v grants .run .carried) ≡ length (run .carried)
+    by [] = added-length (counted p) (run .carried) (granted p table run v grants)
+    by (number ∷ rest) = refl
+
+-- Putting back what a slot changes puts back its run.
+pub slot-put-back : (p : Plan) (table run : List ℕ) (v : ℕ) (grants : List ℕ) {answer : Report} {at : Moment} {carried row : List ℕ} {left : List ℕ} → marksHold run ≡ true
+    → record { answer = answer; run = runAt at carried (runOf run .ended); grants = row } ≡ stepped p table (runOf run) v grants
+    → left ≡ slotPut run at carried → left ≡ runPut run (runAt at carried (runOf run .ended))
+slot-put-back p table run v grants {at = at} {carried = carried} marks slot put =
+    put ∙ slot-put run at carried marks (ap (λ (s : SlotEffect). length (s .run .carried)) slot ∙ stepped-long p table (runOf run) v grants ∙ carried-all run)

@@ -5,7 +5,7 @@ use Prim.Native.Nat.{ℕ}
 use lib.IntN.{ℤ}
 use Rattle.plan.specs.Kinds.{Bytes, Offset, Position, Row, Speed, Table, Words}
 use Rattle.planfile.specs.Reader.{nameFound}
-use Rattle.gateway.specs.Calls.{judgeCall, startCall, stepCall, outcomeCall, slackCall, readCall, writeCall, importCall, exportCall}
+use Rattle.gateway.specs.Calls.{judgeCall, startCall, stepCall, outcomeCall, slackCall, readCall, writeCall, importCall, exportCall, endCall}
 
 -- The contract of `gateway_read`: the number, the lent plan, the table and the offset.
 abbrev pub HostReads : (file : Bytes) (plan : Words) (table : Table) (offset : Offset) (r : ℕ) (plan-left : Words) (table-left : Table) (offset-left : Offset) → Type 0
@@ -54,3 +54,7 @@ HostImports text list offset r list-left offset-left =
 abbrev pub HostExports : (list : Words) (out : Bytes) (length : ℕ) (r : ℕ) (out-left : Bytes) (length-left : ℕ) → Type 0
 HostExports list out length r out-left length-left =
     record { number = r; length = length-left; out = out-left } ≡ exportCall list out length
+
+-- The contract of `gateway_end`: the number and the lent run.
+abbrev pub HostTells : (plan run : Words) (position : Position) (r : ℕ) (run-left : Words) → Type 0
+HostTells plan run position r run-left = record { number = r; run = run-left } ≡ endCall plan run position

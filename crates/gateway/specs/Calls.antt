@@ -15,7 +15,7 @@ use Rattle.planfile.specs.Reader.{ReadEffect, reader}
 use Rattle.planwriter.specs.Writing as writing
 use Rattle.joblist.specs.Import.{ImportEffect, imported}
 use Rattle.joblist.specs.Export as export
-use Rattle.dispatch.specs.Step.{SlotEffect, Ending, met, discarded, missed, stillOpen, refused, started, stepped, outcome}
+use Rattle.dispatch.specs.Step.{SlotEffect, WordEffect, Ending, met, endedEarly, discarded, missed, stillOpen, refused, started, stepped, outcome, toldEnded}
 use Rattle.hostmemory.specs.Memory.{locationWords, shortList, shortPlan, shortRun, listHeld, listPut, planOf, planPut, marksHold, runOf, runPut}
 
 -- The number for no HI job. Like those of the outcomes it is above
@@ -38,6 +38,10 @@ missedNumber = 259
 -- The job is open.
 abbrev pub openNumber : ℕ
 openNumber = 260
+
+-- The job has ended.
+abbrev pub endedNumber : ℕ
+endedNumber = 261
 
 -- The first part of a report's location: of a judge's report a job or an interval, of the reader's the
 -- offset; 0 if it has none.
@@ -117,6 +121,7 @@ stepCall plan table run v grants =
 -- The number of an outcome.
 abbrev pub endingNumber : Ending → ℕ
 endingNumber met = metNumber
+endingNumber endedEarly = endedNumber
 endingNumber discarded = discardedNumber
 endingNumber missed = missedNumber
 endingNumber stillOpen = openNumber
@@ -129,6 +134,22 @@ outcomeCall plan run position =
     cond (shortPlan plan || shortRun run) bufferTooShort
     (cond (not (marksHold run)) unsound
     (endingNumber (outcome (planOf plan) (runOf run) position)))
+
+-- The effect of the call that tells of an ended job.
+pub record HostEndEffect : Type 0 where
+  pub number : ℕ
+  pub run : List ℕ
+
+-- The effect of such a word on a lent run.
+abbrev pub toldWords : (told : WordEffect) (run : Words) → HostEndEffect
+toldWords told run = record { number = numberOf (told .answer); run = runPut run (told .run) }
+
+-- The call that tells of an ended job: 22 if plan or run is too short, 21 for a mark that is neither 0 nor 1, each with
+-- nothing changed; otherwise the effect of the word.
+unfoldable pub endCall : (plan run : Words) (position : Position) → HostEndEffect
+endCall plan run position =
+    cond (shortPlan plan || shortRun run) (record { number = bufferTooShort; run = run })
+    (cond (not (marksHold run)) (record { number = unsound; run = run }) (toldWords (toldEnded (planOf plan) (runOf run) position) run))
 
 -- The effect of the slack's call.
 pub record HostSlackEffect : Type 0 where

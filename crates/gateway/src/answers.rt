@@ -30,6 +30,8 @@ pub const MISSED: u32 = 259;
 
 pub const OPEN: u32 = 260;
 
+pub const ENDED: u32 = 261;
+
 pub(crate) fn verdict_number(v: Verdict) -> u32
     ensures { λ r. ⌜ r ≡ numberOf (verdictView v) ⌝ }
 {
@@ -80,6 +82,7 @@ pub(crate) fn outcome_number(o: Outcome) -> u32
 {
     match o {
         Outcome::Met => MET,
+        Outcome::Ended => ENDED,
         Outcome::Discarded => DISCARDED,
         Outcome::Missed => MISSED,
         Outcome::Open => OPEN,

@@ -4,6 +4,7 @@ use crate::answers::first_of;
 use crate::answers::outcome_number;
 use crate::answers::second_of;
 use crate::answers::verdict_number;
+use dispatch::early::end_over;
 use dispatch::outcome::outcome_over;
 use dispatch::start::start;
 use dispatch::step::slot_over;
@@ -11,10 +12,11 @@ use hostmemory::plans::columns_in;
 use hostmemory::plans::outline_in;
 use hostmemory::plans::plan_of;
 use hostmemory::runs::carried_in;
+use hostmemory::runs::ended_in;
 use hostmemory::runs::marks_hold;
 use hostmemory::runs::moment_in;
-use hostmemory::runs::put_parts;
 use hostmemory::runs::put_run;
+use hostmemory::runs::put_slot;
 use hostmemory::runs::run_of;
 use hostmemory::sizes::Sizes;
 use judge::answers::Verdict;
@@ -28,7 +30,7 @@ ghost use mathlib.Core.Path.{_≡_};
 ghost use Rattle.judge.specs.Verdict.{judged};
 ghost use Rattle.judge.specs.Answers.{verdictView};
 ghost use Rattle.gateway.specs.Calls.{startWords};
-ghost use Rattle.gateway.specs.Answers.{HostStarts, HostSteps, HostEnds};
+ghost use Rattle.gateway.specs.Answers.{HostStarts, HostSteps, HostEnds, HostTells};
 
 // Judges a plan, and writes its run to the lent words if it is accepted.
 fn start_in(run: &mut [u32], p: Plan, table: &[u32]) -> Verdict
@@ -90,6 +92,7 @@ pub extern "C" fn gateway_step(
     }
     let o = outline_in(plan);
     let at = moment_in(run);
+    let ended = ended_in(run);
     let mut carried = carried_in(run);
     let s = slot_over(
         o,
@@ -100,6 +103,7 @@ pub extern "C" fn gateway_step(
         table,
         at,
         v,
+        &ended,
         &mut carried,
         grants,
     );
@@ -109,7 +113,7 @@ pub extern "C" fn gateway_step(
         return number;
     }
     let next = s.next;
-    put_parts(run, next, &carried);
+    put_slot(run, next, &carried);
     number
 }
 
@@ -134,4 +138,32 @@ pub extern "C" fn gateway_outcome(plan: &[u64], run: &[u32], position: usize) ->
     let o = outline_in(plan);
     let at = run_of(run);
     outcome_number(outcome_over(o, &grades, &releases, &sizes, &deadlines, at, position))
+}
+
+// The word that the job at a position has ended: sets its mark in the lent run. A refused word puts back the run
+// as it was.
+#[no_mangle]
+pub extern "C" fn gateway_end(plan: &[u64], run: &mut [u32], position: usize) -> u32
+    ensures { λ r. ⌜ HostTells (now (plan .entry)) (now (run .entry)) position r (now (run .exit)) ⌝ }
+{
+    if (plan.len() < Sizes::PLAN) | (run.len() < Sizes::RUN) {
+        return BUFFER_TOO_SHORT as u32;
+    }
+    if !marks_hold(run) {
+        return UNSOUND as u32;
+    }
+    let mut grades = [0u32; Edition::MOST_JOBS];
+    let mut releases = [0u32; Edition::MOST_JOBS];
+    let mut sizes = [0u32; Edition::MOST_JOBS];
+    let mut deadlines = [0u32; Edition::MOST_JOBS];
+    if !columns_in(plan, &mut grades, &mut releases, &mut sizes, &mut deadlines) {
+        return UNSOUND as u32;
+    }
+    let o = outline_in(plan);
+    let at = run_of(run);
+    let told = end_over(o, &grades, &releases, &sizes, &deadlines, at, position);
+    let answer = told.answer;
+    let after = told.run;
+    put_run(run, after);
+    answer_number(answer)
 }

@@ -6,11 +6,10 @@ use mathlib.Core.List.{List}
 use Prim.Native.Nat.{ℕ}
 use Rattle.plan.specs.declared.kinds.JobList.{JobList}
 use Rattle.plan.specs.declared.kinds.Plan.{Plan}
-use Rattle.dispatch.specs.Answers.{runAt}
 use Rattle.dispatch.specs.declared.Moment.{Moment}
 use Rattle.dispatch.specs.declared.Run.{Run}
-use Rattle.hostmemory.specs.Memory.{listPut, planPut, gradeWord, releaseWord, sizeWord, deadlineWord, wordsFit, runPut}
-use Rattle.hostmemory.specs.Answers.{PutsList, PutsPlan, PutsRun, PutsParts, columnIn, ReadsColumns}
+use Rattle.hostmemory.specs.Memory.{listPut, planPut, gradeWord, releaseWord, sizeWord, deadlineWord, wordsFit, slotPut, runPut}
+use Rattle.hostmemory.specs.Answers.{PutsList, PutsPlan, PutsRun, PutsSlot, columnIn, ReadsColumns}
 
 -- `hostmemory::plans::put_plan`.
 pub one-plan-put : (words : List ℕ) (p : Plan) (left other : List ℕ) → PutsPlan words p left → PutsPlan words p other → left ≡ other
@@ -33,13 +32,13 @@ one-run-put words run left other d e = d ∙ sym e
 pub some-run-put : (words : List ℕ) (run : Run) → (left : List ℕ) × PutsRun words run left
 some-run-put words run = (runPut words run, refl)
 
--- `hostmemory::runs::put_parts`.
-pub one-run-of-parts-put : (words : List ℕ) (at : Moment) (carried left other : List ℕ) → PutsParts words at carried left
-    → PutsParts words at carried other → left ≡ other
-one-run-of-parts-put words at carried left other d e = d ∙ sym e
+-- `hostmemory::runs::put_slot`.
+pub one-slot-put : (words : List ℕ) (at : Moment) (carried left other : List ℕ) → PutsSlot words at carried left
+    → PutsSlot words at carried other → left ≡ other
+one-slot-put words at carried left other d e = d ∙ sym e
 
-pub some-run-of-parts-put : (words : List ℕ) (at : Moment) (carried : List ℕ) → (left : List ℕ) × PutsParts words at carried left
-some-run-of-parts-put words at carried = (runPut words (runAt at carried), refl)
+pub some-slot-put : (words : List ℕ) (at : Moment) (carried : List ℕ) → (left : List ℕ) × PutsSlot words at carried left
+some-slot-put words at carried = (slotPut words at carried, refl)
 
 -- `hostmemory::plans::columns_in`.
 pub one-columns-read : (words grades releases sizes deadlines : List ℕ) (r s : Bool)

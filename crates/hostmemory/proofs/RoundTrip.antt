@@ -1,25 +1,27 @@
 -- Round trips: decoding the words of a run, a plan or a job list gives it back, and encoding a decoded run
 -- gives back words whose marks are 0 or 1. The words of a plan from its job count on encode the list of its jobs.
-use mathlib.Core.Path.{_≡_, refl, sym, _∙_, ap}
-use mathlib.Core.Bool.{Bool, true, false, cond}
-use mathlib.Core.List.{List, [], _∷_, _++_, append-assoc}
+use mathlib.Core.Path.{_≡_, refl, sym, _∙_, ap, ap₂}
+use mathlib.Core.Bool.{Bool, true, false, cond, _&&_}
+use mathlib.Core.List.{List, [], _∷_, _++_, map, append-assoc}
 use Prim.Native.Nat.{ℕ, zero, suc, _+_, _*_, _≤_, _<_, min}
 use native.Mathlib.Nat.{add-zero}
 use native.Mathlib.Omega.{arith}
 use borrow.Author.Tests.{leb-true, ltb-true, ltb-false, lt-ltb, le-ltb}
 use lib.Dec.{leb, ltb, eqb}
-use lib.ListN.{length, getD, take, drop, take-append-drop, List·getD-append}
-use lib.Seq.{sets, length-sets, take-at, take-suc, take-all, length-take-le, getD-append-add}
+use lib.ListN.{length, getD, take, drop, length-append, length-map, length-drop, take-append-drop, List·getD-append}
+use lib.Seq.{sets, length-sets, take-at, drop-at, drop-drop, take-suc, take-all, length-take-le, getD-append-add}
 use Rattle.plan.specs.Edition.{mostJobs}
 use Rattle.plan.specs.Rules.{jobsOf, noJob}
 use Rattle.plan.specs.declared.kinds.Job.{Job}
 use Rattle.plan.specs.declared.kinds.JobList.{JobList}
 use Rattle.plan.specs.declared.kinds.Plan.{Plan}
 use Rattle.base.proofs.Logic.{both}
-use Rattle.base.proofs.Stores.{sets-whole}
+use Rattle.base.proofs.Stores.{sets-append, sets-whole}
+use Rattle.dispatch.specs.Answers.{runAt}
+use Rattle.dispatch.specs.declared.Moment.{Moment}
 use Rattle.dispatch.specs.declared.Run.{Run}
 use Rattle.dispatch.specs.Step.{noRun}
-use Rattle.hostmemory.specs.Memory.{rateWords, countWords, headWords, jobWords, listWords, planWords, runWords, most8, most16, most32, jobIndex, jobAt, jobsTo, shortRun, listIn, listHeld, planIn, planOf, jobOut, jobsOut, listOut, listPut, planOut, planPut, marksIn, marksHold, runIn, runOf, markOut, runOut, runPut, JobsFit, Fits}
+use Rattle.hostmemory.specs.Memory.{rateWords, countWords, headWords, jobWords, listWords, planWords, runWords, most8, most16, most32, jobIndex, jobAt, jobsTo, shortRun, listIn, listHeld, planIn, planOf, jobOut, jobsOut, listOut, listPut, planOut, planPut, markWords, endedStart, areMarks, endedPart, marksIn, marksHold, isSet, runIn, runOf, momentOf, markOut, slotOut, runOut, slotPut, runPut, JobsFit, Fits}
 use Rattle.hostmemory.proofs.Writes.{jobs-long}
 
 -- A mark is recovered from its word, and a word that is 0 or 1 from its mark.
@@ -32,40 +34,173 @@ mark-again zero h = refl
 mark-again (suc zero) h = refl
 mark-again (suc (suc x)) h = absurd (omega arith)
 
+marks-back : (l : List Bool) → map isSet (map markOut l) ≡ l
+marks-back [] = refl
+marks-back (b ∷ l) = λ t. mark-back b t ∷ marks-back l t
+
+marks-again : (l : List ℕ) → areMarks l ≡ true → map markOut (map isSet l) ≡ l
+unfolding areMarks
+marks-again [] h = refl
+marks-again (x ∷ l) h =
+    let so = both (leb x 1) (areMarks l) h in
+    λ t. mark-again x (leb-true x 1 (so .0)) t ∷ marks-again l (so .1) t
+
+-- The parts of a run among its words: the carried units and the ended marks.
+carried-part : (a b c : ℕ) (carried marks rest : List ℕ) → length carried ≡ mostJobs
+    → take mostJobs (drop markWords ((a ∷ b ∷ c ∷ carried ++ marks) ++ rest)) ≡ carried
+carried-part a b c carried marks rest e = rw (append-assoc carried marks rest) (take-at carried (marks ++ rest) mostJobs e)
+
+ended-part : (a b c : ℕ) (carried marks rest : List ℕ) → length carried ≡ mostJobs → length marks ≡ mostJobs
+    → endedPart ((a ∷ b ∷ c ∷ carried ++ marks) ++ rest) ≡ marks
+ended-part a b c carried marks rest e f =
+    let n : endedStart ≡ suc (suc (suc mostJobs)) = refl in
+    rw (append-assoc carried marks rest, drop-at carried (marks ++ rest) mostJobs e) (take-at marks rest mostJobs f)
+
+-- A run is written in whole.
+run-whole-put : (w : List ℕ) (r : Run) → length (r .carried) ≡ mostJobs
+    → sets (sets w 0 (slotOut (momentOf r) (r .carried))) endedStart (map markOut (r .ended)) ≡ sets w 0 (runOut r)
+unfolding runOut
+run-whole-put w r e =
+    let head = slotOut (momentOf r) (r .carried) in
+    let long : length head ≡ endedStart = omega (arith, e) in
+    rw long at (sets-append head (map markOut (r .ended)) w 0)
+
 -- Decoding the words of a run gives that run.
-run-whole-back : (w : List ℕ) (r : Run) → length (r .carried) ≡ mostJobs → runWords ≤ length w → runIn (sets w 0 (runOut r)) ≡ r
+run-whole-back : (w : List ℕ) (r : Run) → length (r .carried) ≡ mostJobs → length (r .ended) ≡ mostJobs → runWords ≤ length w → runIn (sets w 0 (runOut r)) ≡ r
 unfolding runIn runOut
-run-whole-back w r e h =
+run-whole-back w r e f h =
+    let marks = map markOut (r .ended) in
+    let long : length marks ≡ mostJobs = length-map (r .ended) markOut ∙ f in
+    let out = r .clock .0 ∷ markOut (r .slow) ∷ markOut (r .below) ∷ (r .carried ++ marks) in
+    let rest = drop (length out) w in
     rw (
-      sets-whole (r .clock .0 ∷ markOut (r .slow) ∷ markOut (r .below) ∷ r .carried) w (omega arith),
+      sets-whole out w (omega (arith, length-append (r .carried) marks)),
       mark-back (r .slow),
       mark-back (r .below),
-      take-at (r .carried) (drop (length (r .clock .0 ∷ markOut (r .slow) ∷ markOut (r .below) ∷ r .carried)) w) mostJobs e,
+      carried-part (r .clock .0) (markOut (r .slow)) (markOut (r .below)) (r .carried) marks rest e,
+      ended-part (r .clock .0) (markOut (r .slow)) (markOut (r .below)) (r .carried) marks rest e long,
+      marks-back (r .ended),
     ) refl
 
-pub run-back : (w : List ℕ) (r : Run) → length (r .carried) ≡ mostJobs → runWords ≤ length w → runOf (runPut w r) ≡ r
+pub run-back : (w : List ℕ) (r : Run) → length (r .carried) ≡ mostJobs → length (r .ended) ≡ mostJobs → runWords ≤ length w → runOf (runPut w r) ≡ r
 unfolding runOf runPut
-run-back w r e h =
-    rw (le-ltb (length w) runWords h, length-sets w 0 (runOut r), le-ltb (length w) runWords h) (run-whole-back w r e h)
+run-back w r e f h =
+    rw (le-ltb (length w) runWords h, run-whole-put w r e, length-sets w 0 (runOut r), le-ltb (length w) runWords h) (run-whole-back w r e f h)
 
--- Encoding the run that words encode gives those words, if both marks are 0 or 1.
+-- The words of a run have good marks.
+mark-small : (b : Bool) → leb (markOut b) 1 ≡ true
+mark-small true = refl
+mark-small false = refl
+
+marks-small : (l : List Bool) → areMarks (map markOut l) ≡ true
+unfolding areMarks
+marks-small [] = refl
+marks-small (b ∷ l) = ap₂ _&&_ (mark-small b) (marks-small l)
+
+whole-marks : (w : List ℕ) (r : Run) → length (r .carried) ≡ mostJobs → length (r .ended) ≡ mostJobs → runWords ≤ length w
+    → marksIn (sets w 0 (runOut r)) ≡ true
+unfolding runOut
+whole-marks w r e f h =
+    let marks = map markOut (r .ended) in
+    let long : length marks ≡ mostJobs = length-map (r .ended) markOut ∙ f in
+    let out = r .clock .0 ∷ markOut (r .slow) ∷ markOut (r .below) ∷ (r .carried ++ marks) in
+    rw (
+      sets-whole out w (omega (arith, length-append (r .carried) marks)),
+      mark-small (r .slow),
+      mark-small (r .below),
+      ended-part (r .clock .0) (markOut (r .slow)) (markOut (r .below)) (r .carried) marks (drop (length out) w) e long,
+      marks-small (r .ended),
+    ) refl
+
+pub put-marks : (w : List ℕ) (r : Run) → length (r .carried) ≡ mostJobs → length (r .ended) ≡ mostJobs → runWords ≤ length w
+    → marksHold (runPut w r) ≡ true
+unfolding marksHold runPut
+put-marks w r e f h =
+    rw (le-ltb (length w) runWords h, run-whole-put w r e, length-sets w 0 (runOut r), le-ltb (length w) runWords h) (whole-marks w r e f h)
+
+-- Words encode a run with an ended mark for each job.
+pub ended-all : (w : List ℕ) → length (runOf w .ended) ≡ mostJobs
+unfolding runOf runIn
+ended-all w = go (shortRun w) refl
+  where
+    go : (t : Bool) → shortRun w ≡ t → length (cond t noRun (runIn w) .ended) ≡ mostJobs
+    go true e = refl
+    go false e =
+        length-map (endedPart w) isSet
+        ∙ length-take-le mostJobs (drop endedStart w) (omega (arith, length-drop endedStart w, ltb-false (length w) runWords e))
+
+-- Writing what a slot changes leaves the ended marks, so it writes the run with the marks that the words encode, if they are marks.
+slot-whole-put : (w : List ℕ) (at : Moment) (carried : List ℕ) → marksIn w ≡ true → runWords ≤ length w → length carried ≡ mostJobs
+    → sets w 0 (slotOut at carried) ≡ sets w 0 (runOut (runAt at carried (map isSet (endedPart w))))
+unfolding runOut
+slot-whole-put w at carried m h e =
+    let marks = endedPart w in
+    let good = both (leb (getD w 1 0) 1 && leb (getD w 2 0) 1) (areMarks marks) m .1 in
+    let long : length marks ≡ mostJobs = length-take-le mostJobs (drop endedStart w) (omega (arith, length-drop endedStart w)) in
+    let head = slotOut at carried in
+    let head-long : length head ≡ endedStart = omega (arith, e) in
+    let all-long : endedStart + mostJobs ≡ length (head ++ marks) = omega (arith, e, long, length-append head marks) in
+    let there : drop (length head) w ≡ marks ++ drop (length (head ++ marks)) w
+    = ap (λ n. drop n w) head-long
+    ∙ sym (take-append-drop mostJobs (drop endedStart w))
+    ∙ ap (λ l. marks ++ l) (drop-drop mostJobs endedStart w ∙ ap (λ n. drop n w) all-long) in
+    rw (marks-again marks good)
+    (sets-whole head w (omega (arith, e)) ∙ ap (λ l. head ++ l) there ∙ sym (append-assoc head marks (drop (length (head ++ marks)) w))
+    ∙ sym (sets-whole (head ++ marks) w (omega (arith, e, long, length-append head marks))))
+
+pub slot-put : (w : List ℕ) (at : Moment) (carried : List ℕ) → marksHold w ≡ true → length carried ≡ mostJobs
+    → slotPut w at carried ≡ runPut w (runAt at carried (runOf w .ended))
+unfolding runIn runOf slotPut runPut marksHold
+slot-put w at carried m e = go (shortRun w) refl m
+  where
+    go : (t : Bool) → shortRun w ≡ t → cond t false (marksIn w) ≡ true
+        → cond t w (sets w 0 (slotOut at carried))
+        ≡ cond t w (sets (sets w 0 (slotOut at carried)) endedStart (map markOut (cond t noRun (runIn w) .ended)))
+    go true s m = refl
+    go false s m =
+        slot-whole-put w at carried m (ltb-false (length w) runWords s) e ∙ sym (run-whole-put w (runAt at carried (map isSet (endedPart w))) e)
+
+-- Encoding the run that words encode gives those words, if all marks are 0 or 1.
 run-whole-again : (w : List ℕ) → marksIn w ≡ true → runWords ≤ length w → sets w 0 (runOut (runIn w)) ≡ w
-unfolding runIn runOut
+unfolding runIn
 run-whole-again [] m h = absurd (omega arith)
 run-whole-again (a ∷ []) m h = absurd (omega arith)
 run-whole-again (a ∷ b ∷ []) m h = absurd (omega arith)
 run-whole-again (a ∷ b ∷ c ∷ l) m h =
-    let so = both (leb b 1) (leb c 1) m in
-    let n : length (take mostJobs l) ≡ mostJobs = length-take-le mostJobs l (omega arith) in
-    rw (mark-again b (leb-true b 1 (so .0)), mark-again c (leb-true c 1 (so .1)), sets-whole (a ∷ b ∷ c ∷ take mostJobs l) (a ∷ b ∷ c ∷ l) (omega arith), n, take-append-drop mostJobs l) refl
+    let w = a ∷ b ∷ c ∷ l in
+    let so = both (leb b 1) (leb c 1) (both (leb b 1 && leb c 1) (areMarks (endedPart w)) m .0) in
+    let carried = take mostJobs l in
+    let n : length carried ≡ mostJobs = length-take-le mostJobs l (omega arith) in
+    let at : Moment = momentOf (runIn w) in
+    sym (slot-whole-put w at carried m h n)
+    ∙ rw (mark-again b (leb-true b 1 (so .0)), mark-again c (leb-true c 1 (so .1)))
+    (sets-whole (a ∷ b ∷ c ∷ carried) w (omega (arith, n)) ∙ rw (n, take-append-drop mostJobs l) refl)
+
+carried-long : (w : List ℕ) → runWords ≤ length w → length (runIn w .carried) ≡ mostJobs
+unfolding runIn
+carried-long w h = length-take-le mostJobs (drop markWords w) (omega (arith, length-drop markWords w))
+
+-- A run that words encode has all its carried units.
+pub carried-all : (w : List ℕ) → length (runOf w .carried) ≡ mostJobs
+unfolding runOf
+carried-all w = go (shortRun w) refl
+  where
+    go : (t : Bool) → shortRun w ≡ t → length (cond t noRun (runIn w) .carried) ≡ mostJobs
+    go true e = refl
+    go false e = carried-long w (ltb-false (length w) runWords e)
 
 pub run-again : (w : List ℕ) → marksHold w ≡ true → runPut w (runOf w) ≡ w
 unfolding runOf runPut marksHold
 run-again w m = go (shortRun w) refl m
   where
-    go : (t : Bool) → shortRun w ≡ t → cond t false (marksIn w) ≡ true → cond t w (sets w 0 (runOut (cond t noRun (runIn w)))) ≡ w
+    put : Run → List ℕ
+    put r = sets (sets w 0 (slotOut (momentOf r) (r .carried))) endedStart (map markOut (r .ended))
+
+    go : (t : Bool) → shortRun w ≡ t → cond t false (marksIn w) ≡ true → cond t w (put (cond t noRun (runIn w))) ≡ w
     go true e m = refl
-    go false e m = run-whole-again w m (ltb-false (length w) runWords e)
+    go false e m =
+        let h = ltb-false (length w) runWords e in
+        run-whole-put w (runIn w) (carried-long w h) ∙ run-whole-again w m h
 
 -- The words of n + 1 jobs are those of the first n, followed by those of job n.
 jobs-split : (jobs : List Job) (n : ℕ) (rest : List ℕ) → jobsOut jobs (suc n) ++ rest ≡ jobsOut jobs n ++ (jobOut (getD jobs n noJob) ++ rest)

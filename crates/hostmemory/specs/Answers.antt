@@ -9,10 +9,9 @@ use Rattle.plan.specs.Rules.{counted}
 use Rattle.plan.specs.Columns.{inColumn}
 use Rattle.plan.specs.declared.kinds.JobList.{JobList}
 use Rattle.plan.specs.declared.kinds.Plan.{Plan}
-use Rattle.dispatch.specs.Answers.{runAt}
 use Rattle.dispatch.specs.declared.Moment.{Moment}
 use Rattle.dispatch.specs.declared.Run.{Run}
-use Rattle.hostmemory.specs.Memory.{planOf, listPut, planPut, gradeWord, releaseWord, sizeWord, deadlineWord, wordsFit, runPut}
+use Rattle.hostmemory.specs.Memory.{planOf, listPut, planPut, gradeWord, releaseWord, sizeWord, deadlineWord, wordsFit, slotPut, runPut}
 
 -- The contract of `put_plan`: the words at exit are `planPut` of those at entry.
 abbrev pub PutsPlan : (words : Words) (p : Plan) (left : List ℕ) → Type 0
@@ -26,9 +25,9 @@ PutsList words list left = left ≡ listPut words list
 abbrev pub PutsRun : (words : Words) (run : Run) (left : List ℕ) → Type 0
 PutsRun words run left = left ≡ runPut words run
 
--- The contract of `put_parts`: the words at exit are `runPut` of those at entry, for the run of these parts.
-abbrev pub PutsParts : (words : Words) (at : Moment) (carried : Row) (left : List ℕ) → Type 0
-PutsParts words at carried left = left ≡ runPut words (runAt at carried)
+-- The contract of `put_slot`: the words at exit are `slotPut` of those at entry.
+abbrev pub PutsSlot : (words : Words) (at : Moment) (carried : Row) (left : List ℕ) → Type 0
+PutsSlot words at carried left = left ≡ slotPut words at carried
 
 -- A column at exit: the words of the counted jobs as a column holds them; the rest is unchanged.
 abbrev pub columnIn : (words : Words) (word : ℕ → ℕ) (column : List ℕ) → List ℕ

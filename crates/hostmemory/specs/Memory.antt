@@ -1,6 +1,6 @@
 -- The memory that a host lends: the plan, the job list and the run that its words encode, and the words of each.
-use mathlib.Core.Bool.{Bool, false, cond, _&&_}
-use mathlib.Core.List.{List, [], _∷_, _++_}
+use mathlib.Core.Bool.{Bool, true, false, cond, _&&_}
+use mathlib.Core.List.{List, [], _∷_, _++_, map}
 use Prim.Native.Nat.{ℕ, zero, suc, _+_, _*_, _^_, min}
 use lib.Dec.{leb, ltb, eqb}
 use lib.ListN.{length, getD, take, drop}
@@ -48,9 +48,13 @@ planWords = rateWords + listWords
 abbrev pub markWords : ℕ
 markWords = 3
 
+-- The index at which a run's ended marks begin, after the carried units.
+abbrev pub endedStart : ℕ
+endedStart = markWords + mostJobs
+
 -- The number of words of a run.
 abbrev pub runWords : ℕ
-runWords = markWords + mostJobs
+runWords = endedStart + mostJobs
 
 -- Whether there are too few words for a plan.
 abbrev pub shortPlan : Words → Bool
@@ -186,29 +190,43 @@ planOut p = p .n .0 ∷ p .d .0 ∷ listOut (jobsOf p)
 unfoldable pub planPut : (w : Words) (p : Plan) → Words
 planPut w p = cond (shortPlan w) w (sets w 0 (planOut p))
 
--- Whether the words of both marks are 0 or 1; a word that is not there counts as 0.
-abbrev pub marksIn : Words → Bool
-marksIn w = leb (getD w 1 0) 1 && leb (getD w 2 0) 1
+-- Whether all words are 0 or 1.
+unfoldable pub areMarks : Words → Bool
+areMarks [] = true
+areMarks (x ∷ l) = leb x 1 && areMarks l
 
--- Whether there are enough words for a run, and both marks are 0 or 1.
+-- The words of a run's ended marks.
+abbrev pub endedPart : Words → Words
+endedPart w = take mostJobs (drop endedStart w)
+
+-- Whether the words of all marks are 0 or 1; a word that is not there counts as 0.
+abbrev pub marksIn : Words → Bool
+marksIn w = leb (getD w 1 0) 1 && leb (getD w 2 0) 1 && areMarks (endedPart w)
+
+-- Whether there are enough words for a run, and all marks are 0 or 1.
 unfoldable pub marksHold : Words → Bool
 marksHold w = cond (shortRun w) false (marksIn w)
 
--- The run that words encode, if there are enough of them; a mark is set if its word is 1.
+-- A mark is set if its word is 1.
+abbrev pub isSet : ℕ → Bool
+isSet x = eqb x 1
+
+-- The run that words encode, if there are enough of them.
 unfoldable pub runIn : Words → Run
 runIn w =
     record {
       clock = record { 0 = getD w 0 0 };
-      slow = eqb (getD w 1 0) 1;
-      below = eqb (getD w 2 0) 1;
+      slow = isSet (getD w 1 0);
+      below = isSet (getD w 2 0);
       carried = take mostJobs (drop markWords w);
+      ended = map isSet (endedPart w);
     }
 
 -- The run that words encode; too few words encode a run of zeros.
 unfoldable pub runOf : Words → Run
 runOf w = cond (shortRun w) noRun (runIn w)
 
--- A run without its carried units.
+-- A run without what it holds for each job.
 abbrev pub momentOf : Run → Moment
 momentOf r = record { clock = r .clock; slow = r .slow; below = r .below }
 
@@ -216,13 +234,22 @@ momentOf r = record { clock = r .clock; slow = r .slow; below = r .below }
 abbrev pub markOut : Bool → ℕ
 markOut mark = cond mark 1 0
 
--- The words of a run.
-unfoldable pub runOut : Run → Words
-runOut r = r .clock .0 ∷ markOut (r .slow) ∷ markOut (r .below) ∷ r .carried
+-- The words of what a slot changes of a run: the clock, both marks and the carried units.
+abbrev pub slotOut : (at : Moment) (carried : List ℕ) → Words
+slotOut at carried = at .clock .0 ∷ markOut (at .slow) ∷ markOut (at .below) ∷ carried
 
--- The words after a run is written to them; too few words are unchanged.
+-- The words of a run: those, and its ended marks.
+unfoldable pub runOut : Run → Words
+runOut r = slotOut (momentOf r) (r .carried) ++ map markOut (r .ended)
+
+-- The words after what a slot changes of a run is written to them; too few words are unchanged.
+unfoldable pub slotPut : (w : Words) (at : Moment) (carried : List ℕ) → Words
+slotPut w at carried = cond (shortRun w) w (sets w 0 (slotOut at carried))
+
+-- The words after a run is written to them, what a slot changes and then the ended marks; too few words are
+-- unchanged.
 unfoldable pub runPut : (w : Words) (r : Run) → Words
-runPut w r = cond (shortRun w) w (sets w 0 (runOut r))
+runPut w r = cond (shortRun w) w (sets (sets w 0 (slotOut (momentOf r) (r .carried))) endedStart (map markOut (r .ended)))
 
 -- The grades, releases and deadlines of some jobs have the widths of their types, and there are `mostJobs`
 -- records. All jobs of the code fit.

@@ -19,7 +19,10 @@ impl Sizes {
     // The clock and both marks.
     pub const MARKS: usize = 3;
 
-    pub const RUN: usize = Self::MARKS + Edition::MOST_JOBS;
+    // Where the ended marks begin, after the carried units.
+    pub const ENDED: usize = Self::MARKS + Edition::MOST_JOBS;
+
+    pub const RUN: usize = Self::ENDED + Edition::MOST_JOBS;
 
     pub const LOCATION: usize = 2;
 }

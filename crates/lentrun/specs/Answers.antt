@@ -2,14 +2,14 @@
 use mathlib.Core.Path.{_≡_}
 use mathlib.Core.List.{List}
 use Prim.Native.Nat.{ℕ}
-use Rattle.plan.specs.Kinds.{Row, Speed, Table}
+use Rattle.plan.specs.Kinds.{Position, Row, Speed, Table}
 use Rattle.plan.specs.declared.kinds.Plan.{Plan}
 use Rattle.judge.specs.declared.answers.Verdict.{Verdict}
 use Rattle.judge.specs.Verdict.{judged}
 use Rattle.judge.specs.Answers as verdict
 use Rattle.dispatch.specs.declared.Run.{Run}
 use Rattle.dispatch.specs.declared.answers.Answer.{Answer}
-use Rattle.dispatch.specs.Step.{startIn, stepped}
+use Rattle.dispatch.specs.Step.{startIn, stepped, toldEnded}
 use Rattle.dispatch.specs.Answers.{answerView}
 
 -- The contract of `step_in`: its answer, the run record and the grant row
@@ -21,3 +21,8 @@ StepsIn run p table v grants r after left = record { answer = answerView r; run 
 -- at exit, which a refusal leaves as it was.
 abbrev pub StartsIn : (was : Run) (p : Plan) (table : Table) (r : Verdict) (after : Run) → Type 0
 StartsIn was p table r after = (verdict.verdictView r ≡ judged p table) × (after ≡ startIn p table was)
+
+-- The contract of `end_early_in`: its answer and the run record at exit are the effect of the
+-- word that the job at the position has ended.
+abbrev pub TellsIn : (run : Run) (p : Plan) (position : Position) (r : Answer) (after : Run) → Type 0
+TellsIn run p position r after = record { answer = answerView r; run = after } ≡ toldEnded p run position

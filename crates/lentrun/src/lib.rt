@@ -1,6 +1,8 @@
 // The calls on a lent run record: a host keeps one record and lends it to each call, which updates it.
 use dispatch::Run;
 use dispatch::answers::Answer;
+use dispatch::early::Told;
+use dispatch::early::end_early;
 use dispatch::start::Started;
 use dispatch::start::start;
 use dispatch::step::Stepped;
@@ -9,7 +11,7 @@ use judge::answers::Verdict;
 use judge::answers::is_accepted;
 use plan::kinds::Plan;
 ghost use mathlib.Core.Path.{_≡_};
-ghost use Rattle.lentrun.specs.Answers.{StepsIn, StartsIn};
+ghost use Rattle.lentrun.specs.Answers.{StepsIn, StartsIn, TellsIn};
 
 // The two parts of the result of a step.
 fn run_of(stepped: Stepped) -> Run
@@ -73,4 +75,28 @@ pub fn start_in(run: &mut Run, p: Plan, table: &[u32]) -> Verdict
     let next = started_run(s);
     *run = next;
     verdict_of(s)
+}
+
+// The two parts of the result of a word that a job has ended.
+fn told_run(told: Told) -> Run
+    ensures { λ r. ⌜ r ≡ told .run ⌝ }
+{
+    told.run
+}
+
+fn told_answer(t: Told) -> Answer
+    ensures { λ r. ⌜ r ≡ t .answer ⌝ }
+{
+    t.answer
+}
+
+// Sets the ended mark of the job at a position in a lent run record. A refusal leaves the record as it was.
+pub fn end_early_in(run: &mut Run, p: Plan, position: usize) -> Answer
+    ensures { λ r. ⌜ TellsIn (now (run .entry)) p position r (now (run .exit)) ⌝ }
+{
+    let was = *run;
+    let t = end_early(p, was, position);
+    let next = told_run(t);
+    *run = next;
+    told_answer(t)
 }

@@ -8,7 +8,7 @@ use Rattle.plan.specs.Kinds.{Amount, Number, Row, Speed, Time}
 use Rattle.plan.specs.Edition.{nameBytes, mostJobs}
 use Rattle.plan.specs.Rules.{name, counted}
 use Rattle.plan.specs.declared.kinds.Plan.{Plan}
-use Rattle.dispatch.specs.Step.{Ending, met, discarded, missed, stillOpen, refused}
+use Rattle.dispatch.specs.Step.{Ending, met, endedEarly, discarded, missed, stillOpen, refused}
 use Rattle.text.specs.Text.{text, decimal, mostDigits, nameText}
 
 -- The header of the slots.
@@ -59,6 +59,7 @@ refusedSlotLine clock speed number =
 -- The word of an outcome; a refusal has none.
 abbrev pub endingWord : Ending → List ℕ
 endingWord met = text "met"
+endingWord endedEarly = text "ended"
 endingWord discarded = text "discarded"
 endingWord missed = text "missed"
 endingWord stillOpen = text "open"

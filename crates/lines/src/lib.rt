@@ -138,6 +138,7 @@ pub fn outcome_line(name: Name, outcome: Outcome, carried: u32, out: &mut [u8]) 
 {
     match outcome {
         Outcome::Met => word_line(name, b"met", carried, out),
+        Outcome::Ended => word_line(name, b"ended", carried, out),
         Outcome::Discarded => word_line(name, b"discarded", carried, out),
         Outcome::Missed => word_line(name, b"missed", carried, out),
         Outcome::Open => word_line(name, b"open", carried, out),

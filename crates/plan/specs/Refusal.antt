@@ -113,3 +113,11 @@ wrongLine = 23
 -- A job list does not begin with its header.
 abbrev pub wrongHeader : ℕ
 wrongHeader = 24
+
+-- No counted job has the position.
+abbrev pub noSuchJob : ℕ
+noSuchJob = 25
+
+-- A job cannot end now: it is not yet released, or its outcome is no longer open.
+abbrev pub cannotEnd : ℕ
+cannotEnd = 26

@@ -62,3 +62,8 @@ pub const BUFFER_TOO_SHORT: u8 = 22;
 pub const WRONG_LINE: u8 = 23;
 
 pub const WRONG_HEADER: u8 = 24;
+
+// Refusals of the word that a transfer has ended.
+pub const NO_SUCH_JOB: u8 = 25;
+
+pub const CANNOT_END: u8 = 26;

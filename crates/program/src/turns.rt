@@ -144,6 +144,7 @@ fn is_refused(ended: Outcome) -> bool
 {
     match ended {
         Outcome::Met => false,
+        Outcome::Ended => false,
         Outcome::Discarded => false,
         Outcome::Missed => false,
         Outcome::Open => false,

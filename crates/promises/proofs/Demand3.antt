@@ -2,7 +2,7 @@
 -- calls, with instances that meet its premises.
 use mathlib.Core.Path.{_≡_, refl, ap}
 use mathlib.Core.Logic.{⊎-elim}
-use mathlib.Core.Bool.{true}
+use mathlib.Core.Bool.{true, false}
 use mathlib.Core.List.{List, [], _∷_}
 use Prim.Native.Nat.{ℕ, zero, suc, _+_, _≤_, _<_}
 use native.Mathlib.Omega.{arith}
@@ -21,13 +21,13 @@ use Rattle.dispatch.specs.Dues.{due}
 use Rattle.dispatch.specs.Order
 use Rattle.dispatch.specs.Step.{started, slotSound, slotFault, granted, added, advanced, stepped}
 use Rattle.promises.proofs.Cases.{planWith, tableOf, planE, tableE, P1, P9}
-use Rattle.promises.specs.Night.{Call, runAfter, clockAt, had, hadInWindow, Allowed, HasRegular, Kept, nightAt, Between, CorrectStrategy}
+use Rattle.promises.specs.Night.{Call, runAfter, clockAt, had, hadInWindow, told, Allowed, HasRegular, Kept, nightAt, Between, CorrectStrategy}
 use Rattle.promises.proofs.WrongVariants.{steppedBy, Lost, LostIn, run-by-step, had-by-step, loFirst, tableOrder, lo-first-loses, table-order-loses}
 use Rattle.plan.proofs.Soundness.{sound-bounded}
 use Rattle.promises.proofs.Demand2.{judge-is-exact, accepted-E}
 use Rattle.promises.proofs.NightInvariant.{kept}
 use Rattle.promises.proofs.Strategy.{night-allowed, never-slow, lower-bound}
-use Rattle.promises.proofs.Progress.{regular-allowed, deadline-reached, night-regular}
+use Rattle.promises.proofs.Progress.{unless-told, regular-allowed, regular-untold, deadline-reached, night-regular}
 
 -- Demand 3. For every plan and table that the judge accepts, and every night begun from them in
 -- which each call is refused or has the accepted plan and table, unchanged, and a speed from
@@ -43,7 +43,8 @@ pub enough-calls-meet : (p : Plan) (table : List ℕ) → judged p table ≡ [] 
     → (i : ℕ) → i < counted p → isHi p i ≡ true → deadline p i ≤ firstRelease p + k
     → (had p night i ≡ size p i) × (hadInWindow p night i ≡ size p i)
 enough-calls-meet p table e k night r i b h long =
-    promise-kept p table e night (regular-allowed p table e k night r) .essential i b h (deadline-reached p table e k night r i b long)
+    unless-told (regular-untold p table e k night r i)
+    (promise-kept p table e night (regular-allowed p table e k night r) .essential i b h (deadline-reached p table e k night r i b long))
 
 -- Every accepted plan has a correct scheduling strategy: the dispatcher.
 pub strategy-is-correct : (p : Plan) (table : List ℕ) → judged p table ≡ [] → CorrectStrategy p table
@@ -54,8 +55,9 @@ strategy-is-correct p table e =
     record {
       normal = λ speeds b i k long.
           let regular = night-regular p table e speeds (wider speeds b) in
-          promise-kept p table e (nightAt p table speeds) (night-allowed p table speeds (wider speeds b))
-          .others i k (deadline-reached p table e (length speeds) (nightAt p table speeds) regular i k long) (never-slow p table (deadline p i) speeds b) .0;
+          unless-told (regular-untold p table e (length speeds) (nightAt p table speeds) regular i)
+          (promise-kept p table e (nightAt p table speeds) (night-allowed p table speeds (wider speeds b))
+          .others i k (deadline-reached p table e (length speeds) (nightAt p table speeds) regular i k long) (never-slow p table (deadline p i) speeds b)) .0;
       degraded = λ speeds b i k h long.
           enough-calls-meet p table e (length speeds) (nightAt p table speeds) (night-regular p table e speeds b) i k h long .0;
     }
@@ -95,8 +97,8 @@ kept-in-E = promise-kept planE tableE accepted-E (nightAt planE tableE speedsE) 
 
 -- In this night `mirror-A`, whose deadline the clock has reached, has had exactly its eight units.
 mirror-A-met : had planE (nightAt planE tableE speedsE) 1 ≡ 8
-unfolding tableOf sum Below.every Below.least Below.greatest gradesHold boundsHold insert boundariesTo come runAfter started slotSound slotFault granted Order.order Order.queue Order.enqueue Order.serve added advanced stepped
-mirror-A-met = kept-in-E .essential 1 (lit< tt) refl (lit≤ tt) .0
+unfolding tableOf sum Below.every Below.least Below.greatest gradesHold boundsHold insert boundariesTo come runAfter told started slotSound slotFault granted Order.order Order.queue Order.enqueue Order.serve added advanced stepped
+mirror-A-met = unless-told refl (kept-in-E .essential 1 (lit< tt) refl (lit≤ tt)) .0
 
 -- So it has in ten slots at the floor; and plan E has a correct strategy.
 floor-night-of-E : had planE (nightAt planE tableE (replicate 10 1)) 1 ≡ 8
@@ -117,11 +119,15 @@ accepted-loses-none p table e speeds i lost =
     let night = nightAt p table speeds in
     let rates = sound-bounded p table (judge-is-exact p table .0 e .1) .rates in
     let come : deadline p i ≤ clockAt p night = omega (arith, lost .come, ap (λ run. run .clock .0) (run-by-step p night)) in
+    let untold : Between (p .d .0) (p .n .0) speeds → told p night i ≡ false
+    = λ b. regular-untold p table e (length speeds) night (night-regular p table e speeds b) i in
+    let wider : Between (p .n .0) (p .n .0) speeds → Between (p .d .0) (p .n .0) speeds
+    = λ b. lower-bound (p .n .0) (p .d .0) (p .n .0) speeds (omega (arith, rates)) b in
     let whole : had p night i ≡ size p i
     = ⊎-elim
-    (λ w. promise-kept p table e night (night-allowed p table speeds (w .0)) .essential i (lost .a-job) (w .1) come .0)
-    (λ b. promise-kept p table e night (night-allowed p table speeds (lower-bound (p .n .0) (p .d .0) (p .n .0) speeds (omega (arith, rates)) b))
-    .others i (lost .a-job) come (never-slow p table (deadline p i) speeds b) .0)
+    (λ w. unless-told (untold (w .0)) (promise-kept p table e night (night-allowed p table speeds (w .0)) .essential i (lost .a-job) (w .1) come) .0)
+    (λ b. unless-told (untold (wider b)) (promise-kept p table e night (night-allowed p table speeds (wider b))
+    .others i (lost .a-job) come (never-slow p table (deadline p i) speeds b)) .0)
     (lost .owed) in
     absurd (omega (arith, lost .short, had-by-step p night i))
 

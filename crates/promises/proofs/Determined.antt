@@ -12,7 +12,7 @@ use lib.IntN.{ℤ}
 use lib.ListN.{length, getD, drop, replicate}
 use Rattle.plan.specs.Edition.{mostJobs, places}
 use Rattle.plan.specs.Versions.{rowsAllowedIn}
-use Rattle.plan.specs.Refusal.{tooManyRows, rowWithoutInterval, rowWithoutUnits, clockAtEnd, speedAboveNormal, unsound, bufferTooShort}
+use Rattle.plan.specs.Refusal.{tooManyRows, rowWithoutInterval, rowWithoutUnits, clockAtEnd, speedAboveNormal, unsound, bufferTooShort, noSuchJob, cannotEnd}
 use Rattle.plan.specs.Rules.{release, deadline, counted}
 use Rattle.plan.specs.Boundaries.{insert, boundariesTo, boundaries, come, present, lastSlot, lastDeadline}
 use Rattle.plan.specs.Columns.{sizesFit, PutsColumns, TellsBegun}
@@ -68,23 +68,26 @@ use Rattle.judge.proofs.Injective.{verdictView-injective, slackView-injective}
 use Rattle.judge.proofs.LeastSlack.{first-of-all}
 use Rattle.judge.proofs.FirstLocation.{every-place-is-the-first}
 use Rattle.dispatch.specs.Step as step
-use Rattle.dispatch.specs.Step.{SlotEffect, Ending, started, noRun, startFrom, startIn, slotSound, slotFault, slotBy, stepped, outcome}
+use Rattle.dispatch.specs.Step.{SlotEffect, WordEffect, Ending, isOpen, endFault, endBy, toldEnded, started, noRun, startFrom, startIn, slotSound, slotFault, slotBy, stepped, outcome}
 use Rattle.dispatch.specs.Answers as slot
-use Rattle.dispatch.specs.Answers.{outcomeView, runAt, Starts, Steps, StepsOver, Ends, EndsOver}
+use Rattle.dispatch.specs.Answers.{outcomeView, runAt, Starts, Steps, StepsOver, Ends, EndsOver, Tells, TellsOver}
 use Rattle.dispatch.specs.inner.Columns.{planOn}
 use Rattle.dispatch.specs.declared.Run.{Run}
 use Rattle.dispatch.specs.declared.Moment.{Moment}
 use Rattle.dispatch.specs.declared.step.Slot.{Slot}
+use Rattle.dispatch.specs.declared.early.Told.{Told}
 use Rattle.dispatch.specs.declared.answers.Answer.{Answer}
 use Rattle.dispatch.specs.declared.answers.Answer.the-variants as slot-answer
 use Rattle.dispatch.specs.declared.answers.Outcome.{Outcome}
 use Rattle.dispatch.specs.declared.answers.Outcome.the-variants as ends
 use Rattle.dispatch.specs.declared.start.Started.{Started}
 use Rattle.dispatch.specs.declared.step.Stepped.{Stepped}
-use Rattle.dispatch.proofs.Alike.{alike-slot, alike-outcome}
+use Rattle.dispatch.proofs.Alike.{alike-slot, alike-outcome, alike-told}
+use Rattle.dispatch.proofs.WordLimits.{slot-keeps-ended}
+use Rattle.hostmemory.specs.Memory.{momentOf}
 use Rattle.dispatch.proofs.ColumnPlan.{own-columns, columns-alike}
 use Rattle.dispatch.proofs.Injective.{answerView-injective, outcomeView-injective}
-use Rattle.lentrun.specs.Answers.{StepsIn, StartsIn}
+use Rattle.lentrun.specs.Answers.{StepsIn, StartsIn, TellsIn}
 use Rattle.lines.specs.Answers as line
 use Rattle.lines.specs.Answers.{Prints, PrintsOutcome, printed, outcomePrinted}
 use Rattle.lines.specs.declared.Printed.{Printed}
@@ -269,16 +272,17 @@ some-outcome p run position = by (outcome p run position)
   where
     by : (e : Ending) → (r : Outcome) × (outcomeView r ≡ e)
     by step.met = (ends.Met, refl)
+    by step.endedEarly = (ends.Ended, refl)
     by step.discarded = (ends.Discarded, refl)
     by step.missed = (ends.Missed, refl)
     by step.stillOpen = (ends.Open, refl)
     by (step.refused number) = (ends.Refused number, refl)
 
 -- `dispatch::step::slot_over`: the promise holds for every plan with the columns, and there is one.
-pub one-slot-over : (o : Outline) (grades releases sizes deadlines table : List ℕ) (at : Moment) (v : ℕ) (carried grants : List ℕ) (r s : Slot)
-    (after later left other : List ℕ) → StepsOver o grades releases sizes deadlines table at v carried grants r after left
-    → StepsOver o grades releases sizes deadlines table at v carried grants s later other → (r ≡ s) × (after ≡ later) × (left ≡ other)
-one-slot-over o grades releases sizes deadlines table at v carried grants r s after later left other d e =
+pub one-slot-over : (o : Outline) (grades releases sizes deadlines table : List ℕ) (at : Moment) (v : ℕ) (marks : List Bool) (carried grants : List ℕ) (r s : Slot)
+    (after later left other : List ℕ) → StepsOver o grades releases sizes deadlines table at v marks carried grants r after left
+    → StepsOver o grades releases sizes deadlines table at v marks carried grants s later other → (r ≡ s) × (after ≡ later) × (left ≡ other)
+one-slot-over o grades releases sizes deadlines table at v marks carried grants r s after later left other d e =
     let p = planOn o grades releases sizes deadlines in
     let own = own-columns grades releases sizes deadlines o in
     let same = d p own ∙ sym (e p own) in
@@ -289,20 +293,80 @@ one-slot-over o grades releases sizes deadlines table at v carried grants r s af
       ap (λ (x : SlotEffect). x .grants) same,
     )
 
-pub some-slot-over : (o : Outline) (grades releases sizes deadlines table : List ℕ) (at : Moment) (v : ℕ) (carried grants : List ℕ)
-    → (r : Slot) × (after left : List ℕ) × StepsOver o grades releases sizes deadlines table at v carried grants r after left
-some-slot-over o grades releases sizes deadlines table at v carried grants =
+pub some-slot-over : (o : Outline) (grades releases sizes deadlines table : List ℕ) (at : Moment) (v : ℕ) (marks : List Bool) (carried grants : List ℕ)
+    → (r : Slot) × (after left : List ℕ) × StepsOver o grades releases sizes deadlines table at v marks carried grants r after left
+some-slot-over o grades releases sizes deadlines table at v marks carried grants =
     let p = planOn o grades releases sizes deadlines in
-    let run = runAt at carried in
+    let run = runAt at carried marks in
     let s = stepped p table run v grants in
     let a = one-number p table run v grants in (
       record { answer = a .0; next = record { clock = s .run .clock; slow = s .run .slow; below = s .run .below } },
       s .run .carried,
       s .grants,
       λ q cols.
-          (λ i. record { answer = a .1 i; run = s .run; grants = s .grants })
+          (λ i. record { answer = a .1 i; run = runAt (momentOf (s .run)) (s .run .carried) (sym (slot-keeps-ended p table run v grants) i); grants = s .grants })
           ∙ sym (alike-slot q table p table (columns-alike grades releases sizes deadlines o q table cols) run v grants),
     )
+
+-- The report of the word that a job has ended is the view of an answer.
+one-word-number : (p : Plan) (run : Run) (position : ℕ) → (a : Answer) × (slot.answerView a ≡ toldEnded p run position .answer)
+unfolding endFault toldEnded
+one-word-number p run position =
+    let a = by (not (slotSound p run)) (not (ltb position (p .count))) (ltb (run .clock .0) (release p position) || not (isOpen (outcome p run position))) in
+    (a .0, a .1 ∙ by-answer (endFault p run position))
+  where
+    by : (a b c : Bool)
+        → (r : Answer)
+        × (slot.answerView r ≡ orElse (fault a (unsound ∷ [])) (orElse (fault b (noSuchJob ∷ [])) (fault c (cannotEnd ∷ []))))
+    by true b c = (slot-answer.Refused unsound, refl)
+    by false true c = (slot-answer.Refused noSuchJob, refl)
+    by false false true = (slot-answer.Refused cannotEnd, refl)
+    by false false false = (slot-answer.Done, refl)
+
+    by-answer : (l : Report) → l ≡ endBy l run position .answer
+    by-answer [] = refl
+    by-answer (number ∷ rest) = refl
+
+-- `dispatch::early::end_early`.
+pub one-end-early : (p : Plan) (run : Run) (position : ℕ) (r s : Told) → Tells p run position r → Tells p run position s → r ≡ s
+one-end-early p run position r s d e =
+    let same = d ∙ sym e in
+    let answers = answerView-injective (r .answer) (s .answer) (ap (λ (x : WordEffect). x .answer) same) in
+    let runs = ap (λ (x : WordEffect). x .run) same in
+    λ i. record { answer = answers i; run = runs i }
+
+pub some-end-early : (p : Plan) (run : Run) (position : ℕ) → (r : Told) × Tells p run position r
+some-end-early p run position =
+    let t = toldEnded p run position in
+    let a = one-word-number p run position in
+    (record { answer = a .0; run = t .run }, λ i. record { answer = a .1 i; run = t .run })
+
+-- `dispatch::early::end_over`.
+pub one-end-over : (o : Outline) (grades releases sizes deadlines : List ℕ) (run : Run) (position : ℕ) (r s : Told)
+    → TellsOver o grades releases sizes deadlines run position r → TellsOver o grades releases sizes deadlines run position s → r ≡ s
+one-end-over o grades releases sizes deadlines run position r s d e =
+    let own = own-columns grades releases sizes deadlines o in
+    one-end-early (planOn o grades releases sizes deadlines) run position r s (d _ own) (e _ own)
+
+pub some-end-over : (o : Outline) (grades releases sizes deadlines : List ℕ) (run : Run) (position : ℕ)
+    → (r : Told) × TellsOver o grades releases sizes deadlines run position r
+some-end-over o grades releases sizes deadlines run position =
+    let p = planOn o grades releases sizes deadlines in
+    let one = some-end-early p run position in
+    (one .0, λ q cols. one .1 ∙ sym (alike-told q [] p [] (columns-alike grades releases sizes deadlines o q [] cols) run position))
+
+-- `lentrun::end_early_in`.
+pub one-end-in : (run : Run) (p : Plan) (position : ℕ) (r s : Answer) (after later : Run) → TellsIn run p position r after
+    → TellsIn run p position s later → (r ≡ s) × (after ≡ later)
+one-end-in run p position r s after later d e =
+    let same = d ∙ sym e in
+    (answerView-injective r s (ap (λ (x : WordEffect). x .answer) same), ap (λ (x : WordEffect). x .run) same)
+
+pub some-end-in : (run : Run) (p : Plan) (position : ℕ) → (r : Answer) × (after : Run) × TellsIn run p position r after
+some-end-in run p position =
+    let t = toldEnded p run position in
+    let a = one-word-number p run position in
+    (a .0, t .run, λ i. record { answer = a .1 i; run = t .run })
 
 -- `dispatch::outcome::outcome_over`.
 pub one-outcome-over : (o : Outline) (grades releases sizes deadlines : List ℕ) (run : Run) (position : ℕ) (r s : Outcome)

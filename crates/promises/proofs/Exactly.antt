@@ -1,4 +1,4 @@
--- Each answer of writer, step and outcome is given exactly when its ground holds and no ground
+-- Each answer of writer, step, outcome and the word that a job has ended is given exactly when its ground holds and no ground
 -- before it does (`Grounds` in specs states the grounds).
 use mathlib.Core.Path.{_≡_, refl, sym, _∙_, ap, ap₂, subst}
 use mathlib.Core.Logic.{_↔_, _⊎_, inl, inr, ⊎-elim}
@@ -17,7 +17,7 @@ use Rattle.plan.specs.Edition.{nameBytes, mostJobs, mostIntervals, mostRate, mo
 use Rattle.plan.specs.Rules.{jobsOf, lo, hi, byteOf, counted, jobOf, name, release, size, deadline, isHi, nameAllowed, gradeAllowed, windowAllowed, sizeAllowed, sameName, ratesHold, countHolds, namesHold, namesDiffer, gradesHold, boundsHold, rulesHold}
 use Rattle.plan.specs.Boundaries.{intervals, firstRelease, lastDeadline}
 use Rattle.plan.specs.Table.{noStray, sound}
-use Rattle.plan.specs.Refusal.{clockAtEnd, speedAboveNormal, unsound, bufferTooShort}
+use Rattle.plan.specs.Refusal.{clockAtEnd, speedAboveNormal, unsound, bufferTooShort, noSuchJob, cannotEnd}
 use Rattle.plan.specs.Report.{Report}
 use Rattle.plan.specs.declared.kinds.Plan.{Plan}
 use Rattle.plan.proofs.BoundaryOrder.{boundaries-few}
@@ -26,10 +26,10 @@ use Rattle.plan.proofs.Stray.{stray-parts}
 use Rattle.planwriter.specs.Writing as writing
 use Rattle.planwriter.specs.Writing.{wrote, written, writer}
 use Rattle.dispatch.specs.declared.Run.{Run}
-use Rattle.dispatch.specs.Dues.{carriedOf}
+use Rattle.dispatch.specs.Dues.{carriedOf, endedOf}
 use Rattle.dispatch.specs.Step as step
-use Rattle.dispatch.specs.Step.{Ending, slotSound, slotFault, stepped, outcome}
-use Rattle.promises.specs.Grounds.{Rule4, Rule5, Rule6, Rule7, Rule8, Rule9, NoStray, SoundPlan, SoundRun, writtenLength, WriterDecided, table-short, plan-unsound, output-short, file-written, StepDecided, run-unsound, buffer-short, at-end, too-fast, slot-done, Asked, OutcomeDecided, not-asked, all-carried, dropped, late, waiting}
+use Rattle.dispatch.specs.Step.{Ending, slotSound, slotFault, stepped, outcome, isOpen, endFault, endBy, toldEnded}
+use Rattle.promises.specs.Grounds.{Rule4, Rule5, Rule6, Rule7, Rule8, Rule9, NoStray, SoundPlan, SoundRun, writtenLength, WriterDecided, table-short, plan-unsound, output-short, file-written, StepDecided, run-unsound, buffer-short, at-end, too-fast, slot-done, Asked, OutcomeDecided, not-asked, all-carried, told-of, dropped, late, waiting, EndDecided, word-unsound, no-such-job, cannot-end, word-done}
 use Rattle.promises.proofs.Progress.{answer-is-fault}
 
 -- A conjunction of tests decides the conjunction of what they decide.
@@ -343,19 +343,20 @@ module _ (p : Plan) (run : Run) (i : ℕ) where
   only-ending e (not-asked lack) =
       rw (fails (slotSound p run && ltb i (p .count)) asked-exactly (λ a. ⊎-elim (λ l. l (a .0)) (λ l. absurd (omega (arith, a .1))) lack)) refl
   only-ending e (all-carried a c) = rw (asked-exactly .1 a, eq-eqb (carriedOf run i) (size p i) c) refl
-  only-ending e (dropped a c g s) =
-      rw (asked-exactly .1 a, ne-eqb (carriedOf run i) (size p i) c, ne-eqb (jobOf p i .grade) hi (λ z. absurd (omega (arith, g, z))), s) refl
-  only-ending e (late a c k l) =
-      rw (asked-exactly .1 a, ne-eqb (carriedOf run i) (size p i) c, not-dropped k, le-leb (deadline p i) (run .clock .0) l) refl
-  only-ending e (waiting a c k l) =
-      rw (asked-exactly .1 a, ne-eqb (carriedOf run i) (size p i) c, not-dropped k, lt-leb (deadline p i) (run .clock .0) l) refl
+  only-ending e (told-of a c m) = rw (asked-exactly .1 a, ne-eqb (carriedOf run i) (size p i) c, m) refl
+  only-ending e (dropped a c m g s) =
+      rw (asked-exactly .1 a, ne-eqb (carriedOf run i) (size p i) c, m, ne-eqb (jobOf p i .grade) hi (λ z. absurd (omega (arith, g, z))), s) refl
+  only-ending e (late a c m k l) =
+      rw (asked-exactly .1 a, ne-eqb (carriedOf run i) (size p i) c, m, not-dropped k, le-leb (deadline p i) (run .clock .0) l) refl
+  only-ending e (waiting a c m k l) =
+      rw (asked-exactly .1 a, ne-eqb (carriedOf run i) (size p i) c, m, not-dropped k, lt-leb (deadline p i) (run .clock .0) l) refl
 
-  -- A job that is not met and not discarded is missed or open.
-  in-time : Asked p run i → (carriedOf run i ≡ size p i → ⊥) → (jobOf p i .grade ≡ hi) ⊎ (run .slow ≡ false) → (e : Ending) × OutcomeDecided p run i e
-  in-time a c k =
+  -- A job that is neither met nor ended nor discarded is missed or open.
+  in-time : Asked p run i → (carriedOf run i ≡ size p i → ⊥) → endedOf run i ≡ false → (jobOf p i .grade ≡ hi) ⊎ (run .slow ≡ false) → (e : Ending) × OutcomeDecided p run i e
+  in-time a c m k =
       if-less (run .clock .0) (deadline p i)
-      (λ l. (step.stillOpen, waiting a c k l))
-      (λ l. (step.missed, late a c k l))
+      (λ l. (step.stillOpen, waiting a c m k l))
+      (λ l. (step.missed, late a c m k l))
 
   some-ending : (e : Ending) × OutcomeDecided p run i e
   some-ending =
@@ -364,10 +365,12 @@ module _ (p : Plan) (run : Run) (i : ℕ) where
       let a = asked-exactly .0 s in
       if-same (carriedOf run i) (size p i)
       (λ c. (step.met, all-carried a c))
-      (λ c. ⊎-elim
-      (λ g. if-true (run .slow) (λ l. (step.discarded, dropped a c g l)) (λ l. in-time a c (inr l)))
-      (λ g. in-time a c (inl g))
-      (a .0 .grades i (omega (arith, a .1, a .0 .count)))))
+      (λ c. if-true (endedOf run i)
+      (λ m. (step.endedEarly, told-of a c m))
+      (λ m. ⊎-elim
+      (λ g. if-true (run .slow) (λ l. (step.discarded, dropped a c m g l)) (λ l. in-time a c m (inr l)))
+      (λ g. in-time a c m (inl g))
+      (a .0 .grades i (omega (arith, a .1, a .0 .count))))))
       (λ s. (step.refused unsound, not-asked (which s)))
     where
       which : (slotSound p run && ltb i (p .count)) ≡ false → (SoundRun p run → ⊥) ⊎ (p .count ≤ i)
@@ -379,3 +382,65 @@ module _ (p : Plan) (run : Run) (i : ℕ) where
   -- The outcome gives each answer exactly when `OutcomeDecided` says so.
   pub outcome-exactly : (e : Ending) → (outcome p run i ≡ e) ↔ OutcomeDecided p run i e
   outcome-exactly = exactly-decided (OutcomeDecided p run i) (outcome p run i) only-ending some-ending
+
+-- The word that a job has ended.
+module _ (p : Plan) (run : Run) (i : ℕ) where
+  -- The answer is the refusal found.
+  word-answer : toldEnded p run i .answer ≡ endFault p run i
+  unfolding toldEnded
+  word-answer = by (endFault p run i)
+    where
+      by : (r : Report) → endBy r run i .answer ≡ r
+      by [] = refl
+      by (number ∷ rest) = refl
+
+  open-exactly : (e : Ending) → (isOpen e ≡ true) ↔ (e ≡ step.stillOpen)
+  open-exactly step.met = (λ h. absurd (true≢false (sym h)), λ h. absurd (true≢false (sym (ap isOpen h))))
+  open-exactly step.endedEarly = (λ h. absurd (true≢false (sym h)), λ h. absurd (true≢false (sym (ap isOpen h))))
+  open-exactly step.discarded = (λ h. absurd (true≢false (sym h)), λ h. absurd (true≢false (sym (ap isOpen h))))
+  open-exactly step.missed = (λ h. absurd (true≢false (sym h)), λ h. absurd (true≢false (sym (ap isOpen h))))
+  open-exactly step.stillOpen = (λ h. refl, λ h. refl)
+  open-exactly (step.refused number) = (λ h. absurd (true≢false (sym h)), λ h. absurd (true≢false (sym (ap isOpen h))))
+
+  closed : (outcome p run i ≡ step.stillOpen → ⊥) → isOpen (outcome p run i) ≡ false
+  closed n = fails (isOpen (outcome p run i)) (open-exactly (outcome p run i)) n
+
+  only-word : (r : Report) → EndDecided p run i r → endFault p run i ≡ r
+  unfolding endFault
+  only-word r (word-unsound lack) = rw (fails (slotSound p run) (slot-sound-exactly p run) lack) refl
+  only-word r (no-such-job s l) = rw (slot-sound-exactly p run .1 s, le-ltb i (p .count) l) refl
+  only-word r (cannot-end a why) =
+      rw (
+        slot-sound-exactly p run .1 (a .0),
+        lt-ltb i (p .count) (a .1),
+        ⊎-elim
+            (λ l. ap (λ b. b || not (isOpen (outcome p run i))) (lt-ltb (run .clock .0) (release p i) l))
+            (λ n. ap (λ b. ltb (run .clock .0) (release p i) || not b) (closed n) ∙ or-true (ltb (run .clock .0) (release p i)))
+            why,
+      )
+      refl
+  only-word r (word-done a l e) =
+      rw (
+        slot-sound-exactly p run .1 (a .0),
+        lt-ltb i (p .count) (a .1),
+        le-ltb (run .clock .0) (release p i) l,
+        open-exactly (outcome p run i) .1 e,
+      )
+      refl
+
+  some-word : (r : Report) × EndDecided p run i r
+  some-word =
+      if-true (slotSound p run)
+      (λ s. let sound-run = slot-sound-exactly p run .0 s in
+      if-less i (p .count)
+      (λ l. if-less (run .clock .0) (release p i)
+      (λ early. (cannotEnd ∷ [], cannot-end (sound-run, l) (inl early)))
+      (λ late. if-true (isOpen (outcome p run i))
+      (λ e. ([], word-done (sound-run, l) late (open-exactly (outcome p run i) .0 e)))
+      (λ e. (cannotEnd ∷ [], cannot-end (sound-run, l) (inr (lacks (isOpen (outcome p run i)) (open-exactly (outcome p run i)) e))))))
+      (λ l. (noSuchJob ∷ [], no-such-job sound-run l)))
+      (λ s. (unsound ∷ [], word-unsound (lacks (slotSound p run) (slot-sound-exactly p run) s)))
+
+  -- The word gives each answer exactly when `EndDecided` says so.
+  pub end-exactly : (r : Report) → (toldEnded p run i .answer ≡ r) ↔ EndDecided p run i r
+  end-exactly = exactly-decided (EndDecided p run i) (toldEnded p run i .answer) (λ r d. word-answer ∙ only-word r d) some-word

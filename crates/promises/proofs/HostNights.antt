@@ -13,8 +13,9 @@ use lib.Seq.{length-sets, length-take-le}
 use Rattle.base.specs.Sum.{sum, on}
 use Rattle.base.specs.Below
 use Rattle.base.proofs.Stores.{sets-whole}
+use Rattle.base.proofs.Logic.{if-true}
 use Rattle.plan.specs.Edition.{mostJobs}
-use Rattle.plan.specs.Refusal.{outsideWindow, wrongTotal, overCapacity, belowFloorRule, clockAtEnd, speedAboveNormal, unsound, bufferTooShort}
+use Rattle.plan.specs.Refusal.{outsideWindow, wrongTotal, overCapacity, belowFloorRule, clockAtEnd, speedAboveNormal, unsound, bufferTooShort, noSuchJob, cannotEnd}
 use Rattle.plan.specs.Report.{Report, doneNumber, numberOf, first}
 use Rattle.plan.specs.Rules.{counted, noPlan, nameAllowed, namesHold, namesDiffer, gradesHold, boundsHold, rulesHold}
 use Rattle.plan.specs.Boundaries.{insert, boundariesTo}
@@ -22,22 +23,23 @@ use Rattle.plan.specs.Table.{noStray, sound}
 use Rattle.plan.specs.declared.kinds.Plan.{Plan}
 use Rattle.judge.specs.Verdict.{outsideFault, totalFault, capacityFault, isHiDeadline, floorFault, judged}
 use Rattle.dispatch.specs.declared.Run.{Run}
-use Rattle.dispatch.specs.Step.{SlotEffect, started, slotSound, slotFault, granted, advanced, slotBy, stepped, outcome}
-use Rattle.dispatch.proofs.RowShares.{added-length}
-use Rattle.hostmemory.specs.Memory.{planWords, runWords, locationWords, shortPlan, shortRun, jobsTo, planIn, planOf, jobsOut, planOut, marksIn, marksHold, runIn, runOf, markOut, runOut, runPut}
-use Rattle.hostmemory.proofs.RoundTrip.{run-back}
-use Rattle.gateway.specs.Calls.{HostStartEffect, HostStepEffect, startWords, located, shortLocation, slotWords, endingNumber, startCall, stepCall, outcomeCall}
-use Rattle.gateway.proofs.Laws.{all-long}
-use Rattle.promises.specs.Night.{isDone, AllowedCall, runAfter, had, Allowed}
-use Rattle.promises.specs.HostNight.{HostStart, HostStep, HostCall, step, returned, MeetsContract, callOf, runWordsLeft, planStarted, HostAllowed, HostNight, nightOf, hostHad, CallShown, Shown, HostKept}
+use Rattle.dispatch.specs.Step.{SlotEffect, WordEffect, started, slotSound, slotFault, stepped, outcome, endFault, toldEnded}
+use Rattle.dispatch.proofs.WordLimits.{word-leaves, word-long, slot-keeps-ended}
+use Rattle.hostmemory.specs.Memory.{planWords, runWords, locationWords, shortPlan, shortRun, jobsTo, planIn, planOf, jobsOut, planOut, areMarks, marksIn, marksHold, runIn, runOf, runOut, runPut}
+use Rattle.hostmemory.proofs.RoundTrip.{run-back, put-marks, carried-all, ended-all}
+use Rattle.gateway.specs.Calls.{HostStartEffect, HostStepEffect, HostEndEffect, startWords, located, shortLocation, slotWords, toldWords, endingNumber, startCall, stepCall, outcomeCall, endCall}
+use Rattle.gateway.proofs.Laws.{all-long, stepped-long}
+use Rattle.promises.specs.Night.{isDone, AllowedCall, runAfter, had, told, Allowed}
+use Rattle.promises.specs.HostNight.{HostStart, HostStep, HostCall, step, end, returned, MeetsContract, callOf, runWordsLeft, planStarted, HostAllowed, HostNight, nightOf, hostHad, CallShown, Shown, HostKept}
 use Rattle.plan.specs.Report.{isOneOf}
 use Rattle.promises.proofs.Cases.{tableOf, planE, tableE}
 use Rattle.promises.proofs.Strategy.{same-self}
-use Rattle.promises.proofs.RefusalNumbers.{judge-numbers, step-numbers}
+use Rattle.promises.proofs.RefusalNumbers.{judge-numbers, step-numbers, end-numbers}
 use Rattle.promises.proofs.Demand3.{promise-kept}
+use Rattle.promises.proofs.Progress.{unless-told}
 use Rattle.promises.proofs.OutcomesKept.{outcomes-kept}
 
--- Words with good marks are enough for a run, and encode one with a place for each job.
+-- Words with good marks are enough for a run.
 marks-long : (w : List ℕ) → marksHold w ≡ true → runWords ≤ length w
 unfolding marksHold
 marks-long w m = go (shortRun w) refl m
@@ -45,32 +47,6 @@ marks-long w m = go (shortRun w) refl m
     go : (t : Bool) → shortRun w ≡ t → cond t false (marksIn w) ≡ true → runWords ≤ length w
     go true e m = absurd (false≢true m)
     go false e m = ltb-false (length w) runWords e
-
-carried-long : (w : List ℕ) → runWords ≤ length w → length (runOf w .carried) ≡ mostJobs
-unfolding runOf runIn
-carried-long w h =
-    rw (le-ltb (length w) runWords h) (length-take-le mostJobs (drop 3 w) (omega (arith, length-drop 3 w)))
-
--- The words of a run have good marks.
-mark-small : (b : Bool) → leb (markOut b) 1 ≡ true
-mark-small true = refl
-mark-small false = refl
-
-pub put-marks : (w : List ℕ) (r : Run) → length (r .carried) ≡ mostJobs → runWords ≤ length w → marksHold (runPut w r) ≡ true
-unfolding marksHold runPut runOut
-put-marks w r e h =
-    let out = r .clock .0 ∷ markOut (r .slow) ∷ markOut (r .below) ∷ r .carried in
-    rw (le-ltb (length w) runWords h, length-sets w 0 out, le-ltb (length w) runWords h, sets-whole out w (omega arith))
-    (ap₂ _&&_ (mark-small (r .slow)) (mark-small (r .below)))
-
--- A slot's call leaves a run with as many places.
-stepped-long : (p : Plan) (table : List ℕ) (run : Run) (v : ℕ) (row : List ℕ) → length (stepped p table run v row .run .carried) ≡ length (run .carried)
-unfolding stepped advanced
-stepped-long p table run v row = go (slotFault p table run v row)
-  where
-    go : (r : Report) → length (slotBy r p table run v row .run .carried) ≡ length (run .carried)
-    go [] = added-length (counted p) (run .carried) (granted p table run v row)
-    go (number ∷ rest) = refl
 
 -- A start that returns 0 has an accepted plan, enough words, and leaves the words of the started run.
 record Started (plan table run location : List ℕ) : Type 0 where
@@ -145,11 +121,12 @@ module _ (plan table run : List ℕ) (v : ℕ) (grants : List ℕ) (m : marksHol
   slot-shown : StepShown (slotWords slot run) slot
   slot-shown =
       let long = marks-long run m in
-      let places : length (slot .run .carried) ≡ mostJobs = stepped-long (planOf plan) table (runOf run) v grants ∙ carried-long run long in
+      let places : length (slot .run .carried) ≡ mostJobs = stepped-long (planOf plan) table (runOf run) v grants ∙ carried-all run in
+      let ends : length (slot .run .ended) ≡ mostJobs = ap length (slot-keeps-ended (planOf plan) table (runOf run) v grants) ∙ ended-all run in
       record {
         number = number-done (slot .answer) refl;
-        run = run-back run (slot .run) places long;
-        marks = put-marks run (slot .run) places long;
+        run = run-back run (slot .run) places ends long;
+        marks = put-marks run (slot .run) places ends long;
         row = λ e. refl;
       }
 
@@ -161,9 +138,58 @@ module _ (plan table run : List ℕ) (v : ℕ) (grants : List ℕ) (m : marksHol
       go true s = refused-shown s
       go false s = slot-shown
 
--- A step never spoils good marks, whatever else it is lent.
+-- What the word that a job has ended leaves of words with good marks, beside the word on what they encode.
+record WordShown (call : HostEndEffect) (word : WordEffect) : Type 0 where
+  number : eqb (call .number) doneNumber ≡ isDone (word .answer)
+  run : runOf (call .run) ≡ word .run
+  marks : marksHold (call .run) ≡ true
+
+module _ (plan run : List ℕ) (position : ℕ) (m : marksHold run ≡ true) where
+  abbrev told-of : WordEffect
+  told-of = toldEnded (planOf plan) (runOf run) position
+
+  good-marks-end : endCall plan run position ≡ cond (shortPlan plan) (record { number = bufferTooShort; run = run }) (toldWords told-of run)
+  unfolding endCall
+  good-marks-end = rw (le-ltb (length run) runWords (marks-long run m), or-false (shortPlan plan), m) refl
+
+  no-plan-told : (r : Run) → toldEnded noPlan r position ≡ record { answer = unsound ∷ []; run = r }
+  unfolding slotSound endFault toldEnded
+  no-plan-told r = refl
+
+  refused-word-shown : shortPlan plan ≡ true → WordShown (record { number = bufferTooShort; run = run }) told-of
+  unfolding planOf
+  refused-word-shown s = rw (s, no-plan-told (runOf run)) (record { number = refl; run = refl; marks = m })
+
+  word-done : (a : Report) → told-of .answer ≡ a → eqb (numberOf a) doneNumber ≡ isDone a
+  word-done [] e = refl
+  word-done (number ∷ rest) e =
+      ne-eqb number doneNumber
+      (λ z. false≢true (sym (ap (isOneOf (unsound ∷ noSuchJob ∷ cannotEnd ∷ [])) z) ∙ end-numbers (planOf plan) (runOf run) position number rest e))
+
+  told-shown : WordShown (toldWords told-of run) told-of
+  told-shown =
+      let long = marks-long run m in
+      let places : length (told-of .run .carried) ≡ mostJobs = ap length (word-leaves (planOf plan) (runOf run) position .3) ∙ carried-all run in
+      let ends : length (told-of .run .ended) ≡ mostJobs = word-long (planOf plan) (runOf run) position ∙ ended-all run in
+      record {
+        number = word-done (told-of .answer) refl;
+        run = run-back run (told-of .run) places ends long;
+        marks = put-marks run (told-of .run) places ends long;
+      }
+
+  word-shown : WordShown (endCall plan run position) told-of
+  word-shown = rw good-marks-end (go (shortPlan plan) refl)
+    where
+      go : (b : Bool) → shortPlan plan ≡ b → WordShown (cond b (record { number = bufferTooShort; run = run }) (toldWords told-of run)) told-of
+      go true s = refused-word-shown s
+      go false s = told-shown
+
+-- Neither a step nor a word spoils good marks, whatever else it is lent.
 pub marks-stay-good : (plan table run : List ℕ) (v : ℕ) (grants : List ℕ) → marksHold run ≡ true → marksHold (stepCall plan table run v grants .run) ≡ true
 marks-stay-good plan table run v grants m = step-shown plan table run v grants m .marks
+
+pub marks-stay-good-told : (plan run : List ℕ) (position : ℕ) → marksHold run ≡ true → marksHold (endCall plan run position .run) ≡ true
+marks-stay-good-told plan run position m = word-shown plan run position m .marks
 
 -- The start's words have good marks and encode the started run.
 begun : (s : HostStart) → HostNight s [] → Started (s .plan) (s .table) (s .run) (s .location)
@@ -174,9 +200,9 @@ begun-words : (s : HostStart) → HostNight s [] → s .run-left ≡ runPut (s .
 unfolding HostNight
 begun-words s e = ap (λ (x : HostStartEffect). x .run) e ∙ begun s e .leaves
 
-started-long : (p : Plan) → length (started p .carried) ≡ mostJobs
+started-long : (p : Plan) → (length (started p .carried) ≡ mostJobs) × (length (started p .ended) ≡ mostJobs)
 unfolding started
-started-long p = length-replicate {A = ℕ} mostJobs 0
+started-long p = (length-replicate {A = ℕ} mostJobs 0, length-replicate {A = Bool} mostJobs false)
 
 -- The start of a host's night.
 start-of : (s : HostStart) (calls : List HostCall) → HostNight s calls → HostNight s []
@@ -219,15 +245,27 @@ call-shown (step c) words run marks was contract =
   where
     effect : Run → SlotEffect
     effect r = stepped (planOf (c .plan)) (c .table) r (c .speed) (c .row)
+call-shown (end c) words run marks was contract =
+    let so = word-shown (c .plan) words (c .position) marks in
+    record {
+      run-left = ap (λ (x : HostEndEffect). runOf (x .run)) contract ∙ so .run ∙ ap (λ r. effect r .run) was;
+      marks = ap (λ (x : HostEndEffect). marksHold (x .run)) contract ∙ so .marks;
+      done = ap (λ (x : HostEndEffect). eqb (x .number) doneNumber) contract ∙ so .number ∙ ap (λ r. isDone (effect r .answer)) was;
+      gives = λ i. refl;
+    }
+  where
+    effect : Run → WordEffect
+    effect r = toldEnded (planOf (c .plan)) r (c .position)
 
 -- Every host's night is shown to the host as the night that its words encode.
 pub night-shown : (s : HostStart) (calls : List HostCall) → HostNight s calls → Shown s calls
 unfolding HostNight Shown runAfter
 night-shown s [] h =
     let b = begun s h in
-    let e = begun-words s h in (
-      ap runOf e ∙ run-back (s .run) (started (planStarted s)) (started-long (planStarted s)) (b .run-long),
-      ap marksHold e ∙ put-marks (s .run) (started (planStarted s)) (started-long (planStarted s)) (b .run-long),
+    let e = begun-words s h in
+    let long = started-long (planStarted s) in (
+      ap runOf e ∙ run-back (s .run) (started (planStarted s)) (long .0) (long .1) (b .run-long),
+      ap marksHold e ∙ put-marks (s .run) (started (planStarted s)) (long .0) (long .1) (b .run-long),
     )
 night-shown s (c ∷ earlier) h =
     let before = night-shown s earlier (h .0) in
@@ -236,6 +274,7 @@ night-shown s (c ∷ earlier) h =
 -- What is asked of a host's call is what is asked of the night's call that it is.
 call-allowed : (s : HostStart) (c : HostCall) → HostAllowed s c → AllowedCall (planStarted s) (s .table) (callOf c)
 call-allowed s (step c) w = w
+call-allowed s (end c) w = w
 
 -- The night that the words encode is allowed.
 night-allowed : (s : HostStart) (calls : List HostCall) → HostNight s calls → Allowed (planStarted s) (s .table) (nightOf calls)
@@ -272,10 +311,13 @@ host-promise-kept s calls h =
       outcomes-kept = outcomes;
       endings = endings;
       essential = λ i k e come.
-          let came = rw run-is at come in (
-            had-by-rows s calls h i ∙ kept .essential i k e came .0,
-            endings i ∙ ap endingNumber (outcomes .essential-met i k e came),
-          );
+          let came = rw run-is at come in
+          if-true (told p (nightOf calls) i)
+          (λ t. inl (endings i ∙ ap endingNumber (outcomes .told-ended i k t)))
+          (λ t. inr (
+            had-by-rows s calls h i ∙ unless-told t (kept .essential i k e came) .0,
+            endings i ∙ ap endingNumber (outcomes .essential-met i k e came t),
+          ));
       no-more = λ i k. rw (had-by-rows s calls h i) (kept .no-more i k);
     }
 
@@ -326,7 +368,7 @@ unfolding tableOf sum Below.every Below.least nameAllowed namesHold namesDiffer 
 start-E-done = refl
 
 fast-E-refused : fastE .number ≡ speedAboveNormal
-unfolding tableOf sum Below.every Below.least Below.greatest nameAllowed namesHold namesDiffer gradesHold boundsHold rulesHold insert boundariesTo noStray sound first outsideFault totalFault capacityFault isHiDeadline floorFault judged started slotSound slotFault stepped jobsTo planIn planOf jobsOut planOut marksHold runIn runOf runOut runPut startCall stepCall
+unfolding tableOf sum Below.every Below.least Below.greatest nameAllowed namesHold namesDiffer gradesHold boundsHold rulesHold insert boundariesTo noStray sound first outsideFault totalFault capacityFault isHiDeadline floorFault judged started slotSound slotFault stepped jobsTo planIn planOf jobsOut planOut areMarks marksHold runIn runOf runOut runPut startCall stepCall
 fast-E-refused = refl
 
 planless-E-refused : planlessE .number ≡ bufferTooShort

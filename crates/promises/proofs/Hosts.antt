@@ -1,19 +1,19 @@
 -- Demand 1 for the calls for hosts: they return only the numbers that the rules give them, a
 -- refusal leaves the buffers as it must, and words that encode the same plan get the same.
 use mathlib.Core.Path.{_≡_, refl, sym, _∙_, ap}
-use mathlib.Core.Bool.{Bool, true, false, not, cond, _||_}
+use mathlib.Core.Bool.{Bool, true, false, not, cond, _||_, false≢true}
 use mathlib.Core.List.{List, [], _∷_, _++_}
 use mathlib.Core.Logic.{_≢_}
 use Prim.Native.Nat.{ℕ, _≤_}
 use native.Mathlib.Omega.{arith}
-use borrow.Author.Tests.{le-ltb}
+use borrow.Author.Tests.{le-ltb, not-false}
 use lib.Dec.{eqb, lit≤}
 use lib.IntN.{ℤ}
 use lib.ListN.{length, drop, replicate}
 use Rattle.plan.specs.Edition.{places}
 use Rattle.base.specs.Below
 use Rattle.plan.specs.Rules.{gradesHold, boundsHold}
-use Rattle.plan.specs.Refusal.{wrongVersion, wrongExtent, wrongRecordLength, wrongRates, wrongJobCount, wrongNameByte, nameTaken, wrongGrade, wrongJobBounds, tooManyRows, rowWithoutJob, rowWithoutInterval, rowWithoutUnits, rowOutOfOrder, outsideWindow, wrongTotal, overCapacity, belowFloorRule, clockAtEnd, speedAboveNormal, unsound, bufferTooShort}
+use Rattle.plan.specs.Refusal.{wrongVersion, wrongExtent, wrongRecordLength, wrongRates, wrongJobCount, wrongNameByte, nameTaken, wrongGrade, wrongJobBounds, tooManyRows, rowWithoutJob, rowWithoutInterval, rowWithoutUnits, rowOutOfOrder, outsideWindow, wrongTotal, overCapacity, belowFloorRule, clockAtEnd, speedAboveNormal, unsound, bufferTooShort, noSuchJob, cannotEnd}
 use Rattle.plan.specs.Same.{Same}
 use Rattle.fields.specs.Parsers.{version, opening, field}
 use Rattle.planfields.specs.Records.{head}
@@ -26,15 +26,17 @@ use Rattle.plan.specs.Report.{Report, doneNumber, numberOf}
 use Rattle.judge.specs.Slack as slack
 use Rattle.judge.specs.Slack.{slackFigure}
 use Rattle.dispatch.specs.Step as step
-use Rattle.dispatch.specs.Step.{SlotEffect, Ending, started, slotSound, slotFault, stepped, outcome}
-use Rattle.hostmemory.specs.Memory.{planWords, shortPlan, shortRun, jobsTo, planIn, planOf, jobsOut, planOut, planPut, marksHold, runIn, runOf, runOut, runPut}
-use Rattle.gateway.specs.Calls.{HostJudgeEffect, HostStartEffect, HostReadEffect, HostWriteEffect, noneNumber, metNumber, discardedNumber, missedNumber, openNumber, shortLocation, startWords, located, slotWords, endingNumber, figureNumber, slackWords, readWords, writtenNumber, wroteWords, judgeCall, startCall, stepCall, outcomeCall, slackCall, readCall, writeCall}
+use Rattle.dispatch.specs.Step.{SlotEffect, WordEffect, Ending, started, slotSound, slotFault, stepped, outcome, toldEnded}
+use Rattle.hostmemory.specs.Memory.{planWords, shortPlan, shortRun, jobsTo, planIn, planOf, jobsOut, planOut, planPut, areMarks, marksHold, runIn, runOf, runOut, runPut}
+use Rattle.gateway.specs.Calls.{HostJudgeEffect, HostStartEffect, HostReadEffect, HostWriteEffect, noneNumber, metNumber, endedNumber, discardedNumber, missedNumber, openNumber, shortLocation, startWords, located, slotWords, endingNumber, figureNumber, slackWords, readWords, writtenNumber, wroteWords, judgeCall, startCall, stepCall, outcomeCall, HostEndEffect, toldWords, endCall, slackCall, readCall, writeCall}
 use Rattle.gateway.proofs.RefusedStep.{refused-step-stays}
+use Rattle.dispatch.proofs.WordLimits.{refused-word-changes-nothing}
+use Rattle.hostmemory.proofs.RoundTrip.{run-again}
 use Rattle.promises.proofs.Cases.{tableOf, planE, tableE}
-use Rattle.promises.proofs.RefusalNumbers.{reader-numbers, writer-numbers, judge-numbers, slack-numbers, step-numbers, outcome-numbers}
+use Rattle.promises.proofs.RefusalNumbers.{reader-numbers, writer-numbers, judge-numbers, slack-numbers, step-numbers, outcome-numbers, end-numbers}
 use Rattle.plan.specs.Report.{isOneOf}
 use Rattle.promises.proofs.RefusalEffects.{reader-22-leaves, reader-other-leaves, writer-refused-leaves}
-use Rattle.promises.proofs.SameSlot.{same-slot, same-outcome, elseE, elseTable, same-E}
+use Rattle.promises.proofs.SameSlot.{same-slot, same-word, same-outcome, elseE, elseTable, same-E}
 use Rattle.promises.proofs.SameVerdict.{same-verdict, same-slack, started-same}
 use Rattle.promises.proofs.SameFile.{same-written}
 
@@ -170,17 +172,18 @@ host-step-numbers plan table run v grants = by (shortPlan plan || shortRun run) 
     by false true = refl
     by false false = report-one numbers (slot .answer) (step-numbers (planOf plan) table (runOf run) v grants)
 
--- `gateway_outcome`: the four outcomes, 21, 22.
+-- `gateway_outcome`: the five outcomes, 21, 22.
 pub host-outcome-numbers : (plan run : List ℕ) (position : ℕ)
-    → isOneOf (metNumber ∷ discardedNumber ∷ missedNumber ∷ openNumber ∷ unsound ∷ bufferTooShort ∷ []) (outcomeCall plan run position) ≡ true
+    → isOneOf (metNumber ∷ endedNumber ∷ discardedNumber ∷ missedNumber ∷ openNumber ∷ unsound ∷ bufferTooShort ∷ []) (outcomeCall plan run position) ≡ true
 unfolding outcomeCall
 host-outcome-numbers plan run position = by (shortPlan plan || shortRun run) (not (marksHold run))
   where
     numbers : List ℕ
-    numbers = metNumber ∷ discardedNumber ∷ missedNumber ∷ openNumber ∷ unsound ∷ bufferTooShort ∷ []
+    numbers = metNumber ∷ endedNumber ∷ discardedNumber ∷ missedNumber ∷ openNumber ∷ unsound ∷ bufferTooShort ∷ []
 
     by-answer : (e : Ending) → outcome (planOf plan) (runOf run) position ≡ e → isOneOf numbers (endingNumber e) ≡ true
     by-answer step.met e = refl
+    by-answer step.endedEarly e = refl
     by-answer step.discarded e = refl
     by-answer step.missed e = refl
     by-answer step.stillOpen e = refl
@@ -190,6 +193,56 @@ host-outcome-numbers plan run position = by (shortPlan plan || shortRun run) (no
     by true c = refl
     by false true = refl
     by false false = by-answer (outcome (planOf plan) (runOf run) position) refl
+
+-- `gateway_end`: 0, 21, 22, 25, 26.
+pub host-end-numbers : (plan run : List ℕ) (position : ℕ)
+    → isOneOf (doneNumber ∷ unsound ∷ noSuchJob ∷ cannotEnd ∷ bufferTooShort ∷ []) (endCall plan run position .number) ≡ true
+unfolding endCall
+host-end-numbers plan run position = by (shortPlan plan || shortRun run) (not (marksHold run))
+  where
+    numbers : List ℕ
+    numbers = unsound ∷ noSuchJob ∷ cannotEnd ∷ bufferTooShort ∷ []
+
+    word : WordEffect
+    word = toldEnded (planOf plan) (runOf run) position
+
+    longer : (x : ℕ) → isOneOf (unsound ∷ noSuchJob ∷ cannotEnd ∷ []) x ≡ true → isOneOf numbers x ≡ true
+    longer x h = go (eqb x unsound) (eqb x noSuchJob) (eqb x cannotEnd) (eqb x bufferTooShort) h
+      where
+        go : (a b c d : Bool) → (a || (b || (c || false))) ≡ true → (a || (b || (c || (d || false)))) ≡ true
+        go true b c d h = refl
+        go false true c d h = refl
+        go false false true d h = refl
+        go false false false d h = absurd (false≢true h)
+
+    by : (b c : Bool)
+        → isOneOf (doneNumber ∷ numbers)
+        (cond b (record { number = bufferTooShort; run = run }) (cond c (record { number = unsound; run = run }) (toldWords word run)) .number)
+        ≡ true
+    by true c = refl
+    by false true = refl
+    by false false = report-one numbers (word .answer) (λ n rest e. longer n (end-numbers (planOf plan) (runOf run) position n rest e))
+
+-- A refused `gateway_end` leaves the lent run as it was, word for word.
+pub host-end-leaves : (plan run : List ℕ) (position : ℕ) → endCall plan run position .number ≢ doneNumber → endCall plan run position .run ≡ run
+unfolding endCall
+host-end-leaves plan run position = by (shortPlan plan || shortRun run) (not (marksHold run)) refl
+  where
+    word : WordEffect
+    word = toldEnded (planOf plan) (runOf run) position
+
+    left : Bool → Bool → HostEndEffect
+    left b c = cond b (record { number = bufferTooShort; run = run }) (cond c (record { number = unsound; run = run }) (toldWords word run))
+
+    by-answer : marksHold run ≡ true → (a : Report) → word .answer ≡ a → numberOf a ≢ doneNumber → runPut run (word .run) ≡ run
+    by-answer m [] e busy = absurd (busy refl)
+    by-answer m (n ∷ rest) e busy =
+        ap (runPut run) (refused-word-changes-nothing (planOf plan) (runOf run) position n rest e) ∙ run-again run m
+
+    by : (b c : Bool) → not (marksHold run) ≡ c → left b c .number ≢ doneNumber → left b c .run ≡ run
+    by true c m busy = refl
+    by false true m busy = refl
+    by false false m busy = by-answer (not-false (marksHold run) m) (word .answer) refl busy
 
 -- `gateway_read`: 22 leaves the table unchanged; any other refusal leaves zeros in its own
 -- places, and the words of a plan of zeros.
@@ -295,6 +348,10 @@ module _ (plan table other-plan other : List ℕ) (same : Same (planOf plan) tab
   unfolding outcomeCall
   same-host-outcome run position = rw (both, same-outcome (planOf plan) table (planOf other-plan) other same (runOf run) position) refl
 
+  pub same-host-end : (run : List ℕ) (position : ℕ) → endCall plan run position ≡ endCall other-plan run position
+  unfolding endCall
+  same-host-end run position = rw (both, same-word (planOf plan) table (planOf other-plan) other same (runOf run) position) refl
+
   pub same-host-write : (out : List ℕ) (was : ℕ) → writeCall plan table out was ≡ writeCall other-plan other out was
   unfolding writeCall
   same-host-write out was = rw (both, same-written (planOf plan) table (planOf other-plan) other same out) refl
@@ -334,6 +391,6 @@ no-location-host-stays = host-start-leaves wordsE tableE (7 ∷ []) [] (λ e. ab
 
 too-fast-host-stays : (stepCall wordsE tableE (runOut (started planE)) 3 (7 ∷ 7 ∷ []) .run ≡ runOut (started planE))
     × (stepCall wordsE tableE (runOut (started planE)) 3 (7 ∷ 7 ∷ []) .grants ≡ 7 ∷ 7 ∷ [])
-unfolding tableOf Below.every Below.least Below.greatest gradesHold boundsHold started slotSound slotFault stepped jobsTo planIn planOf jobsOut planOut runIn runOf runOut marksHold stepCall
+unfolding tableOf Below.every Below.least Below.greatest gradesHold boundsHold started slotSound slotFault stepped jobsTo planIn planOf jobsOut planOut runIn runOf runOut areMarks marksHold stepCall
 too-fast-host-stays =
     refused-step-stays wordsE tableE (runOut (started planE)) 3 (7 ∷ 7 ∷ []) (λ e. let z : _≡_ {A = ℕ} speedAboveNormal doneNumber = e in absurd (omega arith))

@@ -1,8 +1,8 @@
 -- Progress: in an allowed night of an accepted plan a regular call is done until the clock
 -- stands at the last deadline, so that enough of them bring every deadline.
 use mathlib.Core.Path.{_≡_, refl, sym, _∙_, ap, ap₂}
-use mathlib.Core.Logic.{inl, inr, ⊎-elim}
-use mathlib.Core.Bool.{true, false, _&&_, true≢false}
+use mathlib.Core.Logic.{_⊎_, inl, inr, ⊎-elim}
+use mathlib.Core.Bool.{Bool, true, false, _&&_, true≢false}
 use mathlib.Core.List.{List, [], _∷_}
 use Prim.Native.Nat.{ℕ, _+_, _≤_, _<_, min}
 use native.Mathlib.Omega.{arith}
@@ -21,11 +21,12 @@ use Rattle.plan.specs.Report.{Report}
 use Rattle.dispatch.specs.declared.Run.{Run}
 use Rattle.dispatch.specs.Dues.{carriedOf}
 use Rattle.dispatch.specs.Step.{started, slotSound, slotFault, advanced, slotBy, stepped}
-use Rattle.promises.specs.Night.{SlotCall, Call, slot, isDone, slotEffect, answerOf, runLeft, isSlot, AllowedCall, runAfter, clockAt, Allowed, Regular, HasRegular, none-yet, then-refused, then-regular, slots, nightAt, Between}
+use Rattle.promises.specs.Night.{SlotCall, Call, slot, word, isDone, slotEffect, answerOf, runLeft, isSlot, AllowedCall, runAfter, clockAt, told, Allowed, Regular, HasRegular, none-yet, then-refused, then-regular, slots, nightAt, Between}
 use Rattle.plan.proofs.Soundness.{Bounded, rules-parts, sound-parts, sound-bounded}
 use Rattle.dispatch.proofs.Alike.{done}
 use Rattle.promises.proofs.SameSlot.{same-slot, last-same}
-use Rattle.promises.proofs.NightInvariant.{refused-keeps, carried-is-had, kept}
+use Rattle.promises.proofs.NightInvariant.{refused-keeps, refused-tells-none, carried-is-had, kept}
+use Rattle.dispatch.proofs.WordLimits.{word-leaves}
 use Rattle.promises.proofs.Demand2.{judge-is-exact}
 use Rattle.promises.proofs.Strategy.{same-self}
 
@@ -38,6 +39,10 @@ answer-is-fault p table run v row = go (slotFault p table run v row)
     go [] = refl
     go (number ∷ rest) = refl
 
+-- What holds unless a job was told ended holds if it was not.
+pub unless-told : {A : Type 0} {b : Bool} → b ≡ false → (b ≡ true) ⊎ A → A
+unless-told e w = ⊎-elim (λ t. absurd (true≢false (sym t ∙ e))) (λ a. a) w
+
 -- A slot moves the clock by one, and every other call leaves it.
 pub clock-moves : (c : Call) (run : Run) → runLeft c run .clock .0 ≡ run .clock .0 + on (isSlot c run) 1
 unfolding stepped advanced
@@ -48,6 +53,7 @@ clock-moves (slot c) run = go (slotFault (c .plan) (c .table) run (c .speed) (c 
         ≡ run .clock .0 + on (isDone (slotBy r (c .plan) (c .table) run (c .speed) (c .row) .answer)) 1
     go [] = refl
     go (number ∷ rest) = omega arith
+clock-moves (word w) run = omega (arith, ap (λ t. t .0) (word-leaves (w .plan) run (w .position) .0))
 
 done-empty : (r : Report) → isDone r ≡ true → r ≡ []
 done-empty [] e = refl
@@ -87,6 +93,7 @@ module _ (p : Plan) (table : List ℕ) (accepted : judged p table ≡ []) where
       let fault-free = sym (answer-is-fault (c .plan) (c .table) run (c .speed) (c .row)) ∙ done-empty _ e in
       omega (arith, done (c .plan) (c .table) run (c .speed) (c .row) fault-free .before-end, rw e at moves, last-same p table (c .plan) (c .table) (w .0)))
       (λ e. omega (arith, rw e at moves, before))
+  call-not-past (word w) run same before = omega (arith, clock-moves (word w) run, before)
 
   -- The clock of an allowed night is never past the last deadline.
   pub clock-not-past : (night : List Call) → Allowed p table night → clockAt p night ≤ lastDeadline p
@@ -142,6 +149,14 @@ module _ (p : Plan) (table : List ℕ) (accepted : judged p table ≡ []) where
   regular-allowed k night none-yet = tt
   regular-allowed k night (then-refused {k = m} {earlier = earlier} e h) = (regular-allowed m earlier h, inl e)
   regular-allowed k night (then-regular {k = m} {earlier = earlier} r h) = (regular-allowed m earlier h, inr (r .same, r .floor, r .normal))
+
+  -- In such a night no job is told ended.
+  pub regular-untold : (k : ℕ) (night : List Call) → HasRegular p table k night → (i : ℕ) → told p night i ≡ false
+  unfolding told
+  regular-untold k night none-yet i = refl
+  regular-untold k night (then-refused {k = m} {c = c} {earlier = earlier} e h) i =
+      rw (regular-untold m earlier h i, refused-tells-none c (runAfter p earlier) e i) refl
+  regular-untold k night (then-regular {k = m} {earlier = earlier} r h) i = rw (regular-untold m earlier h i) refl
 
   -- After refused calls and k regular ones the clock is the first release and k, up to the last
   -- deadline.

@@ -16,16 +16,18 @@ use Rattle.plan.specs.declared.kinds.Plan.{Plan}
 use Rattle.judge.specs.Verdict.{judged}
 use Rattle.dispatch.specs.Order
 use Rattle.dispatch.specs.Step.{started, slotSound, slotFault, granted, added, advanced, stepped}
-use Rattle.promises.specs.Night.{Call, slot, isDone, answerOf, isSlow, runAfter, clockAt, had, Allowed, Kept, nightAt}
+use Rattle.promises.specs.Night.{Call, slot, word, isDone, answerOf, isSlow, runAfter, clockAt, had, told, Allowed, Kept, nightAt}
 use Rattle.promises.proofs.Cases.{planWith, tableOf, planE, tableE, P9}
 use Rattle.promises.proofs.Demand2.{accepted-E}
 use Rattle.promises.proofs.Demand3.{accepted-P9}
+use Rattle.promises.proofs.Progress.{unless-told}
 use Rattle.promises.proofs.Strategy.{same-self, night-allowed}
 
 -- `AllowedCall` and `Allowed` with any speed up to the normal rate in the place of one from the
 -- floor on.
 abbrev pub CallFromZero : Plan → List ℕ → Call → Type 0
 CallFromZero p table (slot c) = Same p table (c .plan) (c .table) × (0 ≤ c .speed) × (c .speed ≤ p .n .0)
+CallFromZero p table (word w) = Same p table (w .plan) table
 
 unfoldable pub AllowedFromZero : Plan → List ℕ → List Call → Type 0
 AllowedFromZero p table [] = Unit {0}
@@ -52,10 +54,11 @@ below-floor-short = (refl, refl, refl, refl)
 -- So demand 3 would be false with speeds below the floor.
 pub no-promise-below-the-floor :
     ((p : Plan) (table : List ℕ) → judged p table ≡ [] → (night : List Call) → AllowedFromZero p table night → Kept p night) → ⊥
+unfolding told
 no-promise-below-the-floor promised =
     let e = below-floor-short in
     let kept = promised (planWith (P9 .jobs)) (tableOf (P9 .rows)) accepted-P9 belowFloor below-floor-allowed in
-    absurd (omega (arith, kept .essential 1 (lit< tt) refl (omega (arith, e .1)) .0, e .2, e .3))
+    absurd (omega (arith, unless-told refl (kept .essential 1 (lit< tt) refl (omega (arith, e .1))) .0, e .2, e .3))
 
 -- `slowedBefore` without the last slot before time D.
 unfoldable pub slowedEarlier : Plan → ℕ → List Call → Bool

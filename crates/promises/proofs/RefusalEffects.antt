@@ -130,6 +130,7 @@ line-refused-leaves words out number e = by (ltb (length out) (length words)) e
 pub outcome-line-refused-leaves : (name : ℕ) (ended : Ending) (carried : ℕ) (out : List ℕ) (number : ℕ)
     → outcomePrinted name ended carried out .answer ≡ line.withheld number → outcomePrinted name ended carried out .out ≡ out
 outcome-line-refused-leaves name step.met carried out number e = line-refused-leaves (outcomeLine name (text "met") carried) out number e
+outcome-line-refused-leaves name step.endedEarly carried out number e = line-refused-leaves (outcomeLine name (text "ended") carried) out number e
 outcome-line-refused-leaves name step.discarded carried out number e = line-refused-leaves (outcomeLine name (text "discarded") carried) out number e
 outcome-line-refused-leaves name step.missed carried out number e = line-refused-leaves (outcomeLine name (text "missed") carried) out number e
 outcome-line-refused-leaves name step.stillOpen carried out number e = line-refused-leaves (outcomeLine name (text "open") carried) out number e

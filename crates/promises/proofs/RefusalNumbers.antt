@@ -10,9 +10,9 @@ use Rattle.base.specs.Sum.{sum}
 use Rattle.plan.specs.Edition.{mostIntervals, places}
 use Rattle.plan.specs.Versions.{newestVersion, countAllowedIn, rowsAllowedIn}
 use Rattle.planfields.specs.Layout.{jobLength, rowLength}
-use Rattle.plan.specs.Refusal.{wrongVersion, wrongExtent, wrongRecordLength, wrongRates, wrongJobCount, wrongNameByte, nameTaken, wrongGrade, wrongJobBounds, tooManyRows, rowWithoutJob, rowWithoutInterval, rowWithoutUnits, rowOutOfOrder, outsideWindow, wrongTotal, overCapacity, belowFloorRule, clockAtEnd, speedAboveNormal, unsound, bufferTooShort}
+use Rattle.plan.specs.Refusal.{wrongVersion, wrongExtent, wrongRecordLength, wrongRates, wrongJobCount, wrongNameByte, nameTaken, wrongGrade, wrongJobBounds, tooManyRows, rowWithoutJob, rowWithoutInterval, rowWithoutUnits, rowOutOfOrder, outsideWindow, wrongTotal, overCapacity, belowFloorRule, clockAtEnd, speedAboveNormal, unsound, bufferTooShort, noSuchJob, cannotEnd}
 use Rattle.base.specs.Below
-use Rattle.plan.specs.Rules.{counted, size, deadline, isHi, ratesAllowed, nameAllowed, isAbsent, gradeAllowed, windowAllowed, sizeAllowed, namesHold, namesDiffer, gradesHold, boundsHold, rulesHold}
+use Rattle.plan.specs.Rules.{counted, release, size, deadline, isHi, ratesAllowed, nameAllowed, isAbsent, gradeAllowed, windowAllowed, sizeAllowed, namesHold, namesDiffer, gradesHold, boundsHold, rulesHold}
 use Rattle.plan.specs.Boundaries.{insert, boundariesTo, boundary, intervals, lastDeadline}
 use Rattle.plan.specs.Table.{place, noStray, sound}
 use Rattle.plan.specs.declared.kinds.Job.{Job}
@@ -30,9 +30,9 @@ use Rattle.judge.specs.Verdict.{isOutside, isPair, isHiDeadline, fallsShort, ou
 use Rattle.plan.specs.Report.{Report, orElse, fault, first}
 use Rattle.judge.specs.Slack.{refused, leastSlack, unless, slackFigure}
 use Rattle.judge.proofs.LeastSlack.{first-of-all}
-use Rattle.dispatch.specs.Dues.{carriedOf}
+use Rattle.dispatch.specs.Dues.{carriedOf, endedOf}
 use Rattle.dispatch.specs.Step as step
-use Rattle.dispatch.specs.Step.{started, slotSound, slotFault, slotBy, stepped, outcome}
+use Rattle.dispatch.specs.Step.{started, slotSound, slotFault, slotBy, stepped, outcome, isOpen, endFault, endBy, toldEnded}
 use Rattle.dispatch.specs.declared.Run.{Run}
 use Rattle.lines.specs.Answers as line
 use Rattle.lines.specs.Answers.{refusal, printed}
@@ -330,19 +330,49 @@ step-numbers p table run v grants number rest e =
     by-answer [] = refl
     by-answer (number ∷ rest) = refl
 
+-- The word that a job has ended is refused only by 21, 25 and 26.
+pub end-numbers : (p : Plan) (run : Run) (position number : ℕ) (rest : Report) → toldEnded p run position .answer ≡ number ∷ rest
+    → isOneOf (unsound ∷ noSuchJob ∷ cannotEnd ∷ []) number ≡ true
+unfolding endFault toldEnded
+end-numbers p run i number rest e =
+    is-within numbers
+    (within-or numbers (fault bad (unsound ∷ [])) (orElse (fault none (noSuchJob ∷ [])) (fault over (cannotEnd ∷ [])))
+    (within-fault numbers bad unsound [] refl)
+    (within-or numbers (fault none (noSuchJob ∷ [])) (fault over (cannotEnd ∷ [])) (within-fault numbers none noSuchJob [] refl)
+    (within-fault numbers over cannotEnd [] refl)))
+    (by-answer (endFault p run i) ∙ e)
+  where
+    numbers : List ℕ
+    numbers = unsound ∷ noSuchJob ∷ cannotEnd ∷ []
+
+    bad : Bool
+    bad = not (slotSound p run)
+
+    none : Bool
+    none = not (ltb i (p .count))
+
+    over : Bool
+    over = ltb (run .clock .0) (release p i) || not (isOpen (outcome p run i))
+
+    by-answer : (l : Report) → l ≡ endBy l run i .answer
+    by-answer [] = refl
+    by-answer (number ∷ rest) = refl
+
 -- An outcome is refused only by 21.
 pub outcome-numbers : (p : Plan) (run : Run) (position number : ℕ) → outcome p run position ≡ step.refused number → number ≡ unsound
 unfolding outcome
 outcome-numbers p run i number e =
-    by (not (slotSound p run && ltb i (p .count))) (eqb (carriedOf run i) (size p i)) (not (isHi p i) && run .slow) (leb (deadline p i) (run .clock .0)) e
+    by (not (slotSound p run && ltb i (p .count))) (eqb (carriedOf run i) (size p i)) (endedOf run i) (not (isHi p i) && run .slow) (leb (deadline p i) (run .clock .0)) e
   where
-    by : (a b c d : Bool) → cond a (step.refused unsound) (cond b step.met (cond c step.discarded (cond d step.missed step.stillOpen))) ≡ step.refused number
+    by : (a b e c d : Bool)
+        → cond a (step.refused unsound) (cond b step.met (cond e step.endedEarly (cond c step.discarded (cond d step.missed step.stillOpen)))) ≡ step.refused number
         → number ≡ unsound
-    by true b c d e = cc
-    by false true c d e = absurd (let z : _≡_ {A = ℕ} 0 1 = cc in omega arith)
-    by false false true d e = absurd (let z : _≡_ {A = ℕ} 0 1 = cc in omega arith)
-    by false false false true e = absurd (let z : _≡_ {A = ℕ} 0 1 = cc in omega arith)
-    by false false false false e = absurd (let z : _≡_ {A = ℕ} 0 1 = cc in omega arith)
+    by true b e c d is = cc
+    by false true e c d is = absurd (let z : _≡_ {A = ℕ} 0 1 = cc in omega arith)
+    by false false true c d is = absurd (let z : _≡_ {A = ℕ} 0 1 = cc in omega arith)
+    by false false false true d is = absurd (let z : _≡_ {A = ℕ} 0 1 = cc in omega arith)
+    by false false false false true is = absurd (let z : _≡_ {A = ℕ} 0 1 = cc in omega arith)
+    by false false false false false is = absurd (let z : _≡_ {A = ℕ} 0 1 = cc in omega arith)
 
 -- A line is refused only by 22.
 pub line-numbers : (text out : List ℕ) (number : ℕ) → printed text out .answer ≡ line.withheld number → number ≡ bufferTooShort

@@ -11,8 +11,8 @@ use Rattle.base.specs.Sum.{sum}
 use Rattle.base.specs.Below
 use Rattle.plan.specs.Edition.{mostJobs, mostRows, mostRate, places}
 use Rattle.plan.specs.Versions.{newestVersion}
-use Rattle.plan.specs.Refusal.{wrongVersion, wrongExtent, wrongRecordLength, wrongRates, wrongJobCount, wrongNameByte, nameTaken, wrongGrade, wrongJobBounds, tooManyRows, rowWithoutJob, rowWithoutInterval, rowWithoutUnits, rowOutOfOrder, outsideWindow, wrongTotal, overCapacity, belowFloorRule, clockAtEnd, speedAboveNormal, unsound, bufferTooShort}
-use Rattle.plan.specs.Report.{Report, first}
+use Rattle.plan.specs.Refusal.{wrongVersion, wrongExtent, wrongRecordLength, wrongRates, wrongJobCount, wrongNameByte, nameTaken, wrongGrade, wrongJobBounds, tooManyRows, rowWithoutJob, rowWithoutInterval, rowWithoutUnits, rowOutOfOrder, outsideWindow, wrongTotal, overCapacity, belowFloorRule, clockAtEnd, speedAboveNormal, unsound, bufferTooShort, noSuchJob, cannotEnd}
+use Rattle.plan.specs.Report.{Report, doneNumber, first}
 use Rattle.plan.specs.Rules.{lo, hi, noPlan, nameAllowed, isAbsent, namesHold, namesDiffer, gradesHold, boundsHold, rulesHold}
 use Rattle.plan.specs.Boundaries.{insert, boundariesTo}
 use Rattle.plan.specs.Table.{noStray, sound}
@@ -29,9 +29,9 @@ use Rattle.judge.specs.Verdict.{outsideFault, totalFault, capacityFault, isHiDe
 use Rattle.judge.specs.Slack.{Figure, refused, slackOf, slackFigure}
 use Rattle.dispatch.specs.declared.Run.{Run}
 use Rattle.dispatch.specs.Step as step
-use Rattle.dispatch.specs.Step.{started, noRun, startFrom, startIn, slotSound, slotFault, stepped, outcome}
-use Rattle.hostmemory.specs.Memory.{planWords, runWords, jobsTo, planIn, planOf, jobsOut, planOut, marksHold, runIn, runOf}
-use Rattle.gateway.specs.Calls.{openNumber, judgeCall, startCall, stepCall, outcomeCall, readCall, writeCall}
+use Rattle.dispatch.specs.Step.{started, noRun, startFrom, startIn, slotSound, slotFault, stepped, outcome, endFault, endedWith, toldEnded}
+use Rattle.hostmemory.specs.Memory.{planWords, runWords, jobsTo, planIn, planOf, jobsOut, planOut, areMarks, marksHold, runIn, runOf}
+use Rattle.gateway.specs.Calls.{openNumber, judgeCall, startCall, stepCall, outcomeCall, endCall, readCall, writeCall}
 use Rattle.promises.proofs.Cases.{job, padded, planWith, tableOf, capitalMirror, smallMirror, planE, tableE}
 
 -- A file with the version and the right length before its body.
@@ -232,7 +232,7 @@ writer-order = (refl, refl, refl, refl)
 
 -- A run of plan E at a clock, with what is carried for its jobs.
 abbrev runE : ℕ → Bool → ℕ → ℕ → Run
-runE clock slow first second = record { clock = record { 0 = clock }; slow = slow; below = false; carried = padded mostJobs 0 (first ∷ second ∷ []) }
+runE clock slow first second = record { clock = record { 0 = clock }; slow = slow; below = false; carried = padded mostJobs 0 (first ∷ second ∷ []); ended = replicate mostJobs false }
 
 -- The step: 21 (more is carried than the size) although the table is too short; 22 (table, or grant
 -- row) although the clock stands at the last deadline; 19 although the speed is above n; then 20.
@@ -257,6 +257,28 @@ pub outcome-order : (outcome planE (runE 5 false 7 8) 1 ≡ step.refused unsound
 unfolding Below.every Below.least Below.greatest gradesHold boundsHold slotSound outcome
 outcome-order = (refl, refl, refl, refl, refl, refl, refl)
 
+-- The word that a job has ended: 21 (more is carried for another than its size) although there is no such job; 25 where no
+-- job is, of which the outcome says 21; 26 for a job that is met, discarded or missed, and before the release, where the
+-- outcome is open; taken at the release; and ended, 26 for the same job again, which has not been given anything.
+pub end-order : (toldEnded planE (runE 5 false 7 8) 2 .answer ≡ unsound ∷ [])
+    × (toldEnded planE (runE 5 false 6 8) 2 .answer ≡ noSuchJob ∷ [])
+    × (toldEnded planE (runE 4 false 6 4) 0 .answer ≡ cannotEnd ∷ [])
+    × (toldEnded planE (runE 4 true 5 4) 0 .answer ≡ cannotEnd ∷ [])
+    × (toldEnded planE (runE 5 false 5 4) 0 .answer ≡ cannotEnd ∷ [])
+    × (toldEnded planE (runE 0 false 0 0) 1 .answer ≡ cannotEnd ∷ [])
+    × (toldEnded planE (runE 1 false 2 0) 1 .answer ≡ [])
+    × (outcome planE (toldEnded planE (runE 1 false 2 0) 1 .run) 1 ≡ step.endedEarly)
+    × (toldEnded planE (toldEnded planE (runE 1 false 2 0) 1 .run) 1 .answer ≡ cannotEnd ∷ [])
+unfolding Below.every Below.least Below.greatest gradesHold boundsHold slotSound outcome endFault toldEnded
+end-order = (refl, refl, refl, refl, refl, refl, refl, refl, refl)
+
+-- An ended LO job stays ended when the slow mark is set later, and a run made by hand with the size carried and the mark set is met.
+pub ended-before-discarded : (outcome planE (endedWith (runE 4 true 5 4) 0) 0 ≡ step.endedEarly)
+    × (outcome planE (endedWith (runE 5 false 5 4) 0) 0 ≡ step.endedEarly)
+    × (outcome planE (endedWith (runE 4 true 6 4) 0) 0 ≡ step.met)
+unfolding Below.every Below.least Below.greatest gradesHold boundsHold slotSound outcome
+ended-before-discarded = (refl, refl, refl)
+
 -- The words of plan E, word for word: n, d, the count, and for each job its name, grade, release,
 -- size and deadline; then zeros.
 abbrev pub wordsOfE : List ℕ
@@ -271,14 +293,14 @@ pub words-encode-E : planOf wordsOfE ≡ planE
 unfolding jobsTo planIn planOf
 words-encode-E = refl
 
--- The words of a run, word for word: clock, slow mark, below-floor mark, and the carried units.
+-- The words of a run, word for word: clock, slow mark, below-floor mark, the carried units and the ended marks.
 abbrev runWordsOf : ℕ → ℕ → ℕ → List ℕ
-runWordsOf clock slow below = clock ∷ slow ∷ below ∷ 5 ∷ 3 ∷ replicate 30 0
+runWordsOf clock slow below = clock ∷ slow ∷ below ∷ 5 ∷ 3 ∷ replicate 62 0
 
 -- They encode that run. Either mark is read from its own word.
 pub words-encode-run : (runOf (runWordsOf 4 1 0) ≡ runE 4 true 5 3)
     × (runOf (runWordsOf 4 0 1)
-    ≡ record { clock = record { 0 = 4 }; slow = false; below = true; carried = padded mostJobs 0 (5 ∷ 3 ∷ []) })
+    ≡ record { clock = record { 0 = 4 }; slow = false; below = true; carried = padded mostJobs 0 (5 ∷ 3 ∷ []); ended = replicate mostJobs false })
 unfolding runIn runOf
 words-encode-run = (refl, refl)
 
@@ -290,7 +312,7 @@ pub host-step-order : (stepCall [] tableE (runWordsOf 4 2 0) 3 [] .number ≡ bu
     × (stepCall wordsOfE [] (runWordsOf 4 0 2) 3 [] .number ≡ unsound)
     × (stepCall wordsOfE [] (runWordsOf 11 0 0) 3 [] .number ≡ unsound)
     × (stepCall wordsOfE [] (runWordsOf 4 0 0) 3 [] .number ≡ bufferTooShort)
-unfolding tableOf Below.every Below.least Below.greatest gradesHold boundsHold slotSound slotFault stepped jobsTo planIn planOf marksHold runIn runOf stepCall
+unfolding tableOf Below.every Below.least Below.greatest gradesHold boundsHold slotSound slotFault stepped jobsTo planIn planOf areMarks marksHold runIn runOf stepCall
 host-step-order = (refl, refl, refl, refl, refl, refl)
 
 -- The outcome: the same, and 21 for a position without a job.
@@ -299,8 +321,18 @@ pub host-outcome-order : (outcomeCall [] (runWordsOf 4 2 0) 2 ≡ bufferTooShort
     × (outcomeCall wordsOfE (runWordsOf 4 2 0) 0 ≡ unsound)
     × (outcomeCall wordsOfE (runWordsOf 4 0 0) 2 ≡ unsound)
     × (outcomeCall wordsOfE (runWordsOf 4 0 0) 0 ≡ openNumber)
-unfolding Below.every Below.least Below.greatest gradesHold boundsHold slotSound outcome jobsTo planIn planOf marksHold runIn runOf outcomeCall
+unfolding Below.every Below.least Below.greatest gradesHold boundsHold slotSound outcome jobsTo planIn planOf areMarks marksHold runIn runOf outcomeCall
 host-outcome-order = (refl, refl, refl, refl, refl)
+
+-- The word: 22 and 21 in that order, as the outcome; then 25, and 26 before the release.
+pub host-end-order : (endCall [] (runWordsOf 4 2 0) 2 .number ≡ bufferTooShort)
+    × (endCall wordsOfE (4 ∷ 2 ∷ []) 2 .number ≡ bufferTooShort)
+    × (endCall wordsOfE (runWordsOf 4 2 0) 2 .number ≡ unsound)
+    × (endCall wordsOfE (runWordsOf 4 0 0) 2 .number ≡ noSuchJob)
+    × (endCall wordsOfE (runWordsOf 0 0 0) 1 .number ≡ cannotEnd)
+    × (endCall wordsOfE (runWordsOf 4 0 0) 0 .number ≡ doneNumber)
+unfolding Below.every Below.least Below.greatest gradesHold boundsHold slotSound outcome endFault toldEnded jobsTo planIn planOf areMarks marksHold runIn runOf endCall
+host-end-order = (refl, refl, refl, refl, refl, refl)
 
 -- Judge and start: 22 for a location of one word although the plan is unsound, which is 21 with a
 -- location of two.

@@ -15,7 +15,7 @@ use Rattle.plan.specs.Same.{Same}
 use Rattle.plan.specs.declared.kinds.Job.{Job}
 use Rattle.plan.specs.declared.kinds.Plan.{Plan}
 use Rattle.dispatch.specs.declared.Run.{Run}
-use Rattle.dispatch.specs.Step.{started, stepped, outcome}
+use Rattle.dispatch.specs.Step.{started, stepped, outcome, toldEnded}
 use Rattle.dispatch.proofs.Alike as alike
 use Rattle.dispatch.proofs.Alike.{Alike}
 use Rattle.promises.proofs.Cases.{padded, job, tableOf, capitalMirror, jobsOfE, planE, tableE}
@@ -82,6 +82,10 @@ module _ (p : Plan) (table : List ℕ) (q : Plan) (other : List ℕ) (same : Sam
   -- They get the same answer, run and grants from a slot's call.
   pub same-slot : (run : Run) (v : ℕ) (grants : List ℕ) → stepped p table run v grants ≡ stepped q other run v grants
   same-slot = alike.alike-slot p table q other are-alike
+
+  -- They get the same answer and run from the word that a job has ended.
+  pub same-word : (run : Run) (i : ℕ) → toldEnded p run i ≡ toldEnded q run i
+  same-word = alike.alike-told p table q other are-alike
 
   -- Their jobs have the same outcomes.
   pub same-outcome : (run : Run) (i : ℕ) → outcome p run i ≡ outcome q run i

@@ -182,7 +182,7 @@ module _ (p : Plan) (table : List ℕ) (q : Plan) (other : List ℕ) (same : Sam
   unfolding started
   started-same =
       let first = first-same p table q other same in
-      λ i. record { clock = record { 0 = first i }; slow = false; below = false; carried = replicate mostJobs 0 }
+      λ i. record { clock = record { 0 = first i }; slow = false; below = false; carried = replicate mostJobs 0; ended = replicate mostJobs false }
 
   pub same-start : (was : Run) → startFrom (judged p table) (started p) was ≡ startFrom (judged q other) (started q) was
   same-start was = ap₂ (λ r run. startFrom r run was) same-verdict started-same

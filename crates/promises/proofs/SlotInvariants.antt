@@ -57,12 +57,11 @@ NoMore f s = (i : ℕ) → i < f .N → s .carried i ≤ f .size i
 abbrev pub FloorHolds : Facts → State → Type 0
 FloorHolds f s = (D : ℕ) → sum (λ i. on (class f D i) (f .size i - s .carried i)) (f .N) ≤ f .d * (D - s .t)
 
--- The plan's pace in interval l: each job has at least its allotments before l and at most those up
--- to its end, and the rest is at most the normal rate's capacity until then.
+-- The plan's pace in interval l: each job has at least its allotments before l, and what it lacks of those
+-- up to its end is, over all jobs, at most the normal rate's capacity until then.
 pub record OnPace (f : Facts) (s : State) (l : ℕ) : Type 0 where
   pub inside : (l < f .K) × (f .b l ≤ s .t) × (s .t ≤ f .b (suc l))
   pub least : (i : ℕ) → i < f .N → before f i l ≤ s .carried i
-  pub most : (i : ℕ) → i < f .N → s .carried i ≤ before f i (suc l)
   pub rest : sum (λ i. before f i (suc l) - s .carried i) (f .N) ≤ f .n * (f .b (suc l) - s .t)
 
 -- One slot less costs at most d units of capacity.
@@ -174,7 +173,6 @@ module _ (f : Facts) (good : Good f) (s s′ : State) (l v : ℕ) (g : ℕ → �
       record {
         inside = (slot .inside .0, rw (slot .clock) (omega (arith, slot .inside .1)), rw (slot .clock) (slot .inside .2));
         least = λ i e. rw (slot .adds i e) (omega (arith, pace .least i e));
-        most = λ i e. rw (slot .adds i e) (omega (arith, slot .within i e, claim-is-rest pace clear i e, pace .most i e));
         rest = rw (slot .clock) (omega (arith, given, claimed, slot .all, pace .rest, normal, one-less (f .n) (f .b (suc l)) (s .t)));
       }
     where
@@ -188,7 +186,28 @@ module _ (f : Facts) (good : Good f) (s s′ : State) (l v : ℕ) (g : ℕ → �
       given =
           sym (sum-add _ _ (f .N))
           ∙ sum-ext _ _ (f .N)
-          (λ i e. rw (slot .adds i e) (omega (arith, slot .within i e, claim-is-rest pace clear i e, pace .most i e)))
+          (λ i e. rw (slot .adds i e) (omega (arith, slot .within i e, claim-is-rest pace clear i e)))
+
+-- A state with the same clock and no less carried keeps the floor guarantee and the pace: less is left to carry.
+module _ (f : Facts) (s s′ : State) (clock : s′ .t ≡ s .t) (more : (i : ℕ) → i < f .N → s .carried i ≤ s′ .carried i) where
+  pub more-keeps-floor : FloorHolds f s → FloorHolds f s′
+  more-keeps-floor floor D =
+      rw clock
+      (le-trans
+      (sum-mono _ _ (f .N) (λ i h. on-mono (class f D i) (f .size i - s′ .carried i) (f .size i - s .carried i) (λ q. omega (arith, more i h))))
+      (floor D))
+
+  pub more-keeps-pace : (l : ℕ) → OnPace f s l → OnPace f s′ l
+  more-keeps-pace l pace =
+      record {
+        inside = (pace .inside .0, rw clock (pace .inside .1), rw clock (pace .inside .2));
+        least = λ i h. omega (arith, pace .least i h, more i h);
+        rest =
+            rw clock
+            (le-trans
+            (sum-mono (λ i. before f i (suc l) - s′ .carried i) (λ i. before f i (suc l) - s .carried i) (f .N) (λ i h. omega (arith, more i h)))
+            (pace .rest));
+      }
 
 -- By the floor guarantee, every HI job whose deadline the clock has reached has its size.
 pub floor-ended : (f : Facts) (s : State) → FloorHolds f s → NoMore f s → (i : ℕ) → i < f .N → f .hi i ≡ true → f .dl i ≤ s .t → s .carried i ≡ f .size i
@@ -199,12 +218,12 @@ floor-ended f s floor no-more i h is-hi o =
     omega (arith, rw (is-hi, le-leb (f .dl i) (f .dl i) (omega arith)) at term, floor (f .dl i), no-more i h)
 
 module _ (f : Facts) (good : Good f) (s : State) where
-  -- On pace at the end of an interval, every job has exactly its allotments up to then.
-  all-there : (l : ℕ) → OnPace f s l → s .t ≡ f .b (suc l) → (i : ℕ) → i < f .N → s .carried i ≡ before f i (suc l)
+  -- On pace at the end of an interval, every job has at least its allotments up to then.
+  all-there : (l : ℕ) → OnPace f s l → s .t ≡ f .b (suc l) → (i : ℕ) → i < f .N → before f i (suc l) ≤ s .carried i
   all-there l pace e i h =
       let no-time : f .b (suc l) - s .t ≡ 0 = omega arith in
       let nothing : f .n * (f .b (suc l) - s .t) ≡ 0 = ap (λ m. f .n * m) no-time ∙ mul-zero (f .n) in
-      omega (arith, pace .most i h, pace .rest, term-le (λ k. before f k (suc l) - s .carried k) (f .N) i h)
+      omega (arith, pace .rest, term-le (λ k. before f k (suc l) - s .carried k) (f .N) i h)
 
   -- The pace then continues in the next interval.
   advance : (l : ℕ) → OnPace f s l → s .t ≡ f .b (suc l) → suc l < f .K → OnPace f s (suc l)
@@ -213,10 +232,11 @@ module _ (f : Facts) (good : Good f) (s : State) where
       record {
         inside = (more, omega arith, omega (arith, good .rise (suc l) more));
         least = λ i h. omega (arith, all-there l pace e i h);
-        most = λ i h. omega (arith, all-there l pace e i h);
         rest =
-            rw (e, sum-ext (λ i. before f i (suc (suc l)) - s .carried i) (λ i. f .x i (suc l)) (f .N) (λ i h. omega (arith, all-there l pace e i h)))
-            (good .within (suc l) more);
+            rw e
+            (le-trans
+            (sum-mono (λ i. before f i (suc (suc l)) - s .carried i) (λ i. f .x i (suc l)) (f .N) (λ i h. omega (arith, all-there l pace e i h)))
+            (good .within (suc l) more));
       }
 
   -- A run on pace in some interval is on pace in the interval of its clock.
@@ -276,7 +296,6 @@ module _ (f : Facts) (good : Good f) (s : State) where
       record {
         inside = (k, omega arith, omega (arith, good .rise 0 k));
         least = λ i h. omega arith;
-        most = λ i h. omega (arith, none i h);
         rest =
             rw (at, sum-ext (λ i. before f i 1 - s .carried i) (λ i. f .x i 0) (f .N) (λ i h. omega (arith, none i h)))
             (good .within 0 k);

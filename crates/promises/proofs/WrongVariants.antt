@@ -27,13 +27,13 @@ use Rattle.dispatch.specs.Order.{enqueue, order, serve}
 use Rattle.dispatch.specs.Order
 use Rattle.dispatch.specs.Step.{SlotEffect, started, slotSound, slotFault, granted, added, advanced, slotBy, stepped}
 use Rattle.planfile.specs.Reader.{position}
-use Rattle.promises.specs.Night.{Call, slot, isDone, runLeft, given, runAfter, had, nightAt, Between}
+use Rattle.promises.specs.Night.{Call, slot, word, isDone, wordEffect, runLeft, given, runAfter, had, nightAt, Between}
 use Rattle.promises.proofs.Cases.{Case, planWith, tableOf, P1, P3, P8, P9, capitalMirror, smallMirror}
 
--- An order of service: the positions served at a time, by the slow mark. The wrong dispatchers
+-- An order of service: the positions served in a slot of a run, by the slow mark. The wrong dispatchers
 -- below differ only in their order and their dues.
 abbrev pub ServiceOrder : Type 0
-ServiceOrder = Plan → ℕ → Bool → List ℕ
+ServiceOrder = Plan → Run → Bool → List ℕ
 
 -- What is due to each job in a slot.
 abbrev pub Dues : Type 0
@@ -46,7 +46,7 @@ Stepping = Plan → List ℕ → Run → ℕ → List ℕ → SlotEffect
 -- The effect of a slot's call with this order and these dues, by the refusal found.
 abbrev effectBy : Report → ServiceOrder → Dues → Stepping
 effectBy [] order dues p table run v row =
-    let grants = serve (dues p table run (slowAfter p run v)) v (order p (run .clock .0) (slowAfter p run v)) (replicate (counted p) 0 ++ drop (counted p) row) in
+    let grants = serve (dues p table run (slowAfter p run v)) v (order p run (slowAfter p run v)) (replicate (counted p) 0 ++ drop (counted p) row) in
     record {
       answer = [];
       run =
@@ -55,6 +55,7 @@ effectBy [] order dues p table run v row =
             slow = slowAfter p run v;
             below = belowAfter p run v;
             carried = added (counted p) (run .carried) grants;
+            ended = run .ended;
           };
       grants = grants;
     }
@@ -77,11 +78,13 @@ right-parts-are-the-step p table run v row = go (slotFault p table run v row)
 -- The run that a call leaves, and what it gives to job i, by a step.
 abbrev runLeftBy : Stepping → Call → Run → Run
 runLeftBy step (slot c) run = step (c .plan) (c .table) run (c .speed) (c .row) .run
+runLeftBy step (word w) run = wordEffect w run .run
 
 abbrev givenBy : Stepping → Call → Run → ℕ → ℕ
 givenBy step (slot c) run i =
     let effect = step (c .plan) (c .table) run (c .speed) (c .row) in
     on (isDone (effect .answer)) (getD (effect .grants) i 0)
+givenBy step (word w) run i = 0
 
 -- The run after a night, and what job i has had in it, by a step.
 unfoldable pub runBy : Stepping → Plan → List Call → Run
@@ -95,9 +98,11 @@ hadBy step p (c ∷ earlier) i = hadBy step p earlier i + givenBy step c (runBy 
 -- By the step itself they are those of demand 3.
 left-by-step : (c : Call) (run : Run) → runLeftBy stepped c run ≡ runLeft c run
 left-by-step (slot c) run = refl
+left-by-step (word w) run = refl
 
 given-by-step : (c : Call) (run : Run) (i : ℕ) → givenBy stepped c run i ≡ given c run i
 given-by-step (slot c) run i = refl
+given-by-step (word w) run i = refl
 
 pub run-by-step : (p : Plan) (night : List Call) → runBy stepped p night ≡ runAfter p night
 unfolding runBy runAfter
@@ -125,9 +130,9 @@ LostIn step c speeds i = Lost step (planWith (c .jobs)) (tableOf (c .rows)) spee
 
 -- The live LO jobs first, and then the live HI jobs.
 abbrev pub loFirst : ServiceOrder
-loFirst p t slow =
-    Order.queue (λ i. live p t i && not (isHi p i) && not slow) (deadline p) (counted p)
-    ++ Order.queue (λ i. live p t i && isHi p i) (deadline p) (counted p)
+loFirst p run slow =
+    Order.queue (λ i. live p run i && not (isHi p i) && not slow) (deadline p) (counted p)
+    ++ Order.queue (λ i. live p run i && isHi p i) (deadline p) (counted p)
 
 -- With it plan E loses `mirror-A` if the link drops to the floor after three slots.
 pub lo-first-loses : LostIn (steppedBy loFirst due) P1 (1 ∷ 1 ∷ 1 ∷ 1 ∷ 1 ∷ 1 ∷ 1 ∷ 2 ∷ 2 ∷ 2 ∷ []) 1
@@ -136,9 +141,9 @@ lo-first-loses = record { a-job = lit< tt; owed = inl (omega arith, refl); come 
 
 -- HI before LO, but each grade in table order.
 abbrev pub tableOrder : ServiceOrder
-tableOrder p t slow =
-    Order.queue (λ i. live p t i && isHi p i) (λ _. 0) (counted p)
-    ++ Order.queue (λ i. live p t i && not (isHi p i) && not slow) (λ _. 0) (counted p)
+tableOrder p run slow =
+    Order.queue (λ i. live p run i && isHi p i) (λ _. 0) (counted p)
+    ++ Order.queue (λ i. live p run i && not (isHi p i) && not slow) (λ _. 0) (counted p)
 
 -- With it P9 loses A, at speeds from floor to normal.
 pub table-order-loses : LostIn (steppedBy tableOrder due) P9 (1 ∷ 2 ∷ []) 1

@@ -1,4 +1,4 @@
--- The grounds of the refusals of writer, step and outcome as facts about the numbers of a plan and a
+-- The grounds of the refusals of writer, step, outcome and the word that a job has ended as facts about the numbers of a plan and a
 -- run, and what each answer says: its ground holds, and no ground that is tested before it does.
 use mathlib.Core.Path.{_≡_}
 use mathlib.Core.Logic.{_≢_, _⊎_}
@@ -8,7 +8,7 @@ use Prim.Native.Nat.{ℕ, _≤_, _<_}
 use lib.ListN.{length, take}
 use Rattle.plan.specs.Kinds.{Bytes, Row, Table}
 use Rattle.plan.specs.Edition.{nameBytes, mostJobs, mostIntervals, mostRate, mostDeadline, mostSize, places}
-use Rattle.plan.specs.Refusal.{clockAtEnd, speedAboveNormal, unsound, bufferTooShort}
+use Rattle.plan.specs.Refusal.{clockAtEnd, speedAboveNormal, unsound, bufferTooShort, noSuchJob, cannotEnd}
 use Rattle.plan.specs.Report.{Report}
 use Rattle.plan.specs.Rules.{lo, hi, byteOf, counted, jobOf, name, release, size, deadline}
 use Rattle.plan.specs.Boundaries.{intervals, firstRelease, lastDeadline}
@@ -17,7 +17,7 @@ use Rattle.plan.specs.declared.kinds.Plan.{Plan}
 use Rattle.planwriter.specs.Writing as writing
 use Rattle.planwriter.specs.Writing.{written}
 use Rattle.dispatch.specs.declared.Run.{Run}
-use Rattle.dispatch.specs.Dues.{carriedOf}
+use Rattle.dispatch.specs.Dues.{carriedOf, endedOf}
 use Rattle.dispatch.specs.Step as step
 use Rattle.dispatch.specs.Step.{Ending}
 
@@ -102,8 +102,16 @@ Asked p run i = SoundRun p run × (i < p .count)
 pub data OutcomeDecided (p : Plan) (run : Run) (i : ℕ) : Ending → Type 0 where
   not-asked : (SoundRun p run → ⊥) ⊎ (p .count ≤ i) → OutcomeDecided p run i (step.refused unsound)
   all-carried : Asked p run i → carriedOf run i ≡ size p i → OutcomeDecided p run i step.met
-  dropped : Asked p run i → carriedOf run i ≢ size p i → jobOf p i .grade ≡ lo → run .slow ≡ true → OutcomeDecided p run i step.discarded
-  late : Asked p run i → carriedOf run i ≢ size p i → (jobOf p i .grade ≡ hi) ⊎ (run .slow ≡ false) → deadline p i ≤ run .clock .0
+  told-of : Asked p run i → carriedOf run i ≢ size p i → endedOf run i ≡ true → OutcomeDecided p run i step.endedEarly
+  dropped : Asked p run i → carriedOf run i ≢ size p i → endedOf run i ≡ false → jobOf p i .grade ≡ lo → run .slow ≡ true → OutcomeDecided p run i step.discarded
+  late : Asked p run i → carriedOf run i ≢ size p i → endedOf run i ≡ false → (jobOf p i .grade ≡ hi) ⊎ (run .slow ≡ false) → deadline p i ≤ run .clock .0
       → OutcomeDecided p run i step.missed
-  waiting : Asked p run i → carriedOf run i ≢ size p i → (jobOf p i .grade ≡ hi) ⊎ (run .slow ≡ false) → run .clock .0 < deadline p i
+  waiting : Asked p run i → carriedOf run i ≢ size p i → endedOf run i ≡ false → (jobOf p i .grade ≡ hi) ⊎ (run .slow ≡ false) → run .clock .0 < deadline p i
       → OutcomeDecided p run i step.stillOpen
+
+-- What an answer of the word that a job has ended says, by case in its order.
+pub data EndDecided (p : Plan) (run : Run) (i : ℕ) : Report → Type 0 where
+  word-unsound : (SoundRun p run → ⊥) → EndDecided p run i (unsound ∷ [])
+  no-such-job : SoundRun p run → p .count ≤ i → EndDecided p run i (noSuchJob ∷ [])
+  cannot-end : Asked p run i → (run .clock .0 < release p i) ⊎ (step.outcome p run i ≢ step.stillOpen) → EndDecided p run i (cannotEnd ∷ [])
+  word-done : Asked p run i → release p i ≤ run .clock .0 → step.outcome p run i ≡ step.stillOpen → EndDecided p run i []

@@ -16,9 +16,9 @@ use Rattle.plan.specs.declared.kinds.Plan.{Plan}
 use Rattle.dispatch.specs.declared.Run.{Run}
 use Rattle.dispatch.specs.Step.{outcome}
 use Rattle.hostmemory.specs.Memory.{planOf, runOf, marksHold}
-use Rattle.gateway.specs.Calls.{metNumber, endingNumber, outcomeCall}
-use Rattle.gateway.specs.Answers.{HostStarts, HostSteps}
-use Rattle.promises.specs.Night.{Call, slot, isDone, answerOf, runLeft, given, runAfter, Kept, OutcomesKept}
+use Rattle.gateway.specs.Calls.{metNumber, endedNumber, endingNumber, outcomeCall}
+use Rattle.gateway.specs.Answers.{HostStarts, HostSteps, HostTells}
+use Rattle.promises.specs.Night.{Call, slot, word, isDone, answerOf, runLeft, given, runAfter, Kept, OutcomesKept}
 
 -- A call of `gateway_start` that returns 0: what the host lends, and what the call leaves.
 pub record HostStart : Type 0 where
@@ -40,29 +40,42 @@ pub record HostStep : Type 0 where
   pub run-left : List ℕ
   pub row-left : List ℕ
 
+-- A call of `gateway_end`: the same.
+pub record HostEnd : Type 0 where
+  pub plan : List ℕ
+  pub position : ℕ
+  pub number : ℕ
+  pub run-left : List ℕ
+
 -- A call of a host's night after its start, by its kind.
 pub data HostCall : Type 0 where
   step : HostStep → HostCall
+  end : HostEnd → HostCall
 
 -- The number that a call returns.
 abbrev pub returned : HostCall → ℕ
 returned (step c) = c .number
+returned (end c) = c .number
 
 -- The run's words that a call leaves.
 abbrev pub wordsLeft : HostCall → Words
 wordsLeft (step c) = c .run-left
+wordsLeft (end c) = c .run-left
 
 -- What a call gave to job i: its entry of the row that a step left if it returned 0, otherwise 0.
 abbrev pub hostGiven : HostCall → Position → Amount
 hostGiven (step c) i = on (eqb (c .number) doneNumber) (getD (c .row-left) i 0)
+hostGiven (end c) i = 0
 
 -- A call meets its contract on the run's words.
 abbrev pub MeetsContract : HostCall → Words → Type 0
 MeetsContract (step c) run = HostSteps (c .plan) (c .table) run (c .speed) (c .row) (c .number) (c .run-left) (c .row-left)
+MeetsContract (end c) run = HostTells (c .plan) run (c .position) (c .number) (c .run-left)
 
 -- The call of a night that a host's call is, with the plan that its words encode.
 abbrev pub callOf : HostCall → Call
 callOf (step c) = slot (record { plan = planOf (c .plan); table = c .table; speed = c .speed; row = c .row })
+callOf (end c) = word (record { plan = planOf (c .plan); position = c .position })
 
 -- The run's words after a start and calls: those that the latest call left. The calls are a list,
 -- the latest first.
@@ -75,10 +88,11 @@ abbrev pub planStarted : HostStart → Plan
 planStarted s = planOf (s .plan)
 
 -- What is asked of a call that is not refused: words that encode the plan of the start or the same
--- one, and a speed v with d ≤ v ≤ n.
+-- one, and for a step a speed v with d ≤ v ≤ n.
 abbrev pub HostAllowed : HostStart → HostCall → Type 0
 HostAllowed s (step c) =
     Same (planStarted s) (s .table) (planOf (c .plan)) (c .table) × (planStarted s .d .0 ≤ c .speed) × (c .speed ≤ planStarted s .n .0)
+HostAllowed s (end c) = Same (planStarted s) (s .table) (planOf (c .plan)) (s .table)
 
 -- A host's night: the start and each call meet their contracts, each call on the run's words that
 -- the call before it left; and each call is refused, or what is asked of it holds.
@@ -122,10 +136,11 @@ pub record HostKept (s : HostStart) (calls : List HostCall) : Type 0 where
   pub outcomes-kept : OutcomesKept (planStarted s) (nightOf calls)
   -- `gateway_outcome` returns the number of the job's outcome in that night.
   pub endings : (i : ℕ) → outcomeCall (s .plan) (runWordsLeft s calls) i ≡ endingNumber (outcome (planStarted s) (runAfter (planStarted s) (nightOf calls)) i)
-  -- Hence a HI job whose deadline the clock in the run's words has reached has had exactly its size
-  -- by the rows that the calls left, and `gateway_outcome` returns that it is met.
+  -- Hence of a HI job whose deadline the clock in the run's words has reached `gateway_outcome` returns that it has ended,
+  -- or it has had exactly its size by the rows that the calls left, and `gateway_outcome` returns that it is met.
   pub essential : (i : ℕ) → i < counted (planStarted s) → isHi (planStarted s) i ≡ true
       → deadline (planStarted s) i ≤ runOf (runWordsLeft s calls) .clock .0
-      → (hostHad calls i ≡ size (planStarted s) i) × (outcomeCall (s .plan) (runWordsLeft s calls) i ≡ metNumber)
+      → (outcomeCall (s .plan) (runWordsLeft s calls) i ≡ endedNumber)
+      ⊎ ((hostHad calls i ≡ size (planStarted s) i) × (outcomeCall (s .plan) (runWordsLeft s calls) i ≡ metNumber))
   -- No job has had more than its size by those rows.
   pub no-more : (i : ℕ) → i < counted (planStarted s) → hostHad calls i ≤ size (planStarted s) i

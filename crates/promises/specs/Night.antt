@@ -5,7 +5,7 @@ use mathlib.Core.Logic.{_≢_, _⊎_}
 use mathlib.Core.Bool.{Bool, true, false, _&&_, _||_}
 use mathlib.Core.List.{List, [], _∷_}
 use Prim.Native.Nat.{ℕ, suc, _+_, _≤_, _<_}
-use lib.Dec.{ltb}
+use lib.Dec.{ltb, eqb}
 use lib.ListN.{length, getD, replicate}
 use Rattle.plan.specs.Kinds.{Amount, Position, Table, Time}
 use Rattle.base.specs.Sum.{sum, on}
@@ -16,7 +16,7 @@ use Rattle.plan.specs.declared.kinds.Plan.{Plan}
 use Rattle.plan.specs.Report.{Report}
 use Rattle.dispatch.specs.declared.Run.{Run}
 use Rattle.dispatch.specs.Dues.{inItsWindow}
-use Rattle.dispatch.specs.Step.{SlotEffect, started, stepped, met, missed, refused, outcome}
+use Rattle.dispatch.specs.Step.{SlotEffect, WordEffect, started, stepped, toldEnded, met, endedEarly, missed, refused, outcome}
 
 -- One slot's call, with any plan, table, speed and grant row.
 pub record SlotCall : Type 0 where
@@ -25,9 +25,15 @@ pub record SlotCall : Type 0 where
   pub speed : ℕ
   pub row : List ℕ
 
+-- One call with the host's word that a job has ended, with any plan and position.
+pub record EndCall : Type 0 where
+  pub plan : Plan
+  pub position : ℕ
+
 -- A call of a night, by its kind.
 pub data Call : Type 0 where
   slot : SlotCall → Call
+  word : EndCall → Call
 
 -- A call is done if it is not refused.
 abbrev pub isDone : Report → Bool
@@ -38,34 +44,50 @@ isDone (number ∷ places) = false
 abbrev pub slotEffect : SlotCall → Run → SlotEffect
 slotEffect c run = stepped (c .plan) (c .table) run (c .speed) (c .row)
 
+-- The effect of the host's word on a run: its answer and the run.
+abbrev pub wordEffect : EndCall → Run → WordEffect
+wordEffect w run = toldEnded (w .plan) run (w .position)
+
 -- The answer of a call on a run.
 abbrev pub answerOf : Call → Run → Report
 answerOf (slot c) run = slotEffect c run .answer
+answerOf (word w) run = wordEffect w run .answer
 
 -- The run that a call on a run leaves.
 abbrev pub runLeft : Call → Run → Run
 runLeft (slot c) run = slotEffect c run .run
+runLeft (word w) run = wordEffect w run .run
 
--- What a call on a run gives to job i: its entry of the grant row if the call is done, otherwise 0.
+-- What a call on a run gives to job i: its entry of the grant row if a slot's call is done, otherwise 0.
 abbrev pub given : Call → Run → Position → Amount
 given (slot c) run i = on (isDone (slotEffect c run .answer)) (getD (slotEffect c run .grants) i 0)
+given (word w) run i = 0
+
+-- A call on a run tells that job i has ended if it is the host's word about it, and done.
+abbrev pub tells : Call → Run → Position → Bool
+tells (slot c) run i = false
+tells (word w) run i = isDone (wordEffect w run .answer) && eqb (w .position) i
 
 -- A call is a slot if it is a slot's call that is done.
 abbrev pub isSlot : Call → Run → Bool
 isSlot (slot c) run = isDone (slotEffect c run .answer)
+isSlot (word w) run = false
 
 -- A slow slot is one with a speed below n.
 abbrev pub isSlow : Plan → Call → Run → Bool
 isSlow p (slot c) run = isSlot (slot c) run && ltb (c .speed) (p .n .0)
+isSlow p (word w) run = false
 
--- The most that a call may give to all jobs together: a slot's speed.
+-- The most that a call may give to all jobs together: a slot's speed; nothing by a word.
 abbrev pub mostGiven : Call → Amount
 mostGiven (slot c) = c .speed
+mostGiven (word w) = 0
 
 -- What is asked of a call that is not refused: the accepted plan and table, or the same ones, and a
--- speed v with d ≤ v ≤ n.
+-- speed v with d ≤ v ≤ n; of a word the accepted plan, or the same one.
 abbrev pub AllowedCall : Plan → Table → Call → Type 0
 AllowedCall p table (slot c) = Same p table (c .plan) (c .table) × (p .d .0 ≤ c .speed) × (c .speed ≤ p .n .0)
+AllowedCall p table (word w) = Same p table (w .plan) table
 
 -- The run after plan p's start and a night's calls, each on the run that the call before it left. A
 -- night is a list of calls, the latest first.
@@ -86,6 +108,16 @@ had p (c ∷ earlier) i = had p earlier i + given c (runAfter p earlier) i
 unfoldable pub hadInWindow : Plan → List Call → Position → Amount
 hadInWindow p [] i = 0
 hadInWindow p (c ∷ earlier) i = hadInWindow p earlier i + on (inItsWindow p (clockAt p earlier) i) (given c (runAfter p earlier) i)
+
+-- Whether the host has told that job i ended.
+unfoldable pub told : Plan → List Call → Position → Bool
+told p [] i = false
+told p (c ∷ earlier) i = told p earlier i || tells c (runAfter p earlier) i
+
+-- What job i has had after the host told that it ended.
+unfoldable pub hadSinceTold : Plan → List Call → Position → Amount
+hadSinceTold p [] i = 0
+hadSinceTold p (c ∷ earlier) i = hadSinceTold p earlier i + on (told p earlier i) (given c (runAfter p earlier) i)
 
 -- Whether some slot was slow.
 unfoldable pub slowed : Plan → List Call → Bool
@@ -138,15 +170,19 @@ WithinSpeeds p (c ∷ earlier) = WithinSpeeds p earlier × (sum (given c (runAft
 
 -- What is promised, at every point of a night.
 pub record Kept (p : Plan) (night : List Call) : Type 0 where
-  -- A HI job whose deadline the clock has reached has had
+  -- A HI job whose deadline the clock has reached was told ended, or it has had
   -- exactly its size, all of it inside its window.
   pub essential : (i : ℕ) → i < counted p → isHi p i ≡ true → deadline p i ≤ runAfter p night .clock .0
-      → (had p night i ≡ size p i) × (hadInWindow p night i ≡ size p i)
+      → (told p night i ≡ true) ⊎ ((had p night i ≡ size p i) × (hadInWindow p night i ≡ size p i))
   -- The same for any job, if no slow slot began before its deadline.
   pub others : (i : ℕ) → i < counted p → deadline p i ≤ runAfter p night .clock .0 → slowedBefore p (deadline p i) night ≡ false
-      → (had p night i ≡ size p i) × (hadInWindow p night i ≡ size p i)
+      → (told p night i ≡ true) ⊎ ((had p night i ≡ size p i) × (hadInWindow p night i ≡ size p i))
   -- A LO job has had nothing from the first slow slot on.
   pub discarded : (i : ℕ) → i < counted p → isHi p i ≡ false → hadSinceSlow p night i ≡ 0
+  -- A job has had nothing after the host told that it ended.
+  pub ended : (i : ℕ) → i < counted p → hadSinceTold p night i ≡ 0
+  -- What a job has had, it has had inside its window.
+  pub windows : (i : ℕ) → i < counted p → hadInWindow p night i ≡ had p night i
   -- No job has had more than its size.
   pub no-more : (i : ℕ) → i < counted p → had p night i ≤ size p i
   -- No slot's grants sum to more than its speed.
@@ -154,12 +190,14 @@ pub record Kept (p : Plan) (night : List Call) : Type 0 where
 
 -- What is promised of the outcomes, at every point of a night.
 pub record OutcomesKept (p : Plan) (night : List Call) : Type 0 where
-  -- A HI job whose deadline the clock has reached is met.
+  -- A HI job whose deadline the clock has reached is met, unless it was told ended.
   pub essential-met : (i : ℕ) → i < counted p → isHi p i ≡ true → deadline p i ≤ runAfter p night .clock .0
-      → outcome p (runAfter p night) i ≡ met
+      → told p night i ≡ false → outcome p (runAfter p night) i ≡ met
   -- The same for any job, if no slow slot began before its deadline.
   pub others-met : (i : ℕ) → i < counted p → deadline p i ≤ runAfter p night .clock .0 → slowedBefore p (deadline p i) night ≡ false
-      → outcome p (runAfter p night) i ≡ met
+      → told p night i ≡ false → outcome p (runAfter p night) i ≡ met
+  -- A job that was told ended has that outcome, now and in the rest of the night.
+  pub told-ended : (i : ℕ) → i < counted p → told p night i ≡ true → outcome p (runAfter p night) i ≡ endedEarly
   -- No job is missed.
   pub none-missed : (i : ℕ) → outcome p (runAfter p night) i ≢ missed
   -- No counted job's outcome is refused.

@@ -3,6 +3,7 @@
 use gateway::{export_jobs, import_jobs, index, refusal, Grade, Job, Outcome, Plan, Refusal, Run};
 use gateway::{LONGEST_LIST, MOST_JOBS, PLAN_WORDS, RUN_WORDS, TABLE_PLACES};
 
+const OTHER: usize = 0;
 const ESSENTIAL: usize = 1;
 
 fn jobs() -> [Job; 2] {
@@ -74,12 +75,68 @@ fn a_run_is_taken_back_from_its_words_in_any_slot() {
 fn words_that_no_run_has_are_refused() {
     let words = *plan_e().start().unwrap().words();
     assert_eq!(Run::from_words(&words[1..]).unwrap_err().number(), refusal::BUFFER_TOO_SHORT);
-    for mark in [index::SLOW, index::BELOW_FLOOR] {
-        let mut wrong = words;
-        wrong[mark] = 2;
-        assert_eq!(Run::from_words(&wrong).unwrap_err().number(), refusal::UNSOUND);
+    for mark in [index::SLOW, index::BELOW_FLOOR].into_iter().chain(index::ENDED..RUN_WORDS) {
+        let mut changed = words;
+        changed[mark] = 1;
+        assert!(Run::from_words(&changed).is_ok(), "word {mark}");
+        changed[mark] = 2;
+        assert_eq!(Run::from_words(&changed).unwrap_err().number(), refusal::UNSOUND, "word {mark}");
     }
-    assert_eq!(RUN_WORDS, index::CARRIED + MOST_JOBS);
+    assert_eq!((index::ENDED, RUN_WORDS), (index::CARRIED + MOST_JOBS, index::ENDED + MOST_JOBS));
+}
+
+/// The essential transfer ends after two slots. It gets nothing more, and the other one has its units two slots earlier than planned.
+#[test]
+fn what_an_ended_job_leaves_goes_to_the_others() {
+    let plan = plan_e();
+    let mut run = plan.start().unwrap();
+    run.step(&plan, 2).unwrap();
+    run.step(&plan, 2).unwrap();
+    let mut told = *run.words();
+    told[index::ENDED + ESSENTIAL] = 1;
+    assert_eq!(run.end(&plan, ESSENTIAL), Ok(()));
+    assert_eq!(run.words(), &told);
+    run = Run::from_words(run.words()).unwrap();
+    assert_eq!([2, 2, 2].map(|speed| run.step(&plan, speed).unwrap()), [[2, 0], [2, 0], [0, 0]]);
+    assert_eq!([OTHER, ESSENTIAL].map(|job| run.outcome(&plan, job)), [Ok(Outcome::Met), Ok(Outcome::Ended)]);
+    assert_eq!([OTHER, ESSENTIAL, MOST_JOBS].map(|job| run.has_ended(job)), [Some(false), Some(true), None]);
+    assert_eq!(run.carried(MOST_JOBS), None);
+}
+
+#[test]
+fn a_job_that_is_not_running_cannot_end() {
+    let plan = plan_e();
+    let mut run = plan.start().unwrap();
+    let refused = |run: &Run, job: usize| {
+        let mut after = run.clone();
+        let refusal = after.end(&plan, job).unwrap_err();
+        assert_eq!(&after, run);
+        refusal
+    };
+    assert_eq!(refused(&run, ESSENTIAL).number(), refusal::CANNOT_END);
+    for job in [2, MOST_JOBS, 1 << 8, 1 << 32, usize::MAX] {
+        assert_eq!(refused(&run, job).to_string(), "refused 25: there is no such job");
+    }
+    run.step(&plan, 1).unwrap();
+    let discarded = refused(&run, OTHER);
+    assert_eq!((discarded.number(), discarded.offset()), (refusal::CANNOT_END, None));
+    assert_eq!(run.end(&plan, ESSENTIAL), Ok(()));
+    let ended = refused(&run, ESSENTIAL);
+    assert_eq!(ended.to_string(), "refused 26: the job is not running: it is not yet released, or it is over already");
+}
+
+/// Another job's end is no ground against the promise: the essential transfer has its size at the floor.
+#[test]
+fn an_ended_job_stays_ended_in_a_slow_slot() {
+    let plan = plan_e();
+    let mut run = plan.start().unwrap();
+    run.step(&plan, 2).unwrap();
+    run.end(&plan, OTHER).unwrap();
+    while run.step(&plan, plan.floor()).is_ok() {}
+    assert!(run.is_slow() && !run.is_below_floor());
+    assert_eq!([OTHER, ESSENTIAL].map(|job| run.outcome(&plan, job)), [Ok(Outcome::Ended), Ok(Outcome::Met)]);
+    assert_eq!(run.carried(OTHER), Some(2));
+    assert_eq!(Outcome::Ended.to_string(), "ended");
 }
 
 #[test]
@@ -130,8 +187,11 @@ fn what_is_shown_can_be_read() {
     let shown = format!("{plan:?}");
     assert!(shown.contains(r#"normal_rate: 2, floor: 1, jobs: [Job { name: "Mirror-A", grade: Lo, release: 0, size: 6, deadline: 5 }"#), "{shown}");
     assert!(shown.ends_with("allotments: [(0, 0, 2), (0, 1, 4), (1, 1, 4), (1, 2, 4)] }"), "{shown}");
-    let shown = format!("{:?}", plan.start().unwrap());
+    let mut run = plan.start().unwrap();
+    run.end(&plan, OTHER).unwrap();
+    let shown = format!("{run:?}");
     assert!(shown.starts_with("Run { clock: 0, slow: false, below_floor: false, carried: [0, 0,"), "{shown}");
+    assert!(shown.ends_with("0], ended: [0] }"), "{shown}");
 }
 
 #[test]

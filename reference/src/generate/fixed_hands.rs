@@ -1,5 +1,5 @@
 //! The plans in hand that are the same for every seed: buffers around the needed lengths, each
-//! twist at each place, and runs at their bounds.
+//! twist at each place, runs at their bounds, and runs with ended jobs.
 
 use super::damaged::sound_base;
 use super::draft::{plan_e, ANY, EVERYWHERE};
@@ -13,7 +13,7 @@ const DRAWS_OF_TWIST: u64 = 6;
 
 /// All of them, in their order.
 pub fn fixed_hands() -> Vec<HandInput> {
-    [short_buffers(), twists(), hand_bounds()].concat()
+    [short_buffers(), twists(), hand_bounds(), ended_jobs()].concat()
 }
 
 /// Plan E with its clock at the last deadline and each of the buffers around the exact lengths.
@@ -70,6 +70,28 @@ fn hand_bounds() -> Vec<HandInput> {
                     &mut input,
                 );
                 inputs.push(input);
+            }
+        }
+    }
+    inputs
+}
+
+/// Runs in hand with each choice of ended marks, one of which belongs to no job.
+fn ended_jobs() -> Vec<HandInput> {
+    let mut inputs = Vec::new();
+    for clock in [0, 1, 4, 5, 9, 10, 11] {
+        for carried in [[0, 0], [6, 8], [5, 7]] {
+            for slow in [false, true] {
+                for marks in 1..8 {
+                    let mut input = in_hand(&plan_e(), &[2, 2, 2, 1, 1]);
+                    input.run.clock = clock;
+                    input.run.slow = slow;
+                    input.run.carried[..2].copy_from_slice(&carried);
+                    for position in 0..3 {
+                        input.run.ended[position] = marks >> position & 1 == 1;
+                    }
+                    inputs.push(input);
+                }
             }
         }
     }

@@ -65,6 +65,7 @@ pub fn in_hand(draft: &Draft, speeds: &[u16]) -> HandInput {
             slow: false,
             below_floor: false,
             carried: [0; MOST_JOBS],
+            ended: [false; MOST_JOBS],
         },
         speeds: speeds.to_vec(),
     }
@@ -288,6 +289,15 @@ pub fn rubbish(prng: &mut Prng, input: &mut HandInput) {
     // The first record beyond the count looks like a job that would change everything.
     if 0 < jobs && jobs < MOST_JOBS {
         input.plan.jobs[jobs] = input.plan.jobs[0];
+    }
+}
+
+/// Ended marks in a third of the runs, set for jobs and from the job count on alike.
+pub fn set_ended(prng: &mut Prng, run: &mut Run) {
+    if prng.once_in(3) {
+        for mark in &mut run.ended {
+            *mark = prng.once_in(3);
+        }
     }
 }
 

@@ -31,6 +31,14 @@ pub struct HandInput {
     pub speeds: Vec<u16>,
 }
 
+/// A word of the host between two slots: the job at this position has ended.
+#[derive(Clone, Copy, Debug, PartialEq, Eq)]
+pub struct Word {
+    /// How many of the run's speeds come before it.
+    pub after: usize,
+    pub position: u64,
+}
+
 /// A job list in hand, and how many bytes are lent for its text.
 #[derive(Clone, Debug, PartialEq, Eq)]
 pub struct ListInput {

@@ -20,11 +20,13 @@ mod refused;
 mod sheet;
 mod sheet_damage;
 mod speeds;
+mod words;
 
 use crate::edition::TABLE_PLACES;
-use crate::plan::Job;
+use crate::plan::{Job, Plan};
 use crate::reader::contents;
 use crate::refusal::{ROW_ORDER, VERSION};
+use crate::run::Run;
 use draft::{Draft, Limits, ANY, EVERYWHERE, SMALL};
 use refused::PLACED;
 use sheet::Sheet;
@@ -34,7 +36,7 @@ pub use fixed_files::fixed_files;
 pub use fixed_hands::fixed_hands;
 pub use fixed_lists::fixed_lists;
 pub use fixed_texts::fixed_texts;
-pub use input::{FileInput, HandInput, Lent, ListInput};
+pub use input::{FileInput, HandInput, Lent, ListInput, Word};
 pub use nights::night;
 pub use prng::{Prng, Purpose};
 
@@ -83,7 +85,17 @@ pub fn damaged_input(seed: u64, number: u64) -> FileInput {
 /// A plan in hand with a run and speeds, drawn from the seed and its own number alone.
 pub fn hand(seed: u64, number: u64) -> HandInput {
     let prng = &mut Prng::new(seed, Purpose::Hand, number);
-    hand::hand(prng, limits_of(number))
+    let mut input = hand::hand(prng, limits_of(number));
+    // The marks have a source of their own, so that all else is what it was before there were any.
+    hand::set_ended(&mut Prng::new(seed, Purpose::Ended, number), &mut input.run);
+    input
+}
+
+/// The words of the host in a run, drawn from the seed and the number of the input that the run
+/// comes from. The run stands at its beginning; plan and run may be ones that no call takes.
+pub fn words(seed: u64, number: u64, plan: &Plan, run: &Run, speeds: &[u16]) -> Vec<Word> {
+    let prng = &mut Prng::new(seed, Purpose::Words, number);
+    words::words(prng, plan, run.clock, speeds.len())
 }
 
 /// A text for import, right or wrong, drawn from the seed and its own number alone.

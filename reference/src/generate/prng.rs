@@ -12,6 +12,8 @@ pub enum Purpose {
     JobText,
     JobList,
     QuotedList,
+    Ended,
+    Words,
 }
 
 /// The state of one source.

@@ -129,8 +129,17 @@ pub fn e_run(clock: u32, slow: bool, carried: [u32; 2]) -> Run {
         slow,
         below_floor: false,
         carried: [0; 32],
+        ended: [false; 32],
     };
     run.carried[..2].copy_from_slice(&carried);
+    run
+}
+
+/// The run with the marks of ended jobs set at some places.
+pub fn with_ended(mut run: Run, places: &[usize]) -> Run {
+    for &place in places {
+        run.ended[place] = true;
+    }
     run
 }
 

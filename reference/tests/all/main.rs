@@ -3,11 +3,13 @@
 mod bad_inputs;
 mod cases;
 mod common;
+mod end;
 mod export;
 mod floor;
 mod generated;
 mod generated_lists;
 mod generated_places;
+mod generated_words;
 mod import;
 mod import_places;
 mod judge;

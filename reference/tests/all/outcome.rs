@@ -1,8 +1,8 @@
-//! The outcome of a job: each of the four, their order, and the refusal.
+//! The outcome of a job: each of the five, their order, and the refusal.
 
-use crate::common::{broken_plans, e_plan, e_run};
+use crate::common::{broken_plans, e_plan, e_run, with_ended};
 use reference::refusal::{NAME_BYTE, NAME_TWICE, UNSOUND};
-use reference::run::Outcome::{Discarded, Met, Missed, Open};
+use reference::run::Outcome::{Discarded, Ended, Met, Missed, Open};
 use reference::run::{outcome, Outcome, Run};
 
 fn outcomes(run: &Run) -> [Result<Outcome, u8>; 2] {
@@ -47,6 +47,43 @@ fn below_floor_mark_alone_discards_nothing() {
     let mut run = e_run(1, false, [0, 0]);
     run.below_floor = true;
     assert_eq!(outcomes(&run), [Ok(Open), Ok(Open)]);
+}
+
+#[test]
+fn ended_mark_makes_an_unfinished_job_ended() {
+    let run = with_ended(e_run(4, false, [5, 0]), &[0]);
+    assert_eq!(outcomes(&run), [Ok(Ended), Ok(Open)]);
+    let run = with_ended(e_run(4, false, [5, 0]), &[1]);
+    assert_eq!(outcomes(&run), [Ok(Open), Ok(Ended)]);
+}
+
+#[test]
+fn met_comes_before_ended() {
+    for (clock, slow) in [(4, false), (4, true), (10, false), (10, true)] {
+        let run = with_ended(e_run(clock, slow, [6, 8]), &[0, 1]);
+        assert_eq!(outcomes(&run), [Ok(Met), Ok(Met)]);
+    }
+}
+
+#[test]
+fn ended_comes_before_discarded_and_missed() {
+    for (clock, slow) in [(4, true), (10, false), (10, true)] {
+        let run = with_ended(e_run(clock, slow, [5, 7]), &[0, 1]);
+        assert_eq!(outcomes(&run), [Ok(Ended), Ok(Ended)]);
+    }
+}
+
+#[test]
+fn run_may_be_made_by_hand_with_a_job_ended_before_its_release() {
+    let run = with_ended(e_run(0, false, [0, 0]), &[1]);
+    assert_eq!(outcomes(&run), [Ok(Open), Ok(Ended)]);
+}
+
+#[test]
+fn ended_marks_from_the_count_on_change_no_outcome() {
+    let run = with_ended(e_run(1, false, [0, 0]), &[2, 31]);
+    assert_eq!(outcomes(&run), [Ok(Open), Ok(Open)]);
+    assert_eq!(outcome(&e_plan(), &run, 2), Err(UNSOUND));
 }
 
 #[test]

@@ -1,6 +1,6 @@
 //! Start and one slot: refusals and their order, marks, turns, dues, and what stays as it was.
 
-use crate::common::{broken_plans, e_plan, e_run, e_table, hi, lo, plan_of, table_of};
+use crate::common::{broken_plans, e_plan, e_run, e_table, hi, lo, plan_of, table_of, with_ended};
 use reference::plan::{Job, Plan};
 use reference::refusal::{
     Refusal, ABOVE_RATE, AT_LAST_DEADLINE, DONE, FLOOR_RULE, NAME_BYTE, NAME_TWICE, NOT_THE_SIZE,
@@ -36,7 +36,8 @@ fn run_starts_at_the_first_release_with_nothing_carried() {
             clock: 5,
             slow: false,
             below_floor: false,
-            carried: [0; 32]
+            carried: [0; 32],
+            ended: [false; 32]
         }
     );
 }
@@ -351,4 +352,58 @@ fn last_slot_brings_the_clock_to_the_last_deadline() {
     let mut run = e_run(9, true, [0, 7]);
     assert_eq!(e_step(&mut run, 1), (DONE, [0, 1]));
     assert_refused(&run, 1, AT_LAST_DEADLINE);
+}
+
+#[test]
+fn ended_job_gets_nothing_and_the_others_get_what_it_leaves() {
+    // Without the mark the essential job has all of the slot.
+    let mut run = with_ended(e_run(1, false, [2, 0]), &[1]);
+    assert_eq!(e_step(&mut run, 2), (DONE, [2, 0]));
+    assert_eq!(run, with_ended(e_run(2, false, [4, 0]), &[1]));
+    let mut run = with_ended(e_run(1, false, [2, 3]), &[0]);
+    assert_eq!(e_step(&mut run, 2), (DONE, [0, 1]));
+}
+
+#[test]
+fn ended_job_leaves_slow_slots_to_the_others_too() {
+    let plan = plan_of(&[hi(b"transf-B", 0, 2, 4), hi(b"transf-A", 0, 2, 2)]);
+    let table = table_of(&[&[2, 0], &[2, 0]]);
+    for (speed, expected) in [(2, [2, 0]), (1, [1, 0])] {
+        let mut run = with_ended(run_at(0), &[1]);
+        let mut grants = [9; 2];
+        assert_eq!(step(&plan, &table, &mut run, speed, &mut grants), DONE);
+        assert_eq!(grants, expected);
+    }
+}
+
+#[test]
+fn slot_with_all_jobs_ended_grants_nothing_and_goes_on() {
+    let mut run = with_ended(run_at(1), &[0, 1]);
+    assert_eq!(e_step(&mut run, 2), (DONE, [0, 0]));
+    assert_eq!(run, with_ended(run_at(2), &[0, 1]));
+}
+
+#[test]
+fn slot_sets_and_clears_no_ended_mark() {
+    // The other job is discarded by this slot, and a finished one is not ended by it.
+    let mut run = e_run(4, false, [5, 7]);
+    assert_eq!(e_step(&mut run, 1), (DONE, [0, 1]));
+    assert_eq!(run, e_run(5, true, [5, 8]));
+    let mut run = with_ended(e_run(4, false, [6, 8]), &[0, 1]);
+    assert_eq!(e_step(&mut run, 1), (DONE, [0, 0]));
+    assert_eq!(run, with_ended(e_run(5, true, [6, 8]), &[0, 1]));
+}
+
+#[test]
+fn ended_marks_from_the_count_on_are_ignored_and_left() {
+    let mut run = with_ended(run_at(0), &[2, 31]);
+    assert_eq!(e_step(&mut run, 2), (DONE, [2, 0]));
+    assert_eq!(run, with_ended(e_run(1, false, [2, 0]), &[2, 31]));
+}
+
+#[test]
+fn refusals_of_a_step_leave_ended_marks() {
+    assert_refused(&with_ended(run_at(11), &[0, 3]), 2, UNSOUND);
+    assert_refused(&with_ended(run_at(10), &[0, 3]), 2, AT_LAST_DEADLINE);
+    assert_refused(&with_ended(run_at(1), &[0, 1]), 3, SPEED);
 }

@@ -13,12 +13,12 @@ use Rattle.dispatch.specs.Dues.{live, slowAfter, due}
 use Rattle.dispatch.specs.Order.{before}
 
 -- Job i is served in a slot: it is live, and HI if the slow mark is set.
-abbrev pub served : Plan → ℕ → Bool → ℕ → Bool
-served p t slow i = live p t i && (isHi p i || not slow)
+abbrev pub served : Plan → Run → Bool → ℕ → Bool
+served p run slow i = live p run i && (isHi p i || not slow)
 
 -- The claim of job i on a slot: its due if it is served, otherwise 0.
 abbrev pub claim : Plan → List ℕ → Run → Bool → ℕ → ℕ
-claim p table run slow i = on (served p (run .clock .0) slow i) (due p table run slow i)
+claim p table run slow i = on (served p run slow i) (due p table run slow i)
 
 -- The share of job i: the lesser of its claim and what the claims served before it leave of v.
 unfoldable pub share : Plan → List ℕ → Run → ℕ → ℕ → ℕ

@@ -45,6 +45,15 @@ slice-aggregate-word-line-4 c = search needs
 word-line-requires-4 : tie.Need-word-line-requires-4
 word-line-requires-4 c κs = search needs
 
+enum-told-5 : tie.Need-enum-told-5
+enum-told-5 c = search needs
+
+slice-aggregate-word-line-5 : tie.Need-slice-aggregate-word-line-5
+slice-aggregate-word-line-5 c = search needs
+
+word-line-requires-5 : tie.Need-word-line-requires-5
+word-line-requires-5 c κs = search needs
+
 enum-known-outcome : tie.Need-enum-known-outcome
 enum-known-outcome c = search needs
 
@@ -76,9 +85,16 @@ returns-4 : tie.Need-returns-4
 returns-4 c =
     rw (c .before .before .before .before .before .enum-told4 .given .1) (c .before .before .word-line4 .ensures)
 
+same-length-5 : tie.Need-same-length-5
+same-length-5 c = search needs
+
 returns-5 : tie.Need-returns-5
-unfolding outcomeLine
 returns-5 c =
+    rw (c .before .before .before .before .before .enum-told5 .given .1) (c .before .before .word-line5 .ensures)
+
+returns-6 : tie.Need-returns-6
+unfolding outcomeLine
+returns-6 c =
     let carried = c .before .before .before .before .args .carried in
     rw (c .before .outcome .given .1) (refl, omega (arith, length-append (decimal carried) (text "\n"), decimal-length carried (omega arith)))
 
@@ -98,6 +114,9 @@ outcome-line-spec =
     enum-told-4
     slice-aggregate-word-line-4
     word-line-requires-4
+    enum-told-5
+    slice-aggregate-word-line-5
+    word-line-requires-5
     enum-known-outcome
     same-length
     returns
@@ -107,4 +126,6 @@ outcome-line-spec =
     returns-3
     same-length-4
     returns-4
-    returns-5)
+    same-length-5
+    returns-5
+    returns-6)

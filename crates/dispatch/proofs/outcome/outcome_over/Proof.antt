@@ -20,7 +20,7 @@ use Rattle.dispatch.proofs.outcome.outcome_over.Tie as tie
 -- The first test is of soundness.
 module _ (c : tie.After-is-sound) where
   abbrev entry : tie.Start
-  entry = c .before .before .before .before .before
+  entry = c .before .before .before .before .before .before
 
   tested : c .is-sound .result
       ≡ soundAt (planOn (entry .args .o) (entry .args .grades .now) (entry .args .releases .now) (entry .args .sizes .now) (entry .args .deadlines .now)) (entry .args .run .clock .0) (entry .args .run .carried)
@@ -101,43 +101,61 @@ returns-3 c =
     let e = entry (at within) .args in
     columns.met-ends (e .o) (e .grades .now) (e .releases .now) (e .sizes .now) (e .deadlines .now) (e .run) (e .position) (sound within) (within .if2 .left) (sym (had at-units) ∙ c .if3 .taken ∙ size at-units)
 
-mul-if4 : tie.Need-mul-if4
-mul-if4 c = omega (arith, has-entry (counted (units c)))
+array-read-if4 : tie.Need-array-read-if4
+array-read-if4 c = omega (arith, has-entry (counted (units c)))
 
-element-copy-out-if4 : tie.Need-element-copy-out-if4
-element-copy-out-if4 c = omega (arith, has-entry (counted (units c)))
-
-cast-if4 : tie.Need-cast-if4
-cast-if4 c = search needs
+-- After the fourth test the job has not ended.
+module _ (c : tie.Else4) where
+  abbrev unlike : tie.Else3
+  unlike = c .before
 
 returns-4 : tie.Need-returns-4
 returns-4 c =
-    let at-if3 = c .before .before .before in
+    let at-if3 = c .before in
     let within = counted (units at-if3) in
     let e = entry (at within) .args in
-    columns.discarded-ends (e .o) (e .grades .now) (e .releases .now) (e .sizes .now) (e .deadlines .now) (e .run) (e .position) (sound within) (within .if2 .left) (differ at-if3) (c .if4 .taken)
+    columns.ended-ends (e .o) (e .grades .now) (e .releases .now) (e .sizes .now) (e .deadlines .now) (e .run) (e .position) (sound within) (within .if2 .left) (differ at-if3) (c .if4 .taken)
 
-mul-t17 : tie.Need-mul-t17
-mul-t17 c = omega (arith, has-entry (counted (units (c .before .before .before))))
+mul-if5 : tie.Need-mul-if5
+mul-if5 c = omega (arith, has-entry (counted (units (unlike c))))
 
-element-copy-out-t20 : tie.Need-element-copy-out-t20
-element-copy-out-t20 c = omega (arith, has-entry (counted (units (c .before .before .before))))
+element-copy-out-if5 : tie.Need-element-copy-out-if5
+element-copy-out-if5 c = omega (arith, has-entry (counted (units (unlike c))))
+
+cast-if5 : tie.Need-cast-if5
+cast-if5 c = search needs
 
 returns-5 : tie.Need-returns-5
 returns-5 c =
-    let at-if4 = c .before .before .before .before in
-    let at-if3 = at-if4 .before .before .before in
+    let at-if4 = c .before .before .before in
+    let at-if3 = unlike at-if4 in
     let within = counted (units at-if3) in
     let e = entry (at within) .args in
-    columns.missed-ends (e .o) (e .grades .now) (e .releases .now) (e .sizes .now) (e .deadlines .now) (e .run) (e .position) (sound within) (within .if2 .left) (differ at-if3) (at-if4 .if4 .left) (c .if5 .taken)
+    columns.discarded-ends (e .o) (e .grades .now) (e .releases .now) (e .sizes .now) (e .deadlines .now) (e .run) (e .position) (sound within) (within .if2 .left) (differ at-if3) (at-if4 .if4 .left) (c .if5 .taken)
+
+mul-t18 : tie.Need-mul-t18
+mul-t18 c = omega (arith, has-entry (counted (units (unlike (c .before .before .before)))))
+
+element-copy-out-t21 : tie.Need-element-copy-out-t21
+element-copy-out-t21 c = omega (arith, has-entry (counted (units (unlike (c .before .before .before)))))
 
 returns-6 : tie.Need-returns-6
 returns-6 c =
-    let at-if4 = c .before .before .before .before in
-    let at-if3 = at-if4 .before .before .before in
+    let at-if5 = c .before .before .before .before in
+    let at-if4 = at-if5 .before .before .before in
+    let at-if3 = unlike at-if4 in
     let within = counted (units at-if3) in
     let e = entry (at within) .args in
-    columns.open-ends (e .o) (e .grades .now) (e .releases .now) (e .sizes .now) (e .deadlines .now) (e .run) (e .position) (sound within) (within .if2 .left) (differ at-if3) (at-if4 .if4 .left) (c .if5 .left)
+    columns.missed-ends (e .o) (e .grades .now) (e .releases .now) (e .sizes .now) (e .deadlines .now) (e .run) (e .position) (sound within) (within .if2 .left) (differ at-if3) (at-if4 .if4 .left) (at-if5 .if5 .left) (c .if6 .taken)
+
+returns-7 : tie.Need-returns-7
+returns-7 c =
+    let at-if5 = c .before .before .before .before in
+    let at-if4 = at-if5 .before .before .before in
+    let at-if3 = unlike at-if4 in
+    let within = counted (units at-if3) in
+    let e = entry (at within) .args in
+    columns.open-ends (e .o) (e .grades .now) (e .releases .now) (e .sizes .now) (e .deadlines .now) (e .run) (e .position) (sound within) (within .if2 .left) (differ at-if3) (at-if4 .if4 .left) (at-if5 .if5 .left) (c .if6 .left)
 
 pub outcome-over-spec : {M : Type 1} → statement M
 outcome-over-spec =
@@ -154,11 +172,13 @@ outcome-over-spec =
     element-copy-out-as-units
     as-units-requires-2
     returns-3
-    mul-if4
-    element-copy-out-if4
-    cast-if4
+    array-read-if4
     returns-4
-    mul-t17
-    element-copy-out-t20
+    mul-if5
+    element-copy-out-if5
+    cast-if5
     returns-5
-    returns-6)
+    mul-t18
+    element-copy-out-t21
+    returns-6
+    returns-7)

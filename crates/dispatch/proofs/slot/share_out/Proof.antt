@@ -2,7 +2,7 @@
 -- in turns, are what the rules grant.
 use mathlib.Core.Path.{_≡_, refl, sym, _∙_, ap, ap₂}
 use mathlib.Core.Bool.{Bool, true, false, _||_}
-use mathlib.Core.List.{List}
+use mathlib.Core.List.{List, []}
 use Prim.Native.Nat.{ℕ, suc, min}
 use native.Mathlib.Nat.{mul-one}
 use native.Mathlib.Omega.{arith}
@@ -61,7 +61,7 @@ module _ (c : tie.After-spans-of) where
   table = entry .args .table .now
 
   abbrev run : Run
-  run = record { clock = entry .args .clock; slow = entry .args .slow; below = false; carried = carried }
+  run = record { clock = entry .args .clock; slow = entry .args .slow; below = false; carried = carried; ended = [] }
 
   abbrev v : ℕ
   v = entry .args .v .0
@@ -129,7 +129,7 @@ returns c =
     ∙ ap (λ m. filled (λ k. getD (fit .all-fit .last .0) k 0) m (entry here .args .grants .now)) (jobs here)
     ∙ filled-ext (λ k. getD (fit .all-fit .last .0) k 0) (claim here) n (entry here .args .grants .now)
     (claims-all (claim here) (v here) n (omega arith) (told fit) (at-if1 .if1 .taken))
-    ∙ claims-granted (o here) (grades here) (releases here) (sizes here) (deadlines here) (table here) (carried here) (run here) (v here) (spans here) refl (marked here) (begun here)
+    ∙ claims-granted (o here) (grades here) (releases here) (sizes here) (deadlines here) (table here) (carried here) (run here) (v here) (spans here) refl refl (marked here) (begun here)
     (entry here .args .grants .now) (entry here .pre .0) (told fit .sums (at-if1 .if1 .taken) .1)
 
 serve-in-turns-requires : tie.Need-serve-in-turns-requires
@@ -157,7 +157,7 @@ returns-2 c =
     at-serve-in-turns .serve-in-turns .ensures
     ∙ ap₂ (λ x m. inTurns (run here .clock .0) (run here .slow) (grades here) (releases here) (deadlines here)
     (dueIn (run here .slow) (spans here) (sizes here) (carried here) (table here)) x m (filled (λ k. 0) m (entry here .args .grants .now))) (most here) (jobs here)
-    ∙ turns-granted (o here) (grades here) (releases here) (sizes here) (deadlines here) (table here) (carried here) (run here) (v here) (spans here) refl (marked here) (begun here)
+    ∙ turns-granted (o here) (grades here) (releases here) (sizes here) (deadlines here) (table here) (carried here) (run here) (v here) (spans here) refl refl (marked here) (begun here)
     (entry here .args .grants .now) (entry here .pre .0)
 
 pub share-out-spec : {M : Type 1} → statement M

@@ -9,7 +9,7 @@ use lib.Dec.{ltb}
 use lib.ListN.{getD}
 use Rattle.base.specs.Below.{every, least, greatest}
 use Rattle.plan.specs.Edition.{mostJobs}
-use Rattle.dispatch.proofs.SoundColumns.{rulesOn, outside, told-broken, told-outside, told-ended, told-running}
+use Rattle.dispatch.proofs.SoundColumns.{rulesOn, outside, told-broken, told-outside, told-over, told-running}
 use Rattle.dispatch.proofs.soundness.readiness_of.Statement.{statement}
 use Rattle.dispatch.proofs.soundness.readiness_of.Tie as tie
 
@@ -78,7 +78,7 @@ returns-3 : tie.Need-returns-3
 returns-3 c =
     let at-if2 = c .before .before .before in
     let at = at-if2 .before .before .before .before .before in
-    sym (told-ended (entry (here at) .args .o) (entry (here at) .args .grades .now) (entry (here at) .args .releases .now) (entry (here at) .args .sizes .now) (entry (here at) .args .deadlines .now) (entry (here at) .args .clock .0) (entry (here at) .args .carried .now)
+    sym (told-over (entry (here at) .args .o) (entry (here at) .args .grades .now) (entry (here at) .args .releases .now) (entry (here at) .args .sizes .now) (entry (here at) .args .deadlines .now) (entry (here at) .args .clock .0) (entry (here at) .args .carried .now)
     (rules-hold at) (sym (clock at) ∙ at-if2 .if2 .left) (c .if3 .taken ∙ last at))
 
 returns-4 : tie.Need-returns-4

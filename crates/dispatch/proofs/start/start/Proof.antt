@@ -18,7 +18,7 @@ use Rattle.dispatch.proofs.start.start.Tie as tie
 
 -- A run at a given clock, with nothing carried and both marks clear.
 abbrev fresh : Slots → Run
-fresh clock = record { clock = clock; slow = false; below = false; carried = replicate mostJobs 0 }
+fresh clock = record { clock = clock; slow = false; below = false; carried = replicate mostJobs 0; ended = replicate mostJobs false }
 
 judge-requires : tie.Need-judge-requires
 judge-requires c κs = search needs

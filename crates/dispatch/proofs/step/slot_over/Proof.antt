@@ -1,18 +1,19 @@
 -- `dispatch::step::slot_over` meets its contract: for the plan made from the columns, by readiness,
 -- shares and carried units; and so for every plan whose columns they are.
 use mathlib.Core.Path.{_≡_, refl, sym, _∙_, ap, ap₂}
-use mathlib.Core.Bool.{Bool, true, false, _||_, or-true}
+use mathlib.Core.Bool.{Bool, true, false, cond, _||_, or-true}
 use mathlib.Core.List.{List}
 use Prim.Native.Nat.{ℕ, _+_, _≤_, _<_, _^_}
 use native.Mathlib.Omega.{arith}
 use borrow.Author.Needs.{needs}
 use borrow.Author.Tests.{not-true, not-false, ltb-false}
 use lib.Dec.{ltb, eqb}
-use lib.ListN.{length, getD}
+use lib.ListN.{length, getD, replicate, length-replicate}
 use Rattle.base.specs.Fill.{filled}
+use Rattle.base.proofs.FillLaws.{filled-at}
 use Rattle.base.proofs.Logic.{neither}
-use Rattle.plan.specs.Edition.{places}
-use Rattle.plan.specs.Rules.{counted}
+use Rattle.plan.specs.Edition.{mostJobs, places}
+use Rattle.plan.specs.Rules.{counted, size}
 use Rattle.plan.specs.Boundaries.{lastDeadline}
 use Rattle.plan.specs.Columns.{Columns}
 use Rattle.plan.specs.Report.{isNone}
@@ -21,17 +22,18 @@ use Rattle.plan.specs.declared.kinds.Plan.{Plan}
 use Rattle.plan.proofs.Reports.{none-empty}
 use Rattle.dispatch.specs.declared.Run.{Run}
 use Rattle.dispatch.specs.Answers.{answerView, runAt}
-use Rattle.dispatch.specs.Dues.{carriedOf}
+use Rattle.dispatch.specs.Dues.{carriedOf, endedOf}
 use Rattle.dispatch.specs.Step.{soundAt, slotSound, slotFault, granted, stepped}
 use Rattle.dispatch.specs.inner.Columns.{planOn}
 use Rattle.dispatch.specs.inner.Readiness.{readiness, faultBy}
+use Rattle.dispatch.specs.inner.Turns.{settledIn}
 use Rattle.dispatch.proofs.Alike.{alike-slot}
 use Rattle.dispatch.proofs.ColumnPlan.{columns-alike}
 use Rattle.dispatch.proofs.Readiness.{readiness-fault, readiness-clear}
 use Rattle.dispatch.proofs.RowShares.{granted-length}
-use Rattle.dispatch.proofs.SlotOver.{slot-refused, carried-fits, same-granted, slot-done}
+use Rattle.dispatch.proofs.SlotOver.{slot-refused, carried-fits, settled-granted, slot-done}
 use Rattle.dispatch.proofs.SlotSoundness.{SlotSound, slot-sound}
-use Rattle.dispatch.proofs.SoundColumns.{deadline-on}
+use Rattle.dispatch.proofs.SoundColumns.{size-on, deadline-on}
 use Rattle.dispatch.proofs.step.slot_over.Statement.{statement}
 use Rattle.dispatch.proofs.step.slot_over.Tie as tie
 
@@ -65,7 +67,7 @@ module _ (c : tie.After-answer-to) where
   grants = entry .args .grants .now
 
   abbrev run : Run
-  run = runAt (entry .args .at) (entry .args .carried .now)
+  run = runAt (entry .args .at) (entry .args .carried .now) (entry .args .ended .now)
 
   abbrev q : Plan
   q = planOn o grades releases sizes deadlines
@@ -122,23 +124,33 @@ again false true e = rw e refl
 again false false e = rw e refl
 
 module _ (c : tie.After-share-out) where
+  abbrev settling : tie.After-settle
+  settling = c .before .before .before
+
   abbrev going-on : tie.Else1
-  going-on = c .before .before .before .before .before
+  going-on = settling .before .before .before .before .before
 
   abbrev at : tie.After-answer-to
   at = here going-on
 
-  slow-is : c .before .before .before .before .mark-after .result ≡ (run at .slow || ltb (v at) (o at .n .0))
-  slow-is = c .before .before .before .before .mark-after .ensures
+  slow-is : settling .before .before .before .before .mark-after .result ≡ (run at .slow || ltb (v at) (o at .n .0))
+  slow-is = settling .before .before .before .before .mark-after .ensures
 
   -- The grant row that `share_out` leaves.
   abbrev left : List ℕ
   left = c .share-out .last .1 .1 .1 .1 .1 .1 .1 .1 .1 .1 .0
 
+  -- What the jobs count as carried.
+  settled-is : (k : ℕ) → k < counted (q at) → getD (settling .settle .last .1 .1 .1 .0) k 0 ≡ cond (endedOf (run at) k) (size (q at) k) (carriedOf (run at) k)
+  settled-is k l =
+      ap (λ r. getD r k 0) (settling .settle .ensures)
+      ∙ filled-at (settledIn (run at .ended) (sizes at) (run at .carried)) mostJobs (replicate mostJobs 0) k (rw (length-replicate {A = ℕ} mostJobs 0) (omega arith)) (omega arith)
+      ∙ ap (λ s. cond (endedOf (run at) k) s (carriedOf (run at) k)) (sym (size-on (o at) (grades at) (releases at) (sizes at) (deadlines at) k l))
+
   grants-are : left ≡ granted (q at) (table at) (run at) (v at) (grants at)
   grants-are =
       c .share-out .ensures
-      ∙ same-granted (q at) (table at) (run at) _ false (v at) (grants at) (again (run at .slow) (ltb (v at) (o at .n .0)) slow-is)
+      ∙ settled-granted (q at) (table at) (run at) _ false _ (v at) (again (run at .slow) (ltb (v at) (o at .n .0)) slow-is) settled-is (grants at) (room going-on)
 
 -- The room and the sums for an equal row.
 same-room : {m n : ℕ} {l g : List ℕ} → m ≡ n → l ≡ g → n ≤ length g → m ≤ length l
@@ -172,9 +184,12 @@ mark-after-requires c κs = search needs
 mark-after-requires-2 : tie.Need-mark-after-requires-2
 mark-after-requires-2 c κs = search needs
 
+settle-requires : tie.Need-settle-requires
+settle-requires c κs = search needs
+
 share-out-requires : tie.Need-share-out-requires
 share-out-requires c κs =
-    let at-mark-after = c .before .before .before in
+    let at-mark-after = c .before .before .before .before .before .before in
     let was = at-mark-after .before in
     let at = here was in (
       room was,
@@ -193,8 +208,8 @@ carry-grants-requires c κs =
       λ k l. same-sums (carriedOf (run at) k) k (grants-are at-share-out) (carried-fits (q at) (table at) (run at) (v at) (grants at) (parts was) k (omega (arith, jobs was))),
     )
 
-add-t33 : tie.Need-add-t33
-add-t33 c =
+add-t37 : tie.Need-add-t37
+add-t37 c =
     let was = going-on (c .before .before .before .before .before .before) in
     omega (arith, parts was .not-over, parts was .rules .last)
 
@@ -208,7 +223,7 @@ returns-2 c p cols =
     let was = going-on at-share-out in
     let at = here was in
     slot-done (q at) (table at) (run at) (v at) (grants at) (told at) (none-empty _ (none was)) (room was) refl (slow-is at-share-out)
-    (at-share-out .before .before .before .mark-after2 .ensures) (grants-are at-share-out)
+    (settling at-share-out .before .before .before .mark-after2 .ensures) (grants-are at-share-out)
     (at-carry-grants .carry-grants .ensures ∙ ap (λ m. filled (λ k. carriedOf (run at) k + getD (left at-share-out) k 0) m (run at .carried)) (jobs was))
     ∙ sym (carried-over at p cols)
 
@@ -223,8 +238,9 @@ slot-over-spec =
     returns
     mark-after-requires
     mark-after-requires-2
+    settle-requires
     share-out-requires
     carry-grants-requires
-    add-t33
+    add-t37
     same-length
     returns-2)

@@ -32,7 +32,7 @@ same-length c = search needs
 returns-2 : tie.Need-returns-2
 returns-2 c =
     let at-slot-over = c .before .before .before .before in
-    let at-if1 = at-slot-over .before .before .before .before .before .before .before .before .before .before .before in
+    let at-if1 = at-slot-over .before .before .before .before .before .before .before .before .before .before .before .before .before in
     let at-columns = at-if1 .before in
     let a = at-columns .before .before .before .before .before .before .before .args in
     let none : List ℕ = replicate mostJobs 0 in

@@ -1,19 +1,21 @@
 -- `gateway::slots::gateway_step` meets its contract: 22, then 21, otherwise the slot's call over the columns of the plan.
-use mathlib.Core.Path.{_≡_, refl, sym, _∙_, ap₂}
+use mathlib.Core.Path.{_≡_, refl, sym, _∙_, ap}
+use mathlib.Core.Bool.{Bool, true}
 use mathlib.Core.List.{List}
 use Prim.Native.Nat.{ℕ}
 use borrow.Author.Needs.{needs}
 use borrow.Author.Tests.{not-true, not-false}
 use lib.ListN.{length, replicate, length-replicate}
 use Rattle.plan.specs.Edition.{mostJobs}
-use Rattle.dispatch.specs.Answers.{runAt}
+use Rattle.dispatch.specs.Answers.{runAt, answerView}
+use Rattle.dispatch.specs.declared.Moment.{Moment}
 use Rattle.dispatch.specs.Step.{stepped}
 use Rattle.dispatch.proofs.SlotOver.{unsound-refused}
-use Rattle.hostmemory.specs.Memory.{planOf, runOf, runPut}
+use Rattle.hostmemory.specs.Memory.{planOf, marksHold, runOf, runPut}
 use Rattle.hostmemory.proofs.ColumnLaws.{columns-read, too-large-unsound}
 use Rattle.hostmemory.proofs.RoundTrip.{run-again}
 use Rattle.gateway.specs.Calls.{stepCall}
-use Rattle.gateway.proofs.Laws.{outlined, step-words}
+use Rattle.gateway.proofs.Laws.{outlined, step-words, slot-put-back}
 use Rattle.gateway.proofs.RefusedStep.{refused-words}
 use Rattle.gateway.proofs.slots.gateway_step.Statement.{statement}
 use Rattle.gateway.proofs.slots.gateway_step.Tie as tie
@@ -67,6 +69,9 @@ outline-in-requires c κs = search needs
 moment-in-requires : tie.Need-moment-in-requires
 moment-in-requires c κs = search needs
 
+ended-in-requires : tie.Need-ended-in-requires
+ended-in-requires c κs = search needs
+
 carried-in-requires : tie.Need-carried-in-requires
 carried-in-requires c κs = search needs
 
@@ -81,32 +86,58 @@ module _ (c : tie.After-answer-number) where
   abbrev at-slot-over : tie.After-slot-over
   at-slot-over = c .before .before .before
 
+  abbrev at-carried-in : tie.After-carried-in
+  at-carried-in = at-slot-over .before .before .before .before .before .before .before .before
+
+  abbrev at-outline-in : tie.After-outline-in
+  at-outline-in = at-carried-in .before .before .before .before .before .before
+
   abbrev at-columns : tie.After-columns-in
-  at-columns = at-slot-over .before .before .before .before .before .before .before .before .before .before .before .before .before
+  at-columns = at-outline-in .before .before
 
   abbrev at-start : tie.Start
   at-start = at-columns .before .before .before .before .before .before .before .before .before .before .before .before .before
 
-  slot-words : {left : List ℕ} → left ≡ runPut (at-start .args .run .now) (runAt (at-slot-over .slot-over .result .next) (at-slot-over .slot-over .last .1 .1 .1 .1 .1 .1 .1 .1 .0))
-      → record { number = c .answer-number .result; run = left; grants = at-slot-over .slot-over .last .1 .1 .1 .1 .1 .1 .1 .1 .1 .0 }
-      ≡ stepCall (at-start .args .plan .now) (at-start .args .table .now) (at-start .args .run .now) (at-start .args .v) (at-start .args .grants .now)
-  slot-words put =
-      let a = at-start .args in
-      let at-carried-in = at-slot-over .before .before .before .before .before .before .before in
-      let at-moment-in = at-carried-in .before .before in
-      let at-outline-in = at-moment-in .before .before in
+  marks : marksHold (at-start .args .run .now) ≡ true
+  marks =
       let at-if2 = at-columns .before .before .before .before .before in
-      let at-marks-hold = at-if2 .before in
+      sym (at-if2 .before .marks-hold .ensures) ∙ not-false _ (at-if2 .if2 .left)
+
+  slot-effect : record {
+        answer = answerView (at-slot-over .slot-over .result .answer);
+        run = runAt (at-slot-over .slot-over .result .next) (at-slot-over .slot-over .last .1 .1 .1 .1 .1 .1 .1 .1 .1 .0) (runOf (at-start .args .run .now) .ended);
+        grants = at-slot-over .slot-over .last .1 .1 .1 .1 .1 .1 .1 .1 .1 .1 .0
+      }
+      ≡ stepped (planOf (at-start .args .plan .now)) (at-start .args .table .now) (runOf (at-start .args .run .now)) (at-start .args .v) (at-start .args .grants .now)
+  slot-effect =
+      let a = at-start .args in
+      let at-ended-in = at-carried-in .before .before in
+      let at-moment-in = at-ended-in .before .before in
       let p = planOf (a .plan .now) in
       let none : List ℕ = replicate mostJobs 0 in
       let long : length none ≡ mostJobs = length-replicate {A = ℕ} mostJobs 0 in
-      step-words (a .plan .now) (a .table .now) (a .run .now) (a .v) (a .grants .now) (at-marks-hold .before .before .if1 .left)
-      (sym (at-marks-hold .marks-hold .ensures) ∙ not-false _ (at-if2 .if2 .left))
-      (at-slot-over .slot-over .ensures p
+      ap (λ ended. record {
+        answer = answerView (at-slot-over .slot-over .result .answer);
+        run = runAt (at-slot-over .slot-over .result .next) (at-slot-over .slot-over .last .1 .1 .1 .1 .1 .1 .1 .1 .1 .0) ended;
+        grants = at-slot-over .slot-over .last .1 .1 .1 .1 .1 .1 .1 .1 .1 .1 .0
+      }) (sym (at-ended-in .ended-in .ensures))
+      ∙ at-slot-over .slot-over .ensures p
       (outlined p (at-outline-in .outline-in .ensures)
       (columns-read (a .plan .now) none none none none _ _ _ _ _ (at-columns .columns-in .ensures) (not-false _ (at-outline-in .before .if3 .left)) long long long long))
-      ∙ ap₂ (λ at carried. stepped p (a .table .now) (runAt at carried) (a .v) (a .grants .now)) (at-moment-in .moment-in .ensures) (at-carried-in .carried-in .ensures))
-      (c .answer-number .ensures) put
+      ∙ run-parts (at-moment-in .moment-in .ensures) (at-carried-in .carried-in .ensures) (at-ended-in .ended-in .ensures)
+    where
+      run-parts : {at next : Moment} {carried left : List ℕ} {ended marked : List Bool} → at ≡ next → carried ≡ left → ended ≡ marked
+          → stepped (planOf (at-start .args .plan .now)) (at-start .args .table .now) (runAt at carried ended) (at-start .args .v) (at-start .args .grants .now)
+          ≡ stepped (planOf (at-start .args .plan .now)) (at-start .args .table .now) (runAt next left marked) (at-start .args .v) (at-start .args .grants .now)
+      run-parts d e f = rw (d, e, f) refl
+
+  slot-words : {left : List ℕ} → left ≡ runPut (at-start .args .run .now) (runAt (at-slot-over .slot-over .result .next) (at-slot-over .slot-over .last .1 .1 .1 .1 .1 .1 .1 .1 .1 .0) (runOf (at-start .args .run .now) .ended))
+      → record { number = c .answer-number .result; run = left; grants = at-slot-over .slot-over .last .1 .1 .1 .1 .1 .1 .1 .1 .1 .1 .0 }
+      ≡ stepCall (at-start .args .plan .now) (at-start .args .table .now) (at-start .args .run .now) (at-start .args .v) (at-start .args .grants .now)
+  slot-words =
+      let a = at-start .args in
+      step-words (a .plan .now) (a .table .now) (a .run .now) (a .v) (a .grants .now) (at-columns .before .before .before .before .before .before .before .before .if1 .left)
+      marks slot-effect (c .answer-number .ensures)
 
 cast-if4 : tie.Need-cast-if4
 cast-if4 c = search needs
@@ -122,8 +153,8 @@ returns-4 c =
     let a = at-start (c .before) .args in
     refused-words (a .plan .now) (a .table .now) (a .run .now) (a .v) (a .grants .now) (slot-words (c .before) refl) (c .if4 .taken)
 
-put-parts-requires : tie.Need-put-parts-requires
-put-parts-requires c κs = search needs
+put-slot-requires : tie.Need-put-slot-requires
+put-slot-requires c κs = search needs
 
 same-length-5 : tie.Need-same-length-5
 same-length-5 c = search needs
@@ -133,8 +164,11 @@ same-length-6 c = search needs
 
 returns-5 : tie.Need-returns-5
 returns-5 c =
-    let at-put-parts = c .before .before in
-    slot-words (at-put-parts .before .before .before .before .before) (at-put-parts .put-parts .ensures)
+    let at-put-slot = c .before .before in
+    let at-number = at-put-slot .before .before .before .before .before in
+    let a = at-start at-number .args in
+    slot-words at-number
+    (slot-put-back (planOf (a .plan .now)) (a .table .now) (a .run .now) (a .v) (a .grants .now) (marks at-number) (slot-effect at-number) (at-put-slot .put-slot .ensures))
 
 pub gateway-step-spec : {M : Type 1} → statement M
 gateway-step-spec =
@@ -152,6 +186,7 @@ gateway-step-spec =
     returns-3
     outline-in-requires
     moment-in-requires
+    ended-in-requires
     carried-in-requires
     slot-over-requires
     answer-number-requires
@@ -159,7 +194,7 @@ gateway-step-spec =
     same-length-3
     same-length-4
     returns-4
-    put-parts-requires
+    put-slot-requires
     same-length-5
     same-length-6
     returns-5)

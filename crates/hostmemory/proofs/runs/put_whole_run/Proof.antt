@@ -1,48 +1,27 @@
--- `hostmemory::runs::put_whole_run` meets its contract: the clock, the marks, then the carried units.
-use mathlib.Core.Path.{refl, _∙_, ap}
-use native.Mathlib.Omega.{arith}
-use lib.ListN.{length, length-set}
-use lib.Seq.{length-sets}
-use Rattle.hostmemory.specs.Memory.{runOut}
+-- `hostmemory::runs::put_whole_run` meets its contract: what a slot changes, then the ended marks.
+use mathlib.Core.Path.{_∙_, ap}
+use mathlib.Core.List.{map}
+use lib.Seq.{sets}
+use Rattle.hostmemory.specs.Memory.{endedStart, markOut}
 use borrow.Author.Needs.{needs}
 use Rattle.hostmemory.proofs.runs.put_whole_run.Statement.{statement}
 use Rattle.hostmemory.proofs.runs.put_whole_run.Tie as tie
 
-slice-write-words : tie.Need-slice-write-words
-slice-write-words c = search needs
+put-whole-slot-requires : tie.Need-put-whole-slot-requires
+put-whole-slot-requires c κs = search needs
 
-mark-out-requires : tie.Need-mark-out-requires
-mark-out-requires c κs = search needs
-
-slice-write-words-2 : tie.Need-slice-write-words-2
-slice-write-words-2 c = simp length-set (omega arith)
-
-mark-out-requires-2 : tie.Need-mark-out-requires-2
-mark-out-requires-2 c κs = search needs
-
-slice-write-words-3 : tie.Need-slice-write-words-3
-slice-write-words-3 c = simp length-set (omega arith)
-
-put-carried-requires : tie.Need-put-carried-requires
-put-carried-requires c κs = search needs
+put-ended-requires : tie.Need-put-ended-requires
+put-ended-requires c κs = search needs
 
 same-length : tie.Need-same-length
-same-length c = ap length (c .before .before .put-carried .ensures) ∙ simp (length-sets, length-set)
+same-length c = search needs
 
 returns : tie.Need-returns
-unfolding runOut
 returns c =
-    c .before .before .put-carried .ensures ∙ rw (c .before .before .before .before .before .mark-out2 .ensures, c .before .before .before .before .before .before .mark-out .ensures) refl
+    let at-ended = c .before .before in
+    let at-slot = at-ended .before .before .before .before .before in
+    let a = at-slot .before .before .before .args in
+    at-ended .put-ended .ensures ∙ ap (λ w. sets w endedStart (map markOut (a .ended .now))) (at-slot .put-whole-slot .ensures)
 
 pub put-whole-run-spec : {M : Type 1} → statement M
-put-whole-run-spec =
-    tie.close
-    (tie.spec
-    slice-write-words
-    mark-out-requires
-    slice-write-words-2
-    mark-out-requires-2
-    slice-write-words-3
-    put-carried-requires
-    same-length
-    returns)
+put-whole-run-spec = tie.close (tie.spec put-whole-slot-requires put-ended-requires same-length returns)
