@@ -25,7 +25,7 @@ ghost use mathlib.Core.Path.{_≡_};
 ghost use lib.Dec.{ltb};
 ghost use Rattle.plan.specs.Report.{isNone};
 ghost use Rattle.dispatch.specs.inner.Readiness.{faultBy};
-ghost use Rattle.dispatch.specs.Answers.{answerView, Steps, StepsOver};
+ghost use Rattle.dispatch.specs.Answers.{answerView, runAt, Steps, StepsOver};
 
 // The result of a slot's call over columns: the answer, and the run but for its carried units, which are
 // lent. With a refusal the run is unchanged.
@@ -117,6 +117,22 @@ pub fn slot_over(
     Slot { answer, next }
 }
 
+// A run, from its parts.
+fn run_at(at: Moment, carried: [u32; Edition::MOST_JOBS], ended: [bool; Edition::MOST_JOBS]) -> Run
+    ensures { λ r. ⌜ r ≡ runAt at carried ended ⌝ }
+{
+    let clock = at.clock;
+    let slow = at.slow;
+    let below = at.below;
+    Run {
+        clock,
+        slow,
+        below,
+        carried,
+        ended,
+    }
+}
+
 // Carries one slot at speed v and writes the grants to the lent row, one entry per counted job. A
 // refusal changes neither run nor row. A size that has no room in a column is too large for rule 9.
 pub fn step(p: Plan, table: &[u32], run: Run, v: u16, grants: &mut [u32]) -> Stepped
@@ -155,15 +171,6 @@ pub fn step(p: Plan, table: &[u32], run: Run, v: u16, grants: &mut [u32]) -> Ste
     );
     let answer = s.answer;
     let next = s.next;
-    let clock = next.clock;
-    let slow = next.slow;
-    let below = next.below;
-    let after = Run {
-        clock,
-        slow,
-        below,
-        carried,
-        ended,
-    };
+    let after = run_at(next, carried, ended);
     Stepped { answer, run: after }
 }

@@ -465,7 +465,7 @@ module _ (p : Plan) (table : List ℕ) (rules : Bounded p) (allotted : Allotted 
         let h = holds night a in
         let run = runAfter p night in
         let whole : (i : ℕ) → i < counted p → settledOf p run i ≡ size p i
-            → (told p night i ≡ true) ⊎ ((had p night i ≡ size p i) × (hadInWindow p night i ≡ size p i))
+        → (told p night i ≡ true) ⊎ ((had p night i ≡ size p i) × (hadInWindow p night i ≡ size p i))
         = λ i k e. if-true (told p night i)
         (λ t. inl t)
         (λ t. let carried : carriedOf run i ≡ size p i = rw (h .ends i k ∙ t) at e in

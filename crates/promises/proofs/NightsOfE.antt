@@ -1,20 +1,23 @@
 -- Nights of plan E, computed: one with refused calls between its slots, one in which the LO job
--- is met, and one in which it is discarded.
+-- is met, one in which it is discarded, and one in which it ends early.
 use mathlib.Core.Path.{_≡_, refl}
+use mathlib.Core.Logic.{_⊎_, inr}
+use mathlib.Core.Bool.{false}
 use mathlib.Core.List.{List, [], _∷_}
 use Prim.Native.Nat.{ℕ, _≤_}
 use native.Mathlib.Omega.{arith}
 use lib.Dec.{lit<, lit≤}
 use Rattle.base.specs.Sum.{sum}
 use Rattle.base.specs.Below
-use Rattle.plan.specs.Refusal.{clockAtEnd, speedAboveNormal, unsound, bufferTooShort}
+use Rattle.plan.specs.Refusal.{clockAtEnd, speedAboveNormal, unsound, bufferTooShort, cannotEnd}
 use Rattle.plan.specs.Rules.{noPlan, gradesHold, boundsHold}
 use Rattle.plan.specs.Boundaries.{insert, boundariesTo, come}
 use Rattle.plan.specs.declared.kinds.Plan.{Plan}
 use Rattle.plan.specs.Report.{Report}
+use Rattle.dispatch.specs.declared.Run.{Run}
 use Rattle.dispatch.specs.Order
-use Rattle.dispatch.specs.Step.{met, discarded, started, slotSound, slotFault, granted, added, advanced, stepped, outcome}
-use Rattle.promises.specs.Night.{SlotCall, Call, slot, answerOf, runAfter, clockAt, had, hadInWindow, Allowed, Regular, HasRegular, none-yet, then-refused, then-regular, Kept, OutcomesKept, nightAt}
+use Rattle.dispatch.specs.Step.{met, endedEarly, discarded, endFault, toldEnded, started, slotSound, slotFault, granted, added, advanced, stepped, outcome}
+use Rattle.promises.specs.Night.{SlotCall, Call, slot, word, isDone, answerOf, AllowedCall, runAfter, clockAt, had, hadInWindow, Allowed, Regular, HasRegular, none-yet, then-refused, then-regular, Kept, OutcomesKept, nightAt}
 use Rattle.promises.proofs.Cases.{tableOf, planE, tableE}
 use Rattle.promises.proofs.Demand2.{accepted-E}
 use Rattle.promises.proofs.Demand3.{promise-kept, enough-calls-meet}
@@ -136,3 +139,33 @@ slow-nights-kept =
       promise-kept planE tableE accepted-E slowAfterThree three,
       outcomes-kept planE tableE accepted-E slowAfterThree three,
     )
+
+-- After one slot the host tells that `Mirror-A` has ended; nine more slots at the normal rate follow.
+abbrev wordE : Call
+wordE = word (record { plan = planE; position = 0 })
+
+abbrev pub endedAfterOne : List Call
+endedAfterOne =
+    callE 2 ∷ callE 2 ∷ callE 2 ∷ callE 2 ∷ callE 2 ∷ callE 2 ∷ callE 2 ∷ callE 2 ∷ callE 2 ∷ wordE ∷ callE 2 ∷ []
+
+-- It keeps the two units that it had and is ended; `mirror-A` has had its eight units and is met. A second word is refused.
+pub ended-job-keeps : (had planE endedAfterOne 0 ≡ 2) × (outcome planE (runAfter planE endedAfterOne) 0 ≡ endedEarly)
+    × (had planE endedAfterOne 1 ≡ 8) × (outcome planE (runAfter planE endedAfterOne) 1 ≡ met)
+    × (answerOf wordE (runAfter planE endedAfterOne) ≡ cannotEnd ∷ [])
+unfolding tableOf sum Below.every Below.least Below.greatest gradesHold boundsHold insert boundariesTo come runAfter started slotSound slotFault granted Order.order Order.queue Order.enqueue Order.serve added advanced stepped had outcome endFault toldEnded
+ended-job-keeps = (refl, refl, refl, refl, refl)
+
+-- The night is allowed, so that what is promised holds in it.
+pub ended-night-kept : Kept planE endedAfterOne × OutcomesKept planE endedAfterOne
+unfolding Allowed
+ended-night-kept = (
+  promise-kept planE tableE accepted-E endedAfterOne allowed,
+  outcomes-kept planE tableE accepted-E endedAfterOne allowed,
+)
+  where
+    one : (run : Run) → (isDone (answerOf (callE 2) run) ≡ false) ⊎ AllowedCall planE tableE (callE 2)
+    one run = inr (same-self planE tableE, lit≤ tt, lit≤ tt)
+
+    allowed : Allowed planE tableE endedAfterOne
+    allowed =
+        (((((((((((tt, one _), inr (same-self planE tableE)), one _), one _), one _), one _), one _), one _), one _), one _), one _)

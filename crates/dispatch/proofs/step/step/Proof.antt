@@ -26,6 +26,9 @@ returns c =
 slot-over-requires : tie.Need-slot-over-requires
 slot-over-requires c κs = search needs
 
+run-at-requires : tie.Need-run-at-requires
+run-at-requires c κs = search needs
+
 same-length : tie.Need-same-length
 same-length c = search needs
 
@@ -37,9 +40,10 @@ returns-2 c =
     let a = at-columns .before .before .before .before .before .before .before .args in
     let none : List ℕ = replicate mostJobs 0 in
     let long : length none ≡ mostJobs = length-replicate {A = ℕ} mostJobs 0 in
-    at-slot-over .slot-over .ensures (a .p)
-    (columns-put (a .p) none none none none (at-columns .columns-of .ensures) (not-false _ (at-if1 .if1 .left)) long long long long)
+    rw (c .run-at .ensures)
+    (at-slot-over .slot-over .ensures (a .p)
+    (columns-put (a .p) none none none none (at-columns .columns-of .ensures) (not-false _ (at-if1 .if1 .left)) long long long long))
 
 pub step-spec : {M : Type 1} → statement M
 step-spec =
-    tie.close (tie.spec columns-of-requires returns slot-over-requires same-length returns-2)
+    tie.close (tie.spec columns-of-requires returns slot-over-requires run-at-requires same-length returns-2)

@@ -104,10 +104,10 @@ module _ (c : tie.After-answer-number) where
       sym (at-if2 .before .marks-hold .ensures) ∙ not-false _ (at-if2 .if2 .left)
 
   slot-effect : record {
-        answer = answerView (at-slot-over .slot-over .result .answer);
-        run = runAt (at-slot-over .slot-over .result .next) (at-slot-over .slot-over .last .1 .1 .1 .1 .1 .1 .1 .1 .1 .0) (runOf (at-start .args .run .now) .ended);
-        grants = at-slot-over .slot-over .last .1 .1 .1 .1 .1 .1 .1 .1 .1 .1 .0
-      }
+    answer = answerView (at-slot-over .slot-over .result .answer);
+    run = runAt (at-slot-over .slot-over .result .next) (at-slot-over .slot-over .last .1 .1 .1 .1 .1 .1 .1 .1 .1 .0) (runOf (at-start .args .run .now) .ended);
+    grants = at-slot-over .slot-over .last .1 .1 .1 .1 .1 .1 .1 .1 .1 .1 .0;
+  }
       ≡ stepped (planOf (at-start .args .plan .now)) (at-start .args .table .now) (runOf (at-start .args .run .now)) (at-start .args .v) (at-start .args .grants .now)
   slot-effect =
       let a = at-start .args in
@@ -119,7 +119,7 @@ module _ (c : tie.After-answer-number) where
       ap (λ ended. record {
         answer = answerView (at-slot-over .slot-over .result .answer);
         run = runAt (at-slot-over .slot-over .result .next) (at-slot-over .slot-over .last .1 .1 .1 .1 .1 .1 .1 .1 .1 .0) ended;
-        grants = at-slot-over .slot-over .last .1 .1 .1 .1 .1 .1 .1 .1 .1 .1 .0
+        grants = at-slot-over .slot-over .last .1 .1 .1 .1 .1 .1 .1 .1 .1 .1 .0;
       }) (sym (at-ended-in .ended-in .ensures))
       ∙ at-slot-over .slot-over .ensures p
       (outlined p (at-outline-in .outline-in .ensures)
