@@ -1,4 +1,4 @@
--- A run: its start, the effect of a slot's call, and the outcome of each job.
+-- A run: its start, the effects of a slot's call and of the word that a job has ended, and the outcome of each job.
 use mathlib.Core.Bool.{Bool, true, false, not, cond, _&&_, _||_}
 use mathlib.Core.List.{List, [], _∷_, _++_}
 use Prim.Native.Nat.{ℕ, zero, suc, _+_}

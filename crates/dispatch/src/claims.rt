@@ -18,7 +18,7 @@ ghost use Rattle.dispatch.specs.inner.Turns.{dueIn, claimIn, unknown, Kn
 // worked out once more.
 pub(crate) const UNKNOWN: u32 = u32::MAX;
 
-// Whether a job is served: it is live, and HI if the slow mark is set.
+// Whether a job is served: it is in its window, and HI if the slow mark is set.
 fn is_served(grade: u32, release: Slots, deadline: Slots, clock: Slots, slow: bool) -> bool
     ensures { λ r. ⌜ r ≡ (leb (release .0) (clock .0) && ltb (clock .0) (deadline .0) && (eqb grade hi || not slow)) ⌝ }
 {

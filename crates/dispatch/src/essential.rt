@@ -29,7 +29,7 @@ fn clear_grants(jobs: usize, grants: &mut [u32])
     }
 }
 
-// Writes to the grant row what is due to each live HI job, and 0 for the others, in the order of their
+// Writes to the grant row what is due to each HI job in its window, and 0 for the others, in the order of their
 // positions and as long as it fits into v. The answer is the sum, which is above v if it does not fit;
 // what follows the first job that does not fit stays as it was. Each due that is worked out is noted in
 // the claims.

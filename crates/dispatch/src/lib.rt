@@ -1,4 +1,5 @@
-// One slot, one run: the run record, its start, the grants of a slot, and the outcome of each job.
+// One slot, one run: the run record, its start, the grants of a slot, the word that a
+// job has ended, and the outcome of each job.
 pub mod answers;
 mod claims;
 pub mod early;

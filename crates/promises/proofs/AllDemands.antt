@@ -26,7 +26,7 @@ every-call-is-determined =
       start = λ p table. single (unique.some-start p table) (unique.one-start p table);
       step = λ p table run v grants. both (unique.some-step p table run v grants) (unique.one-step p table run v grants);
       outcome = λ p run position. single (unique.some-outcome p run position) (unique.one-outcome p run position);
-      ending = λ p run position. single (unique.some-end-early p run position) (unique.one-end-early p run position);
+      telling = λ p run position. single (unique.some-end-early p run position) (unique.one-end-early p run position);
       importing = λ text. single (lists.some-import text) (lists.one-import text);
       exporting = λ list out. both (lists.some-export list out) (lists.one-export list out);
     }

@@ -7,17 +7,15 @@ use mathlib.Core.List.{List, [], _∷_}
 use Prim.Native.Nat.{ℕ, _+_, _≤_}
 use native.Mathlib.Omega.{arith}
 use borrow.Author.Tests.{le-ltb, ltb-false, ne-eqb}
-use lib.Dec.{leb, eqb}
-use lib.ListN.{length, getD, drop, replicate, length-drop, length-replicate}
-use lib.Seq.{length-sets, length-take-le}
+use lib.Dec.{eqb}
+use lib.ListN.{length, getD, replicate, length-replicate}
 use Rattle.base.specs.Sum.{sum, on}
 use Rattle.base.specs.Below
-use Rattle.base.proofs.Stores.{sets-whole}
 use Rattle.base.proofs.Logic.{if-true}
 use Rattle.plan.specs.Edition.{mostJobs}
 use Rattle.plan.specs.Refusal.{outsideWindow, wrongTotal, overCapacity, belowFloorRule, clockAtEnd, speedAboveNormal, unsound, bufferTooShort, noSuchJob, cannotEnd}
 use Rattle.plan.specs.Report.{Report, doneNumber, numberOf, first}
-use Rattle.plan.specs.Rules.{counted, noPlan, nameAllowed, namesHold, namesDiffer, gradesHold, boundsHold, rulesHold}
+use Rattle.plan.specs.Rules.{noPlan, nameAllowed, namesHold, namesDiffer, gradesHold, boundsHold, rulesHold}
 use Rattle.plan.specs.Boundaries.{insert, boundariesTo}
 use Rattle.plan.specs.Table.{noStray, sound}
 use Rattle.plan.specs.declared.kinds.Plan.{Plan}
@@ -29,8 +27,8 @@ use Rattle.hostmemory.specs.Memory.{planWords, runWords, locationWords, shortPl
 use Rattle.hostmemory.proofs.RoundTrip.{run-back, put-marks, carried-all, ended-all}
 use Rattle.gateway.specs.Calls.{HostStartEffect, HostStepEffect, HostEndEffect, startWords, located, shortLocation, slotWords, toldWords, endingNumber, startCall, stepCall, outcomeCall, endCall}
 use Rattle.gateway.proofs.Laws.{all-long, stepped-long}
-use Rattle.promises.specs.Night.{isDone, AllowedCall, runAfter, had, told, Allowed}
-use Rattle.promises.specs.HostNight.{HostStart, HostStep, HostCall, step, end, returned, MeetsContract, callOf, runWordsLeft, planStarted, HostAllowed, HostNight, nightOf, hostHad, CallShown, Shown, HostKept}
+use Rattle.promises.specs.Night.{isDone, tells, AllowedCall, runAfter, had, told, Allowed}
+use Rattle.promises.specs.HostNight.{HostStart, HostStep, HostCall, step, end, returned, MeetsContract, callOf, runWordsLeft, planStarted, HostAllowed, HostNight, nightOf, hostHad, hostTells, hostTold, CallShown, Shown, HostKept}
 use Rattle.plan.specs.Report.{isOneOf}
 use Rattle.promises.proofs.Cases.{tableOf, planE, tableE}
 use Rattle.promises.proofs.Strategy.{same-self}
@@ -148,7 +146,7 @@ module _ (plan run : List ℕ) (position : ℕ) (m : marksHold run ≡ true) whe
   abbrev told-of : WordEffect
   told-of = toldEnded (planOf plan) (runOf run) position
 
-  good-marks-end : endCall plan run position ≡ cond (shortPlan plan) (record { number = bufferTooShort; run = run }) (toldWords told-of run)
+  pub good-marks-end : endCall plan run position ≡ cond (shortPlan plan) (record { number = bufferTooShort; run = run }) (toldWords told-of run)
   unfolding endCall
   good-marks-end = rw (le-ltb (length run) runWords (marks-long run m), or-false (shortPlan plan), m) refl
 
@@ -292,6 +290,17 @@ unfolding HostNight Shown hostHad had
 had-by-rows s [] h i = refl
 had-by-rows s (c ∷ earlier) h i = ap₂ _+_ (had-by-rows s earlier (h .0) i) (night-shown s (c ∷ earlier) h .1 .gives i)
 
+-- What the host was heard to tell by its calls is what was told in the night.
+pub told-by-calls : (s : HostStart) (calls : List HostCall) → HostNight s calls → (i : ℕ) → hostTold calls i ≡ told (planStarted s) (nightOf calls) i
+unfolding HostNight Shown hostTold told
+told-by-calls s [] h i = refl
+told-by-calls s (c ∷ earlier) h i =
+    ap₂ _||_ (told-by-calls s earlier (h .0) i) (call-tells c (runAfter (planStarted s) (nightOf earlier)) i (night-shown s (c ∷ earlier) h .1))
+  where
+    call-tells : (c : HostCall) (run : Run) (i : ℕ) → CallShown c run → hostTells c i ≡ tells (callOf c) run i
+    call-tells (step c) run i shown = refl
+    call-tells (end c) run i shown = ap (λ b. b && eqb (c .position) i) (shown .done)
+
 -- Demand 3 for hosts: what is promised of a host's night holds.
 pub host-promise-kept : (s : HostStart) (calls : List HostCall) → HostNight s calls → HostKept s calls
 host-promise-kept s calls h =
@@ -313,7 +322,7 @@ host-promise-kept s calls h =
       essential = λ i k e come.
           let came = rw run-is at come in
           if-true (told p (nightOf calls) i)
-          (λ t. inl (endings i ∙ ap endingNumber (outcomes .told-ended i k t)))
+          (λ t. inl (told-by-calls s calls h i ∙ t, endings i ∙ ap endingNumber (outcomes .told-ended i k t)))
           (λ t. inr (
             had-by-rows s calls h i ∙ unless-told t (kept .essential i k e came) .0,
             endings i ∙ ap endingNumber (outcomes .essential-met i k e came t),

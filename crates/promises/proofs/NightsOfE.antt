@@ -148,10 +148,10 @@ abbrev pub endedAfterOne : List Call
 endedAfterOne =
     callE 2 ∷ callE 2 ∷ callE 2 ∷ callE 2 ∷ callE 2 ∷ callE 2 ∷ callE 2 ∷ callE 2 ∷ callE 2 ∷ wordE ∷ callE 2 ∷ []
 
--- It keeps the two units that it had and is ended; `mirror-A` has had its eight units and is met. A second word is refused.
+-- It keeps the two units that it had and is ended; `mirror-A` has had its eight units and is met. A second word, right after the first, is refused.
 pub ended-job-keeps : (had planE endedAfterOne 0 ≡ 2) × (outcome planE (runAfter planE endedAfterOne) 0 ≡ endedEarly)
     × (had planE endedAfterOne 1 ≡ 8) × (outcome planE (runAfter planE endedAfterOne) 1 ≡ met)
-    × (answerOf wordE (runAfter planE endedAfterOne) ≡ cannotEnd ∷ [])
+    × (answerOf wordE (runAfter planE (wordE ∷ callE 2 ∷ [])) ≡ cannotEnd ∷ [])
 unfolding tableOf sum Below.every Below.least Below.greatest gradesHold boundsHold insert boundariesTo come runAfter started slotSound slotFault granted Order.order Order.queue Order.enqueue Order.serve added advanced stepped had outcome endFault toldEnded
 ended-job-keeps = (refl, refl, refl, refl, refl)
 

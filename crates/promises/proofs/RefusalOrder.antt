@@ -272,7 +272,7 @@ pub end-order : (toldEnded planE (runE 5 false 7 8) 2 .answer ≡ unsound ∷ []
 unfolding Below.every Below.least Below.greatest gradesHold boundsHold slotSound outcome endFault toldEnded
 end-order = (refl, refl, refl, refl, refl, refl, refl, refl, refl)
 
--- An ended LO job stays ended when the slow mark is set later, and a run made by hand with the size carried and the mark set is met.
+-- Ended comes before discarded and before missed, and after met: here in runs made by hand.
 pub ended-before-discarded : (outcome planE (endedWith (runE 4 true 5 4) 0) 0 ≡ step.endedEarly)
     × (outcome planE (endedWith (runE 5 false 5 4) 0) 0 ≡ step.endedEarly)
     × (outcome planE (endedWith (runE 4 true 6 4) 0) 0 ≡ step.met)

@@ -23,7 +23,7 @@ pub record State : Type 0 where
 abbrev pub inItsWindow : Facts → ℕ → ℕ → Bool
 inItsWindow f t i = leb (f .rel i) t && ltb t (f .dl i)
 
--- Job i is live at the clock.
+-- Job i is in its window at the clock.
 abbrev pub alive : Facts → State → ℕ → Bool
 alive f s i = inItsWindow f (s .t) i
 

@@ -52,7 +52,7 @@ pub record EveryCallIsDetermined : Type 0 where
   pub step : (p : Plan) (table : Table) (run : Run) (v : Speed) (grants : Row)
       → ExactlyOne {A = Stepped × Row} (λ r. Steps p table run v grants (r .0) (r .1))
   pub outcome : (p : Plan) (run : Run) (position : Position) → ExactlyOne (Ends p run position)
-  pub ending : (p : Plan) (run : Run) (position : Position) → ExactlyOne (Tells p run position)
+  pub telling : (p : Plan) (run : Run) (position : Position) → ExactlyOne (Tells p run position)
   pub importing : (text : Bytes) → ExactlyOne (Imports text)
   pub exporting : (list : JobList) (out : Bytes) → ExactlyOne {A = Exported × Bytes} (λ r. Exports list out (r .0) (r .1))
 

@@ -2,7 +2,7 @@
 -- what is promised of it.
 use mathlib.Core.Path.{_≡_}
 use mathlib.Core.Logic.{_≢_, _⊎_}
-use mathlib.Core.Bool.{true}
+use mathlib.Core.Bool.{Bool, true, false, _&&_, _||_}
 use mathlib.Core.List.{List, [], _∷_}
 use Prim.Native.Nat.{ℕ, _+_, _≤_, _<_}
 use lib.Dec.{eqb}
@@ -67,6 +67,11 @@ abbrev pub hostGiven : HostCall → Position → Amount
 hostGiven (step c) i = on (eqb (c .number) doneNumber) (getD (c .row-left) i 0)
 hostGiven (end c) i = 0
 
+-- A call told that job i has ended: a call of `gateway_end` for it that returned 0.
+abbrev pub hostTells : HostCall → Position → Bool
+hostTells (step c) i = false
+hostTells (end c) i = eqb (c .number) doneNumber && eqb (c .position) i
+
 -- A call meets its contract on the run's words.
 abbrev pub MeetsContract : HostCall → Words → Type 0
 MeetsContract (step c) run = HostSteps (c .plan) (c .table) run (c .speed) (c .row) (c .number) (c .run-left) (c .row-left)
@@ -113,6 +118,11 @@ unfoldable pub hostHad : List HostCall → Position → Amount
 hostHad [] i = 0
 hostHad (c ∷ earlier) i = hostHad earlier i + hostGiven c i
 
+-- Whether a host's calls told that job i has ended.
+unfoldable pub hostTold : List HostCall → Position → Bool
+hostTold [] i = false
+hostTold (c ∷ earlier) i = hostTold earlier i || hostTells c i
+
 -- What the host sees of a call is what the night's call on the run before it does: the words left
 -- encode the run that it leaves, with marks that are 0 or 1; 0 is returned exactly if it is done; and
 -- what it gives is given.
@@ -136,11 +146,11 @@ pub record HostKept (s : HostStart) (calls : List HostCall) : Type 0 where
   pub outcomes-kept : OutcomesKept (planStarted s) (nightOf calls)
   -- `gateway_outcome` returns the number of the job's outcome in that night.
   pub endings : (i : ℕ) → outcomeCall (s .plan) (runWordsLeft s calls) i ≡ endingNumber (outcome (planStarted s) (runAfter (planStarted s) (nightOf calls)) i)
-  -- Hence of a HI job whose deadline the clock in the run's words has reached `gateway_outcome` returns that it has ended,
-  -- or it has had exactly its size by the rows that the calls left, and `gateway_outcome` returns that it is met.
+  -- Hence of a HI job whose deadline the clock in the run's words has reached the host told that it ended, and
+  -- `gateway_outcome` returns that; or it has had exactly its size by the rows that the calls left, and `gateway_outcome` returns that it is met.
   pub essential : (i : ℕ) → i < counted (planStarted s) → isHi (planStarted s) i ≡ true
       → deadline (planStarted s) i ≤ runOf (runWordsLeft s calls) .clock .0
-      → (outcomeCall (s .plan) (runWordsLeft s calls) i ≡ endedNumber)
+      → ((hostTold calls i ≡ true) × (outcomeCall (s .plan) (runWordsLeft s calls) i ≡ endedNumber))
       ⊎ ((hostHad calls i ≡ size (planStarted s) i) × (outcomeCall (s .plan) (runWordsLeft s calls) i ≡ metNumber))
   -- No job has had more than its size by those rows.
   pub no-more : (i : ℕ) → i < counted (planStarted s) → hostHad calls i ≤ size (planStarted s) i

@@ -196,7 +196,7 @@ pub record OutcomesKept (p : Plan) (night : List Call) : Type 0 where
   -- The same for any job, if no slow slot began before its deadline.
   pub others-met : (i : ℕ) → i < counted p → deadline p i ≤ runAfter p night .clock .0 → slowedBefore p (deadline p i) night ≡ false
       → told p night i ≡ false → outcome p (runAfter p night) i ≡ met
-  -- A job that was told ended has that outcome, now and in the rest of the night.
+  -- A job that was told ended has that outcome.
   pub told-ended : (i : ℕ) → i < counted p → told p night i ≡ true → outcome p (runAfter p night) i ≡ endedEarly
   -- No job is missed.
   pub none-missed : (i : ℕ) → outcome p (runAfter p night) i ≢ missed

@@ -16,7 +16,7 @@ use Rattle.dispatch.proofs.StartEffect.{stays}
 use Rattle.dispatch.proofs.start.start.Statement.{statement}
 use Rattle.dispatch.proofs.start.start.Tie as tie
 
--- A run at a given clock, with nothing carried and both marks clear.
+-- A run at a given clock, with nothing carried, no job ended and both marks clear.
 abbrev fresh : Slots → Run
 fresh clock = record { clock = clock; slow = false; below = false; carried = replicate mostJobs 0; ended = replicate mostJobs false }
 
