@@ -18,7 +18,7 @@ use Rattle.plan.specs.Rules.{jobsOf, lo, hi, byteOf, counted, jobOf, name, rele
 use Rattle.plan.specs.Boundaries.{intervals, firstRelease, lastDeadline}
 use Rattle.plan.specs.Table.{noStray, sound}
 use Rattle.plan.specs.Refusal.{clockAtEnd, speedAboveNormal, unsound, bufferTooShort, noSuchJob, cannotEnd}
-use Rattle.plan.specs.Report.{Report}
+use Rattle.plan.specs.Report.{Report, orElse, fault}
 use Rattle.plan.specs.declared.kinds.Plan.{Plan}
 use Rattle.plan.proofs.BoundaryOrder.{boundaries-few}
 use Rattle.plan.proofs.Soundness.{rules-parts, sound-parts}
@@ -28,9 +28,13 @@ use Rattle.planwriter.specs.Writing.{wrote, written, writer}
 use Rattle.dispatch.specs.declared.Run.{Run}
 use Rattle.dispatch.specs.Dues.{carriedOf, endedOf}
 use Rattle.dispatch.specs.Step as step
-use Rattle.dispatch.specs.Step.{Ending, slotSound, slotFault, stepped, outcome, isOpen, endFault, endBy, toldEnded}
+use Rattle.dispatch.specs.Step.{Ending, slotSound, slotFault, stepped, outcome, isOpen, WordEffect, endFault, endBy, toldEnded}
 use Rattle.promises.specs.Grounds.{Rule4, Rule5, Rule6, Rule7, Rule8, Rule9, NoStray, SoundPlan, SoundRun, writtenLength, WriterDecided, table-short, plan-unsound, output-short, file-written, StepDecided, run-unsound, buffer-short, at-end, too-fast, slot-done, Asked, OutcomeDecided, not-asked, all-carried, told-of, dropped, late, waiting, EndDecided, word-unsound, no-such-job, cannot-end, word-done}
-use Rattle.promises.proofs.Progress.{answer-is-fault}
+use Rattle.promises.proofs.Progress.{answer-is-fault, sound-after}
+use Rattle.promises.proofs.SameSlot.{same-word}
+use Rattle.promises.specs.Night.{EndCall, Call, word, answerOf, runAfter, clockAt, Allowed}
+use Rattle.plan.specs.Same.{Same}
+use Rattle.judge.specs.Verdict.{judged}
 
 -- A conjunction of tests decides the conjunction of what they decide.
 and-exactly : {A B : Type 0} (a b : Bool) → ((a ≡ true) ↔ A) → ((b ≡ true) ↔ B) → ((a && b) ≡ true) ↔ (A × B)
@@ -444,3 +448,16 @@ module _ (p : Plan) (run : Run) (i : ℕ) where
   -- The word gives each answer exactly when `EndDecided` says so.
   pub end-exactly : (r : Report) → (toldEnded p run i .answer ≡ r) ↔ EndDecided p run i r
   end-exactly = exactly-decided (EndDecided p run i) (toldEnded p run i .answer) (λ r d. word-answer ∙ only-word r d) some-word
+
+-- In an allowed night of an accepted plan, a word with that plan, or the same one, is refused exactly by 25, where no job has the
+-- position, and by 26, before the release or if the outcome is not open: never by 21.
+pub word-in-night : (p : Plan) (table : List ℕ) → judged p table ≡ [] → (night : List Call) → Allowed p table night
+    → (w : EndCall) → Same p table (w .plan) table
+    → answerOf (word w) (runAfter p night)
+    ≡ orElse (fault (not (ltb (w .position) (p .count))) (noSuchJob ∷ []))
+    (fault (ltb (clockAt p night) (release p (w .position)) || not (isOpen (outcome p (runAfter p night) (w .position)))) (cannotEnd ∷ []))
+unfolding endFault
+word-in-night p table accepted night a w same =
+    ap (λ (e : WordEffect). e .answer) (sym (same-word p table (w .plan) table same (runAfter p night) (w .position)))
+    ∙ word-answer p (runAfter p night) (w .position)
+    ∙ rw (sound-after p table accepted night a) refl

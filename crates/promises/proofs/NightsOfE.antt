@@ -4,7 +4,7 @@ use mathlib.Core.Path.{_≡_, refl}
 use mathlib.Core.Logic.{_⊎_, inr}
 use mathlib.Core.Bool.{false}
 use mathlib.Core.List.{List, [], _∷_}
-use Prim.Native.Nat.{ℕ, _≤_}
+use Prim.Native.Nat.{ℕ, zero, suc, _≤_}
 use native.Mathlib.Omega.{arith}
 use lib.Dec.{lit<, lit≤}
 use Rattle.base.specs.Sum.{sum}
@@ -169,3 +169,29 @@ ended-night-kept = (
     allowed : Allowed planE tableE endedAfterOne
     allowed =
         (((((((((((tt, one _), inr (same-self planE tableE)), one _), one _), one _), one _), one _), one _), one _), one _), one _)
+
+-- Some slots of plan E at the normal rate after some calls.
+abbrev slotsE : ℕ → List Call → List Call
+slotsE zero earlier = earlier
+slotsE (suc k) earlier = callE 2 ∷ slotsE k earlier
+
+-- What becomes of the room that an ended job leaves. `Mirror-A` ends at clock 1: `mirror-A` has its four units of the interval from 1 to
+-- 5 already at clock 3, gets nothing in the two slots until 5, though the link is free, and the other four at 5 and 6. No job is
+-- handed out an allotment of a later interval.
+pub room-stays-free : (had planE (slotsE 2 (wordE ∷ callE 2 ∷ [])) 1 ≡ 4) × (had planE (slotsE 4 (wordE ∷ callE 2 ∷ [])) 1 ≡ 4)
+    × (had planE (slotsE 5 (wordE ∷ callE 2 ∷ [])) 1 ≡ 6) × (had planE (slotsE 6 (wordE ∷ callE 2 ∷ [])) 1 ≡ 8)
+unfolding tableOf sum Below.every Below.least Below.greatest gradesHold boundsHold insert boundariesTo come runAfter started slotSound slotFault granted Order.order Order.queue Order.enqueue Order.serve added advanced stepped had outcome endFault toldEnded
+room-stays-free = (refl, refl, refl, refl)
+
+-- If `mirror-A`, the HI job, ends at clock 1, `Mirror-A` is served in its place within the interval, and is met at clock 3, two slots
+-- before it would be without the word; the link then stays free.
+abbrev wordHiE : Call
+wordHiE = word (record { plan = planE; position = 1 })
+
+pub others-within-their-dues : (had planE (slotsE 2 (wordHiE ∷ callE 2 ∷ [])) 0 ≡ 6)
+    × (outcome planE (runAfter planE (slotsE 2 (wordHiE ∷ callE 2 ∷ []))) 0 ≡ met)
+    × (had planE (slotsE 9 (wordHiE ∷ callE 2 ∷ [])) 1 ≡ 0)
+    × (outcome planE (runAfter planE (slotsE 9 (wordHiE ∷ callE 2 ∷ []))) 1 ≡ endedEarly)
+    × (had planE (slotsE 3 []) 0 ≡ 2) × (had planE (slotsE 5 []) 0 ≡ 6)
+unfolding tableOf sum Below.every Below.least Below.greatest gradesHold boundsHold insert boundariesTo come runAfter started slotSound slotFault granted Order.order Order.queue Order.enqueue Order.serve added advanced stepped had outcome endFault toldEnded
+others-within-their-dues = (refl, refl, refl, refl, refl, refl)

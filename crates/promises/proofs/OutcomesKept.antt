@@ -1,6 +1,6 @@
 -- From grants to outcomes: what `outcome` answers in an allowed night of an accepted plan.
 use mathlib.Core.Path.{_≡_, refl, sym, _∙_, ap}
-use mathlib.Core.Logic.{_≢_}
+use mathlib.Core.Logic.{_≢_, _⊎_, inl, inr}
 use mathlib.Core.Bool.{Bool, true, false, not, cond, _&&_, true≢false}
 use mathlib.Core.List.{List, [], _∷_}
 use Prim.Native.Nat.{ℕ, _+_, _≤_, _<_}
@@ -142,6 +142,13 @@ module _ (p : Plan) (table : List ℕ) (accepted : judged p table ≡ []) where
           none-missed = λ i e. true≢false (sym (ap isMissed e) ∙ never-missed i);
           none-refused = λ i number h e. true≢false (sym (ap isRefused e) ∙ ap isRefused (outcome-is i h) ∙ not-refused i);
         }
+
+  -- The outcome of a HI job whose deadline has come is met or ended.
+  pub met-or-ended : (night : List Call) → Allowed p table night → (i : ℕ) → i < counted p → isHi p i ≡ true → deadline p i ≤ runAfter p night .clock .0
+      → (outcome p (runAfter p night) i ≡ met) ⊎ (outcome p (runAfter p night) i ≡ endedEarly)
+  met-or-ended night a i h e come =
+      let kept = outcomes-kept night a in
+      if-true (told p night i) (λ t. inr (kept .told-ended i h t)) (λ t. inl (kept .essential-met i h e come t))
 
   -- With progress: after refused calls and k regular ones, where k slots reach from the first release
   -- to a HI job's deadline, the job is met.
