@@ -3,6 +3,8 @@
 //!
 //! It first compares what both answer, and stops if they differ.
 
+// Not every call of the library is measured.
+#[allow(dead_code)]
 #[path = "../hosts/rust/calls.rs"]
 mod calls;
 
@@ -13,14 +15,14 @@ use std::hint::black_box;
 use std::process::ExitCode;
 use std::time::{Duration, Instant};
 
-use bench::inputs::{Input, Shape, Slot, LARGEST_FILE};
+use bench::inputs::{Input, Night, Shape, Slot, LARGEST_FILE};
 use bench::refusal::TOO_SHORT;
-use bench::words::{plan_words, run_words, step_words};
-use bench::{judge, read, slack, write, Slack, Verdict, MOST_JOBS, PLACES};
+use bench::words::{plan_words, run_words, shift_words, step_words};
+use bench::{judge, read, slack, write, Slack, Verdict, MOST_JOBS, MOST_SPEEDS, PLACES};
 use calls::*;
 
 const USAGE: &str = "usage: both count|time usual|full|file JOBS
-       both slots usual|full JOBS
+       both slots|nights usual|full JOBS
        both stack";
 
 fn main() -> ExitCode {
@@ -28,6 +30,7 @@ fn main() -> ExitCode {
     let words: Vec<&str> = words.iter().map(String::as_str).collect();
     let done = match words[..] {
         ["slots", shape, jobs] => input_of(shape, jobs).map(|(input, _)| count_slots(&input)),
+        ["nights", shape, jobs] => input_of(shape, jobs).map(|(input, _)| count_nights(&input)),
         [how, shape, jobs] => how_of(how).zip(input_of(shape, jobs)).map(|(how, (input, judged))| measure(how, &Both::new(input), judged)),
         ["stack"] => Some(stacks()),
         _ => None,
@@ -126,6 +129,79 @@ impl Lent {
     }
 }
 
+/// A night for both sides: the words that a host lends, and as many places as the call needs.
+struct LentNight {
+    name: &'static str,
+    plan: [u64; PLAN_WORDS],
+    table: Vec<u32>,
+    run: [u32; RUN_WORDS],
+    speeds: [u16; MOST_SPEEDS],
+    jobs: usize,
+}
+
+/// What the calls of a night leave, and what the one call for all speeds answers.
+#[derive(PartialEq)]
+struct Left {
+    answer: u32,
+    run: [u32; RUN_WORDS],
+    rows: Vec<u32>,
+    numbers: [u8; MOST_SPEEDS],
+}
+
+impl LentNight {
+    fn new(night: Night) -> LentNight {
+        let Night { name, plan, table, run, speeds } = night;
+        LentNight { name, plan: plan_words(&plan), table, run: run_words(&run), speeds, jobs: plan.count }
+    }
+
+    fn all(input: &Input) -> Vec<LentNight> {
+        input.nights().into_iter().map(LentNight::new).collect()
+    }
+
+    /// With marks in the places that a refusal leaves.
+    fn before(&self) -> Left {
+        Left { answer: 0, run: self.run, rows: vec![7; self.jobs * MOST_SPEEDS], numbers: [77; MOST_SPEEDS] }
+    }
+
+    fn shift(&self, left: &mut Left) {
+        let LentNight { plan, table, speeds, .. } = self;
+        let Left { run, rows, numbers, .. } = left;
+        left.answer = unsafe {
+            gateway_shift(
+                plan.as_ptr(),
+                PLAN_WORDS,
+                table.as_ptr(),
+                table.len(),
+                run.as_mut_ptr(),
+                RUN_WORDS,
+                speeds.as_ptr(),
+                MOST_SPEEDS,
+                rows.as_mut_ptr(),
+                rows.len(),
+                numbers.as_mut_ptr(),
+                MOST_SPEEDS,
+            )
+        };
+    }
+
+    /// The same by a call for each speed.
+    fn single_calls(&self, left: &mut Left) {
+        let LentNight { plan, table, .. } = self;
+        let Left { run, rows, numbers, .. } = left;
+        for ((row, number), &speed) in rows.chunks_exact_mut(self.jobs).zip(numbers).zip(&self.speeds) {
+            let answer = unsafe {
+                gateway_step(plan.as_ptr(), PLAN_WORDS, table.as_ptr(), table.len(), run.as_mut_ptr(), RUN_WORDS, speed, row.as_mut_ptr(), row.len())
+            };
+            *number = answer as u8;
+        }
+    }
+
+    fn plain_shift(&self, left: &mut Left) {
+        let Left { run, rows, numbers, .. } = left;
+        left.answer = shift_words(&self.plan, &self.table, run, &self.speeds, rows, numbers).err().unwrap_or(0).into();
+    }
+}
+
 // What lies between these two is counted. Their bodies differ, so that no compiler makes one function of them.
 #[no_mangle]
 #[inline(never)]
@@ -147,14 +223,15 @@ enum How {
 
 fn section(how: How, call: &str, who: &str, make: impl FnMut()) {
     match how {
-        How::Count => counted(call, who, make),
+        // Half of the difference is one call.
+        How::Count => counted(call, who, [1, 3], make),
         How::Time => timed(call, who, make),
     }
 }
 
-/// Two sections, of one call and of three: half of their difference is one call without what is around it.
-fn counted(call: &str, who: &str, mut make: impl FnMut()) {
-    for repeat in [1, 3] {
+/// Two sections with so many calls, so that their difference is calls without what is around them.
+fn counted(call: &str, who: &str, repeats: [i32; 2], mut make: impl FnMut()) {
+    for repeat in repeats {
         section_begins();
         for _ in 0..black_box(repeat) {
             make();
@@ -283,7 +360,31 @@ fn count_slots(input: &Input) {
     });
 }
 
-// Makes a call on another stack: rdi is the function, rsi the other stack's top, rdx points to nine words, of which six go to registers.
+/// Counts all calls of each night for measuring: the shift, the calls for each speed, and the plain shift.
+fn count_nights(input: &Input) {
+    println!("input {} {} {} {}", input.plan.count, input.intervals, input.rows, input.file.len());
+    for night in LentNight::all(input) {
+        let name = night.name;
+        let sides: [(&str, fn(&LentNight, &mut Left)); 3] =
+            [("ours", LentNight::shift), ("single", LentNight::single_calls), ("plain", LentNight::plain_shift)];
+        let lefts = sides.map(|(_, make)| {
+            let mut left = night.before();
+            make(&night, &mut left);
+            left
+        });
+        assert!(lefts[0].answer == 0 && lefts[0] == lefts[1] && lefts[0] == lefts[2], "{name}");
+        println!("night {name} {}", lefts[0].numbers.iter().filter(|&&number| number == 0).count());
+        for ((who, make), mut left) in sides.into_iter().zip(lefts) {
+            // Each gets the same run, so a copy of its words is counted with it. A night is long: one of it, beside none, is enough.
+            counted(&format!("shift:{name}"), who, [0, 1], || {
+                left.run = night.run;
+                make(black_box(&night), black_box(&mut left));
+            });
+        }
+    }
+}
+
+// Makes a call on another stack: rdi is the function, rsi the other stack's top, rdx points to twelve words, of which six go to registers.
 global_asm!(
     ".globl call_on",
     "call_on:",
@@ -293,7 +394,9 @@ global_asm!(
     "mov rsp, rsi",
     "mov rax, rdi",
     "mov rbx, rdx",
-    "sub rsp, 8",
+    "push qword ptr [rbx + 88]",
+    "push qword ptr [rbx + 80]",
+    "push qword ptr [rbx + 72]",
     "push qword ptr [rbx + 64]",
     "push qword ptr [rbx + 56]",
     "push qword ptr [rbx + 48]",
@@ -311,17 +414,19 @@ global_asm!(
 );
 
 extern "C" {
-    fn call_on(function: *const (), top: *mut u8, words: *const [u64; 9]) -> u64;
+    fn call_on(function: *const (), top: *mut u8, words: *const [u64; ARGUMENTS]) -> u64;
 }
 
+/// Words that `call_on` hands over.
+const ARGUMENTS: usize = 12;
 /// Bytes of the painted stack.
 const PAINTED: usize = 1 << 16;
 /// What `call_on` puts on it before the call.
-const PUSHED: usize = 32;
+const PUSHED: usize = 48;
 
 /// What a call answers, and how many bytes of stack it wrote: its arguments there, its return address and all below.
 fn stack_of(function: *const (), arguments: &[u64]) -> (u64, usize) {
-    let mut words = [0; 9];
+    let mut words = [0; ARGUMENTS];
     words[..arguments.len()].copy_from_slice(arguments);
     let mut answer = 0;
     let mut deepest = 0;
@@ -341,7 +446,7 @@ fn stack_of(function: *const (), arguments: &[u64]) -> (u64, usize) {
 
 /// The deepest stack of each call, in the order of the table, and all answers.
 struct Deepest {
-    calls: [(&'static str, usize); 9],
+    calls: [(&'static str, usize); 10],
     answers: BTreeSet<u64>,
 }
 
@@ -357,15 +462,21 @@ impl Deepest {
     }
 }
 
-/// Prints the deepest stack of each call, over plans of all sizes, over slots of all kinds and over ways to refuse them.
+/// Prints the deepest stack of each call, over plans of all sizes, over slots and nights of all kinds and over ways to refuse them.
 fn stacks() {
-    let calls = ["read", "write", "name", "judge", "slack", "start", "step", "outcome", "lent-step"].map(|call| (call, 0));
+    let calls = ["read", "write", "name", "judge", "slack", "start", "step", "shift", "outcome", "lent-step"].map(|call| (call, 0));
     let mut deepest = Deepest { calls, answers: BTreeSet::new() };
     for shape in ["usual", "full", "file"] {
         for jobs in ["1", "8", "16", "32"] {
             let (input, _) = input_of(shape, jobs).expect("an input");
             for slot in Lent::all(&input) {
                 stacks_of_slot(&mut deepest, &slot);
+            }
+            for night in LentNight::all(&input) {
+                for speeds in [&night.speeds[..], &[0; MOST_SPEEDS + 1]] {
+                    let Left { mut run, mut rows, mut numbers, .. } = night.before();
+                    deepest.note_answer("shift", stack_of_shift(&night.plan, &night.table, &mut run, speeds, &mut rows, &mut numbers));
+                }
             }
             for change in 0..CHANGES {
                 let mut both = Both::new(Input { table: input.table.clone(), file: input.file.clone(), ..input });
@@ -431,7 +542,25 @@ fn stacks_of(deepest: &mut Deepest, both: &mut Both) {
     deepest.note_answer("read", stack_of(gateway_read as *const (), &[file, file_length, words, plan_length, cells, places, offset]));
 }
 
-/// The stack of a slot's calls: the step, the same on a lent run, and the outcome at every position.
+/// The stack of a shift's call. Each paint makes it once more, so the second finds the run as the first left it.
+fn stack_of_shift(
+    plan: &[u64; PLAN_WORDS],
+    table: &[u32],
+    run: &mut [u32; RUN_WORDS],
+    speeds: &[u16],
+    rows: &mut [u32],
+    numbers: &mut [u8],
+) -> (u64, usize) {
+    let plan = [plan.as_ptr() as u64, PLAN_WORDS as u64];
+    let table = [table.as_ptr() as u64, table.len() as u64];
+    let run = [run.as_mut_ptr() as u64, RUN_WORDS as u64];
+    let speeds = [speeds.as_ptr() as u64, speeds.len() as u64];
+    let rows = [rows.as_mut_ptr() as u64, rows.len() as u64];
+    let numbers = [numbers.as_mut_ptr() as u64, numbers.len() as u64];
+    stack_of(gateway_shift as *const (), &[plan, table, run, speeds, rows, numbers].concat())
+}
+
+/// The stack of a slot's calls: the step, the shift at its speed alone, the step on a lent run, and the outcome at every position.
 fn stacks_of_slot(deepest: &mut Deepest, slot: &Lent) {
     let plan = [slot.plan.as_ptr() as u64, PLAN_WORDS as u64];
     let table = [slot.table.as_ptr() as u64, slot.table.len() as u64];
@@ -444,6 +573,9 @@ fn stacks_of_slot(deepest: &mut Deepest, slot: &Lent) {
     let lent = [run.as_mut_ptr() as u64, RUN_WORDS as u64];
     let row = [grants.as_mut_ptr() as u64, MOST_JOBS as u64];
     deepest.note_answer("step", stack_of(gateway_step as *const (), &[&plan[..], &table, &lent, &[slot.speed.into()], &row].concat()));
+    let (mut shift_run, mut shift_grants) = (slot.run, [7_u32; MOST_JOBS]);
+    deepest.note_answer("shift", stack_of_shift(&slot.plan, &slot.table, &mut shift_run, &[slot.speed], &mut shift_grants, &mut [7]));
+    assert!(run == shift_run && grants == shift_grants, "{}", slot.name);
     let (bytes, other_run, other_grants) = lent_step(slot);
     deepest.note("lent-step", bytes);
     // A host's words can hold what is no mark, and then its step is refused; a run record cannot.

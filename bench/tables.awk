@@ -14,6 +14,7 @@ FILENAME ~ /counts$/ {
     }
     next
 }
+FILENAME ~ /nights$/ { done[$1 " " $2, $3] = $4; next }
 FILENAME ~ /times$/ { time[$1 " " $2, $3, $4] = $5; timed = 1; next }
 FILENAME ~ /stack$/ { if ($1 == "stack") { calls[++stacks] = $2; painted[$2] = $3 } else { sub(/^answers /, ""); answers = $0 } next }
 FILENAME ~ /lent-frames$/ { lent_lines = lent_lines frame_line(); most["lent-step"] = $1 == "lentrun::step_in" ? $4 : most["lent-step"]; next }
@@ -110,8 +111,33 @@ function slots(n, list, m, names, i, k, input, call, ratio, greatest, sentence) 
     print ""
     end()
 }
+# A shift beside single calls of the step at the same speeds, all of a night at a time. The goal is that of 32 jobs.
+function shift_ratio(night, input) { return total[input, "shift:" night, "ours"] / total[input, "shift:" night, "single"] }
+function shift_goal(night, input) { return input ~ / 32$/ ? "0.6, " met(shift_ratio(night, input), 0.6) : "" }
+function shift_line(first, night, input, ours, plain) {
+    ours = total[input, "shift:" night, "ours"]
+    plain = total[input, "shift:" night, "plain"]
+    printf "| %s | %s | %s | %s | %.2f | %s | %s | %.1f |\n", first, done[input, night], with_commas(total[input, "shift:" night, "single"]), with_commas(ours), shift_ratio(night, input), shift_goal(night, input), with_commas(plain), ours / plain
+}
+function shifts(n, list, m, names, i, k) {
+    n = split("normal slow-half-way crowded past-the-last-deadline refused-by-20", list, " ")
+    m = split("1 8 16 32 largest", names, " ")
+    begin("shift")
+    print "| night | input | slots done | single calls | shift | shift / single | goal | plain Rust's shift | ours / plain |"
+    print "|---|---|---|---|---|---|---|---|---|"
+    for (i = 1; i <= n; i++)
+        for (k = 1; k <= m; k++) shift_line(plain_words(list[i]) " | " names[k], list[i], input_of("shift", names[k]))
+    end()
+    begin("shift-32")
+    print "| night | slots done | single calls | shift | shift / single | goal | plain Rust's shift | ours / plain |"
+    print "|---|---|---|---|---|---|---|---|"
+    for (i = 1; i <= n; i++) shift_line(plain_words(list[i]), list[i], "usual 32")
+    end()
+}
+# The call that a count is of: of a shift, all of the first night.
+function call_word(call) { sub(/:.*/, "", call); return call }
 function where(n, list, i, f, call, rest, shown) {
-    n = split("read write judge slack step", list, " ")
+    n = split("read write judge slack step shift:normal", list, " ")
     begin("functions")
     print "| call | function, with all that is inlined into it | instructions | part |"
     print "|---|---|---|---|"
@@ -121,16 +147,16 @@ function where(n, list, i, f, call, rest, shown) {
         for (f = 1; f <= many; f++)
             if (part[call, functions[f]] >= 0.02 * total["usual 32", call, "ours"]) {
                 shown = part[call, functions[f]]
-                printf "| %s | `%s` | %s | %d %% |\n", call, functions[f], with_commas(shown), 100 * shown / total["usual 32", call, "ours"] + 0.5
+                printf "| %s | `%s` | %s | %d %% |\n", call_word(call), functions[f], with_commas(shown), 100 * shown / total["usual 32", call, "ours"] + 0.5
                 rest -= shown
             }
-        printf "| %s | all others | %s | %d %% |\n", call, with_commas(rest), 100 * rest / total["usual 32", call, "ours"] + 0.5
+        printf "| %s | all others | %s | %d %% |\n", call_word(call), with_commas(rest), 100 * rest / total["usual 32", call, "ours"] + 0.5
     }
     end()
 }
 # The four blocks of each call that take most.
 function hottest(n, list, i, call, k, b, best, most) {
-    n = split("read write judge slack step", list, " ")
+    n = split("read write judge slack step shift:normal", list, " ")
     begin("blocks")
     print "| call | function | times | instructions each | instructions | part |"
     print "|---|---|---|---|---|---|"
@@ -140,7 +166,7 @@ function hottest(n, list, i, call, k, b, best, most) {
             most = 0
             for (b = 1; b <= blocks[call]; b++)
                 if (block_times[call, b] * block_length[call, b] > most) { most = block_times[call, b] * block_length[call, b]; best = b }
-            printf "| %s | `%s` | %s | %d | %s | %d %% |\n", call, block_function[call, best], with_commas(block_times[call, best]), block_length[call, best], with_commas(most), 100 * most / total["usual 32", call, "ours"] + 0.5
+            printf "| %s | `%s` | %s | %d | %s | %d %% |\n", call_word(call), block_function[call, best], with_commas(block_times[call, best]), block_length[call, best], with_commas(most), 100 * most / total["usual 32", call, "ours"] + 0.5
             block_times[call, best] = 0
         }
     }
@@ -208,6 +234,7 @@ function stack(k, call) {
 END {
     speed()
     slots()
+    shifts()
     where()
     hottest()
     growth("growth", "ours")

@@ -1,8 +1,9 @@
-//! Fixed inputs for measuring: plans by formula, runs at their busiest slot, and slots of all kinds.
+//! Fixed inputs for measuring: plans by formula, runs at their busiest slot, and slots and nights of
+//! all kinds.
 //!
 //! Ends of windows do not come in order, so that no sort finds its work done.
 
-use crate::plan::{Job, Plan, Run, HI, LO, MOST_INTERVALS, MOST_JOBS, PLACES};
+use crate::plan::{Job, Plan, Run, HI, LO, MOST_INTERVALS, MOST_JOBS, MOST_SPEEDS, PLACES};
 use crate::{step, write};
 
 /// Bytes of the largest file.
@@ -74,15 +75,16 @@ impl Input {
     /// The slots that a step is measured in: with one change each, and some with two.
     pub fn slots(&self) -> Vec<Slot> {
         let jobs = self.plan.count;
-        let last = self.plan.jobs[..jobs].iter().map(|job| job.deadline);
-        let last = last.max().expect("at least one job");
+        let (_, last) = ends_of(&self.plan);
         let at_fault = |i: usize| move |slot: &mut Slot| slot.plan.jobs[i].size = 0;
-        let crowded = |slot: &mut Slot| slot.enlarge(60);
+        let crowded = |slot: &mut Slot| enlarge(&mut slot.plan, &mut slot.table, CROWDED);
         let slow = |slot: &mut Slot| slot.speed /= 2;
         vec![
             // What is due fits the speed.
             self.slot("quiet", |_| ()),
-            self.slot("just-over", |slot| slot.enlarge(3)),
+            self.slot("just-over", |slot| {
+                enlarge(&mut slot.plan, &mut slot.table, 3)
+            }),
             // The first few jobs use the speed up.
             self.slot("crowded", crowded),
             self.slot("slow", slow),
@@ -111,13 +113,83 @@ impl Input {
     }
 }
 
-impl Slot {
-    /// Makes all sizes and allotments so many times as large.
-    fn enlarge(&mut self, times: u32) {
-        self.table.iter_mut().for_each(|units| *units *= times);
-        let jobs = &mut self.plan.jobs[..self.plan.count];
-        jobs.iter_mut().for_each(|job| job.size *= u64::from(times));
+/// All that a shift's call gets.
+pub struct Night {
+    pub name: &'static str,
+    pub plan: Plan,
+    pub table: Vec<u32>,
+    pub run: Run,
+    pub speeds: [u16; MOST_SPEEDS],
+}
+
+/// The slots of a night before its speeds change, or before its plan ends.
+const HALF: usize = MOST_SPEEDS / 2;
+
+impl Input {
+    /// The nights that a shift is measured in. The plan is made so many times as long that each
+    /// speed has a slot; the slots are those in its middle, unless its end is meant.
+    pub fn nights(&self) -> Vec<Night> {
+        let (first, last) = ends_of(&self.plan);
+        let times = (MOST_SPEEDS as u32 - 1) / (last - first) + 1;
+        let middle = (times * (first + last) - MOST_SPEEDS as u32) / 2;
+        let near_end = times * last - HALF as u32;
+        let n = self.plan.n;
+        let normal = [n; MOST_SPEEDS];
+        let mut slow = normal;
+        slow[HALF..].fill(n / 2);
+        let too_fast = [n + 1; MOST_SPEEDS];
+        // In longer intervals more is due, so that the link is as crowded.
+        let crowded = CROWDED * times;
+        vec![
+            self.night("normal", times, 1, middle, normal),
+            self.night("slow-half-way", times, 1, middle, slow),
+            self.night("crowded", times, crowded, middle, normal),
+            self.night("past-the-last-deadline", times, 1, near_end, normal),
+            self.night("refused-by-20", times, 1, middle, too_fast),
+        ]
     }
+
+    /// A night from a clock on, with so many times as many slots and units.
+    fn night(
+        &self,
+        name: &'static str,
+        slots: u32,
+        units: u32,
+        clock: u32,
+        speeds: [u16; MOST_SPEEDS],
+    ) -> Night {
+        let (mut plan, mut table) = (self.plan, self.table.clone());
+        for job in &mut plan.jobs[..self.plan.count] {
+            job.release *= slots;
+            job.deadline *= slots;
+        }
+        enlarge(&mut plan, &mut table, units);
+        Night {
+            name,
+            run: run_of(&plan, &table, clock),
+            plan,
+            table,
+            speeds,
+        }
+    }
+}
+
+/// How many times as much is due where the first few jobs are to use the speed up.
+const CROWDED: u32 = 60;
+
+/// Makes all sizes and allotments so many times as large.
+fn enlarge(plan: &mut Plan, table: &mut [u32], times: u32) {
+    table.iter_mut().for_each(|units| *units *= times);
+    let jobs = &mut plan.jobs[..plan.count];
+    jobs.iter_mut().for_each(|job| job.size *= u64::from(times));
+}
+
+/// The first release and the last deadline.
+fn ends_of(plan: &Plan) -> (u32, u32) {
+    let jobs = &plan.jobs[..plan.count];
+    let first = jobs.iter().map(|job| job.release).min();
+    let last = jobs.iter().map(|job| job.deadline).max();
+    first.zip(last).expect("at least one job")
 }
 
 /// A time for each boundary, rising at uneven distances.
@@ -175,9 +247,10 @@ fn file_of(plan: &Plan, table: &[u32]) -> Vec<u8> {
 
 /// The run at normal speed up to a clock.
 fn run_of(plan: &Plan, table: &[u32], clock: u32) -> Run {
-    let mut run = Run::default();
-    let first = plan.jobs[..plan.count].iter().map(|job| job.release).min();
-    run.clock = first.expect("at least one job");
+    let mut run = Run {
+        clock: ends_of(plan).0,
+        ..Run::default()
+    };
     while run.clock < clock {
         step(plan, table, &mut run, plan.n, &mut [0; MOST_JOBS]).expect("a slot of the run");
     }

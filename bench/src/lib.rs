@@ -10,6 +10,7 @@ mod judge;
 mod plan;
 mod reader;
 pub mod refusal;
+mod shift;
 mod slack;
 mod step;
 mod times;
@@ -17,8 +18,9 @@ pub mod words;
 mod writer;
 
 pub use judge::{judge, Fault, Verdict};
-pub use plan::{Job, Plan, Run, HI, LO, MOST_INTERVALS, MOST_JOBS, PLACES};
+pub use plan::{Job, Plan, Run, HI, LO, MOST_INTERVALS, MOST_JOBS, MOST_SPEEDS, PLACES};
 pub use reader::read;
+pub use shift::shift;
 pub use slack::{slack, Slack};
 pub use step::step;
 pub use writer::write;

@@ -5,6 +5,8 @@ pub const MOST_JOBS: usize = 32;
 pub const MOST_INTERVALS: usize = 63;
 /// Places of the table that belong to the plan.
 pub const PLACES: usize = MOST_JOBS * MOST_INTERVALS;
+/// Speeds of one shift.
+pub const MOST_SPEEDS: usize = 256;
 
 pub const LO: u8 = 0;
 pub const HI: u8 = 1;

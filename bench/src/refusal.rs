@@ -22,3 +22,4 @@ pub const AT_LAST_DEADLINE: u8 = 19;
 pub const SPEED: u8 = 20;
 pub const UNSOUND: u8 = 21;
 pub const TOO_SHORT: u8 = 22;
+pub const TOO_MANY_SPEEDS: u8 = 27;

@@ -1,8 +1,9 @@
-//! Plans and runs in the words that a host lends, and a slot's call on them as `libgateway.a` has it.
+//! Plans and runs in the words that a host lends, and step and shift on them as `libgateway.a` has
+//! them.
 
 use crate::plan::{Job, Plan, Run, MOST_JOBS};
 use crate::refusal::{TOO_SHORT, UNSOUND};
-use crate::step;
+use crate::{shift, step};
 
 const HEAD_WORDS: usize = 3;
 const JOB_WORDS: usize = 5;
@@ -12,6 +13,30 @@ const ENDED_START: usize = MARK_WORDS + MOST_JOBS;
 pub const PLAN_WORDS: usize = HEAD_WORDS + JOB_WORDS * MOST_JOBS;
 pub const RUN_WORDS: usize = ENDED_START + MOST_JOBS;
 
+/// Makes a call on the plan and the run that words stand for, and puts the run back unless the call
+/// is refused. A function would take the call as a closure, which costs instructions.
+macro_rules! on_words {
+    ($plan_words:ident, $run_words:ident, |$plan:ident, $run:ident| $call:expr) => {{
+        let (Some(words), Some(lent)) = (
+            $plan_words.get(..PLAN_WORDS),
+            $run_words.get_mut(..RUN_WORDS),
+        ) else {
+            return Err(TOO_SHORT);
+        };
+        if lent[1] > 1 || lent[2] > 1 || !are_marks(&lent[ENDED_START..]) {
+            return Err(UNSOUND);
+        }
+        // Both are filled where they stand: a function that returned them would have them copied.
+        let mut $plan = NO_PLAN;
+        fill_plan(&mut $plan, words);
+        let mut $run = NO_RUN;
+        fill_run(&mut $run, lent);
+        $call?;
+        put_slots(lent, &$run);
+        Ok(())
+    }};
+}
+
 /// Serves one slot at a speed. A refusal leaves run and grants as they were.
 pub fn step_words(
     plan: &[u64],
@@ -20,20 +45,23 @@ pub fn step_words(
     speed: u16,
     grants: &mut [u32],
 ) -> Result<(), u8> {
-    let (Some(words), Some(run)) = (plan.get(..PLAN_WORDS), run.get_mut(..RUN_WORDS)) else {
-        return Err(TOO_SHORT);
-    };
-    if run[1] > 1 || run[2] > 1 || !are_marks(&run[ENDED_START..]) {
-        return Err(UNSOUND);
-    }
-    // Both are filled where they stand: a function that returned them would have them copied.
-    let mut plan = NO_PLAN;
-    fill_plan(&mut plan, words);
-    let mut in_hand = NO_RUN;
-    fill_run(&mut in_hand, run);
-    step(&plan, table, &mut in_hand, speed, grants)?;
-    put_slot(run, &in_hand);
-    Ok(())
+    on_words!(plan, run, |in_hand, going| {
+        step(&in_hand, table, &mut going, speed, grants)
+    })
+}
+
+/// Serves a slot at each of the speeds. A refusal leaves run, rows and numbers as they were.
+pub fn shift_words(
+    plan: &[u64],
+    table: &[u32],
+    run: &mut [u32],
+    speeds: &[u16],
+    rows: &mut [u32],
+    numbers: &mut [u8],
+) -> Result<(), u8> {
+    on_words!(plan, run, |in_hand, going| {
+        shift(&in_hand, table, &mut going, speeds, rows, numbers)
+    })
 }
 
 /// Whether all words are 0 or 1.
@@ -94,9 +122,9 @@ fn fill_run(run: &mut Run, words: &[u32]) {
     }
 }
 
-/// Writes what a slot changes: the ended marks stay.
+/// Writes what slots change: the ended marks stay.
 #[inline]
-fn put_slot(words: &mut [u32], run: &Run) {
+fn put_slots(words: &mut [u32], run: &Run) {
     let (marks, carried) = words[..ENDED_START].split_at_mut(MARK_WORDS);
     marks.copy_from_slice(&[run.clock, run.slow.into(), run.below_floor.into()]);
     carried.copy_from_slice(&run.carried);
@@ -122,7 +150,7 @@ pub fn plan_words(plan: &Plan) -> [u64; PLAN_WORDS] {
 /// A run as a host keeps it.
 pub fn run_words(run: &Run) -> [u32; RUN_WORDS] {
     let mut words = [0; RUN_WORDS];
-    put_slot(&mut words, run);
+    put_slots(&mut words, run);
     words[ENDED_START..].copy_from_slice(&run.ended.map(u32::from));
     words
 }

@@ -1,15 +1,19 @@
 //! Every call on thousands of generated inputs: answers, places, plans, runs and buffers equal the reference's.
 
+use std::collections::HashMap;
 use std::process::Command;
 
-use bench::inputs::{Input as Measured, Shape, LARGEST_FILE};
-use bench::words::{plan_words, run_words, step_words};
-use bench::{Fault, Job, Plan, Run, Slack, Verdict, MOST_JOBS, PLACES};
-use reference::generate::{file, fixed_files, fixed_hands, hand, FileInput, HandInput, Lent};
+use bench::inputs::{Input as Measured, Night, Shape, LARGEST_FILE};
+use bench::words::{plan_words, run_words, shift_words, step_words};
+use bench::{Fault, Job, Plan, Run, Slack, Verdict, MOST_JOBS, MOST_SPEEDS, PLACES};
+use reference::generate::{
+    file, fixed_files, fixed_hands, hand, shift_input, FileInput, HandInput, Lent, ShiftInput,
+};
 use reference::judge::judge;
 use reference::reader::{reader, Answer};
 use reference::refusal::{self, Refusal};
 use reference::run::{start, step};
+use reference::shift::shift;
 use reference::slack::{slack_figure, SlackFigure};
 use reference::writer::writer;
 
@@ -110,6 +114,10 @@ fn marked(places: usize) -> Vec<u32> {
     (0..places as u32).map(|place| MARK + place).collect()
 }
 
+fn marked_numbers(speeds: usize) -> Vec<u8> {
+    (0..speeds).map(|place| (100 + place % 150) as u8).collect()
+}
+
 fn marked_output(bytes: usize) -> Vec<u8> {
     (0..bytes).map(|place| (1 + place % 250) as u8).collect()
 }
@@ -152,26 +160,72 @@ fn compare_steps(
     }
 }
 
-fn compare_file(input: &FileInput) {
+/// The answer is what the reference leaves: rows and numbers.
+fn compare_shift(
+    plan: &reference::plan::Plan,
+    table: &[u32],
+    run: &reference::run::Run,
+    input: &ShiftInput,
+) -> (Vec<u32>, Vec<u8>) {
+    let ours = plan_of(plan);
+    let speeds = &input.speeds;
+    let before = (
+        run_of(run),
+        marked(input.rows),
+        marked_numbers(input.numbers),
+    );
+    let (mut run, mut rows, mut numbers) = (run.clone(), before.1.clone(), before.2.clone());
+    let expected = shift(plan, table, &mut run, speeds, &mut rows, &mut numbers);
+
+    let (mut our_run, mut our_rows, mut our_numbers) = before.clone();
+    let run_after = &mut our_run;
+    let answer = bench::shift(
+        &ours,
+        table,
+        run_after,
+        speeds,
+        &mut our_rows,
+        &mut our_numbers,
+    );
+    assert_eq!(answer.err().unwrap_or(refusal::DONE), expected);
+    assert_eq!(our_run, run_of(&run));
+    assert!(our_rows == rows && our_numbers == numbers);
+
+    let (mut lent_run, mut our_rows, mut our_numbers) = (run_words(&before.0), before.1, before.2);
+    let words = plan_words(&ours);
+    let lent = &mut lent_run;
+    let on_words = shift_words(&words, table, lent, speeds, &mut our_rows, &mut our_numbers);
+    assert_eq!(on_words, answer);
+    assert_eq!(lent_run, run_words(&our_run));
+    assert!(our_rows == rows && our_numbers == numbers);
+    (rows, numbers)
+}
+
+/// Its shift is the one that belongs to this number.
+fn compare_file(input: &FileInput, number: u64) {
     let (mut our_table, mut table) = (marked(input.lent.table), marked(input.lent.table));
     let answer = bench::read(&input.file, &mut our_table);
-    let Answer { number, plan, .. } = reader(&input.file, &mut table);
+    let read = reader(&input.file, &mut table);
     assert!(our_table == table);
-    if number != refusal::DONE {
-        assert_eq!(answer, Err(number));
+    if read.number != refusal::DONE {
+        assert_eq!(answer, Err(read.number));
         return;
     }
+    let plan = read.plan;
     assert_eq!(answer, Ok(plan_of(&plan)));
     compare_plan(&plan, &table, &input.lent);
     if let Ok(run) = start(&plan, &table) {
+        compare_shift(&plan, &table, &run, &shift_input(SEED, number, &plan, &run));
         compare_steps(&plan, &table, run, &input.lent, &input.speeds);
     }
 }
 
-fn compare_hand(input: &HandInput) {
+fn compare_hand(input: &HandInput, number: u64) {
     let mut table = marked(input.lent.table);
     table[..input.table.len()].copy_from_slice(&input.table);
     compare_plan(&input.plan, &table, &input.lent);
+    let drawn = shift_input(SEED, number, &input.plan, &input.run);
+    compare_shift(&input.plan, &table, &input.run, &drawn);
     compare_steps(
         &input.plan,
         &table,
@@ -183,15 +237,19 @@ fn compare_hand(input: &HandInput) {
 
 #[test]
 fn fixed_inputs() {
-    fixed_files().iter().for_each(compare_file);
-    fixed_hands().iter().for_each(compare_hand);
+    for (number, input) in (0..).zip(&fixed_files()) {
+        compare_file(input, number);
+    }
+    for (number, input) in (0..).zip(&fixed_hands()) {
+        compare_hand(input, number);
+    }
 }
 
 #[test]
 fn drawn_inputs() {
     for number in 0..DRAWN {
-        compare_file(&file(SEED, number));
-        compare_hand(&hand(SEED, number));
+        compare_file(&file(SEED, number), number);
+        compare_hand(&hand(SEED, number), number);
     }
 }
 
@@ -202,11 +260,12 @@ fn compare_measured(input: &Measured, is_accepted: bool) {
         output: LARGEST_FILE,
         grants: MOST_JOBS,
     };
-    compare_file(&FileInput {
+    let whole = FileInput {
         lent,
         file: input.file.clone(),
         speeds: vec![input.plan.n; 700],
-    });
+    };
+    compare_file(&whole, 0);
     let mut table = marked(PLACES);
     let Answer { number, plan, .. } = reader(&input.file, &mut table);
     assert_eq!(number, refusal::DONE);
@@ -230,6 +289,13 @@ fn inputs_for_measuring() {
     assert_eq!(file.file.len(), LARGEST_FILE);
 }
 
+/// The inputs whose slots and nights are measured.
+fn inputs_of_slots() -> [Measured; 5] {
+    let usual = |jobs| Measured::new(jobs, Shape::Usual);
+    let fullest = Measured::new(MOST_JOBS, Shape::Fullest);
+    [usual(1), usual(8), usual(16), usual(32), fullest]
+}
+
 /// What the reference answers in each slot for measuring.
 #[test]
 fn slots_for_measuring() {
@@ -238,12 +304,8 @@ fn slots_for_measuring() {
         output: LARGEST_FILE,
         grants: MOST_JOBS,
     };
-    for (jobs, shape) in [1, 8, 16, 32]
-        .map(|jobs| (jobs, Shape::Usual))
-        .into_iter()
-        .chain([(32, Shape::Fullest)])
-    {
-        for slot in Measured::new(jobs, shape).slots() {
+    for input in inputs_of_slots() {
+        for slot in input.slots() {
             let plan = reference_plan(&slot.plan);
             compare_steps(
                 &plan,
@@ -273,15 +335,60 @@ fn slots_for_measuring() {
     }
 }
 
+/// The numbers of each night for measuring, and how many slots of the crowded one use the speed up.
+#[test]
+fn nights_for_measuring() {
+    let used_up = inputs_of_slots().map(|input| {
+        let nights = input.nights();
+        let slots = nights
+            .iter()
+            .map(|night| (night.name, compare_night(night)));
+        slots.collect::<HashMap<_, _>>()["crowded"]
+    });
+    assert_eq!(used_up, [3, 101, 113, 115, 256]);
+}
+
+/// How many slots use the speed up.
+fn compare_night(night: &Night) -> usize {
+    let jobs = night.plan.count;
+    let (rows, numbers) = compare_shift(
+        &reference_plan(&night.plan),
+        &night.table,
+        &reference_run(&night.run),
+        &ShiftInput {
+            speeds: night.speeds.to_vec(),
+            rows: jobs * MOST_SPEEDS,
+            numbers: MOST_SPEEDS,
+        },
+    );
+    let (done, refused) = match night.name {
+        "past-the-last-deadline" => (MOST_SPEEDS / 2, refusal::AT_LAST_DEADLINE),
+        "refused-by-20" => (0, refusal::SPEED),
+        _ => (MOST_SPEEDS, refusal::DONE),
+    };
+    assert!(numbers[..done]
+        .iter()
+        .all(|&number| number == refusal::DONE));
+    assert!(numbers[done..].iter().all(|&number| number == refused));
+    let rows = rows.chunks_exact(jobs).take(done).zip(night.speeds);
+    rows.filter(|(row, speed)| row.iter().sum::<u32>() == u32::from(*speed))
+        .count()
+}
+
 /// Too few words, marks that are none, and words that a field has no room for.
 #[test]
 fn words_that_hold_no_plan_or_run() {
     let input = Measured::new(8, Shape::Usual);
     let (plan, run) = (plan_words(&input.plan), run_words(&input.run));
+    let n = input.plan.n;
     let answer = |plan: &[u64], run: &[u32]| {
         let (mut lent, mut grants) = (run.to_vec(), marked(MOST_JOBS));
-        let answer = step_words(plan, &input.table, &mut lent, input.plan.n, &mut grants);
+        let answer = step_words(plan, &input.table, &mut lent, n, &mut grants);
         assert!(answer.is_ok() || lent == run && grants == marked(MOST_JOBS));
+        let (mut after, mut row, mut number) = (run.to_vec(), marked(MOST_JOBS), [9]);
+        let of_shift = shift_words(plan, &input.table, &mut after, &[n], &mut row, &mut number);
+        assert!(of_shift == answer && after == lent && row == grants);
+        assert_eq!(number[0], if answer.is_ok() { refusal::DONE } else { 9 });
         answer
     };
     assert_eq!(answer(&plan, &run), Ok(()));
@@ -310,6 +417,7 @@ fn wrong_use_of_calls_ends_with_2() {
     };
     assert_eq!(status(&["read", "8", "3"]), Some(0));
     assert_eq!(status(&["step", "largest", "0"]), Some(0));
+    assert_eq!(status(&["shift", "8", "1"]), Some(0));
     for words in [
         vec![],
         vec!["read", "8"],

@@ -29,6 +29,8 @@ pub enum Part {
     Offset(u32),
     /// A word of what the wrapper makes of the answer.
     Wrapped(usize),
+    /// A word of what single calls come to at the speeds of shifts.
+    Singly(usize),
 }
 
 /// Which word of the wrapper's answer to read and import is the offset.
@@ -94,15 +96,42 @@ impl Both {
         if let Some(Part::Wrapped(word)) = self.spoilt_part(call) {
             wrapped[word] += 1;
         }
-        if wrapped == bare {
-            return Ok(());
+        equal(call, "the wrapper", wrapped, bare)
+    }
+
+    /// Compares what single calls come to with what shifts came to at the same speeds, as lists of
+    /// words.
+    pub fn agree_singly(
+        &mut self,
+        mut singly: Vec<u64>,
+        shifted: Vec<u64>,
+    ) -> Result<(), Difference> {
+        if let Some(Part::Singly(word)) = self.spoilt_part(Call::Shift) {
+            singly[word] += 1;
         }
-        let what = format!("the wrapper: expected {:?}, got {:?}", bare, wrapped);
-        Err(Difference { call, what })
+        equal(Call::Shift, "single calls", singly, shifted)
     }
 
     fn spoilt_part(&self, call: Call) -> Option<Part> {
         let spoil = self.spoil.filter(|spoil| spoil.call == call);
         spoil.map(|spoil| spoil.part)
     }
+}
+
+/// Whether the words that were got in some way are those that are expected of a call.
+fn equal(call: Call, way: &str, got: Vec<u64>, expected: Vec<u64>) -> Result<(), Difference> {
+    let differs = |&at: &usize| got.get(at) != expected.get(at);
+    let at = match (0..got.len().max(expected.len())).find(differs) {
+        Some(at) => at,
+        None => return Ok(()),
+    };
+    let told = |words: &[u64]| words.get(at).map_or("nothing".to_string(), u64::to_string);
+    let what = format!(
+        "{}, word {}: expected {}, got {}",
+        way,
+        at,
+        told(&expected),
+        told(&got)
+    );
+    Err(Difference { call, what })
 }

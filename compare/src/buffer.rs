@@ -32,6 +32,7 @@ macro_rules! word {
 // No answer comes near these, except to the bytes.
 word!(
     u8: 0xA5,
+    u16: u16::MAX / 3 * 2,
     u32: u32::MAX / 3 * 2,
     u64: u64::MAX / 3 * 2,
     i64: i64::MIN / 3,
@@ -113,6 +114,11 @@ impl<T: Word> Buffer<T> {
     /// What both copies hold, as long as no difference was found.
     pub fn contents(&self) -> &[T] {
         &self.model[self.begins..self.begins + self.length()]
+    }
+
+    /// The known words that stood where its contents are, before anything was put there.
+    pub fn known_words(&self) -> Vec<T> {
+        (self.begins..self.begins + self.length()).map(T::known).collect()
     }
 
     /// Puts words into both copies.

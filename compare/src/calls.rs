@@ -6,7 +6,7 @@ use gateway::calls::*;
 
 use crate::both::{Both, Difference};
 use crate::buffer::{Buffer, Lent};
-use crate::memory::{Listing, Memory};
+use crate::memory::{Listing, Memory, Shift};
 use crate::model;
 use crate::tally::{Call, NAME_SHOWN, NO_NAME};
 
@@ -168,6 +168,38 @@ impl Both {
         let (run_words, grant_words) = (run.model_mut(), grants.model_mut());
         let expected = model::step(plan.model(), table.model(), run_words, speed, grant_words);
         self.finish(Call::Step, got, expected, &mut [plan, table, run, grants])
+    }
+
+    pub fn shift(&mut self, memory: &mut Memory, shift: &mut Shift) -> Result<u32, Difference> {
+        let Memory {
+            plan, table, run, ..
+        } = memory;
+        let Shift {
+            speeds,
+            rows,
+            numbers,
+        } = shift;
+        let got = unsafe {
+            gateway_shift(
+                plan.archive(),
+                plan.lent(),
+                table.archive(),
+                table.lent(),
+                run.archive_mut(),
+                run.lent(),
+                speeds.archive(),
+                speeds.lent(),
+                rows.archive_mut(),
+                rows.lent(),
+                numbers.archive_mut(),
+                numbers.lent(),
+            )
+        };
+        let (run_words, outputs) = (run.model_mut(), (rows.model_mut(), numbers.model_mut()));
+        let (plan_words, places) = (plan.model(), table.model());
+        let expected = model::shift(plan_words, places, run_words, speeds.model(), outputs);
+        let buffers: &mut [&mut dyn Lent] = &mut [plan, table, run, speeds, rows, numbers];
+        self.finish(Call::Shift, got, expected, buffers)
     }
 
     pub fn end(&mut self, memory: &mut Memory, position: usize) -> Result<u32, Difference> {

@@ -5,7 +5,8 @@ use gateway::{Plan, Run};
 use reference::edition::{LARGEST_FILE, MOST_JOBS, TABLE_PLACES};
 use reference::generate::{damaged_input, file, hand, job_list, job_text, quoted_list};
 use reference::generate::{fixed_files, fixed_hands, fixed_lists, fixed_texts};
-use reference::generate::{words, FileInput, HandInput, Lent, ListInput, Prng, Purpose};
+use reference::generate::{shift_input, words, Prng, Purpose};
+use reference::generate::{FileInput, HandInput, Lent, ListInput, ShiftInput};
 use reference::joblist::import;
 use reference::reader::reader;
 use reference::refusal::{DONE, TOO_SHORT};
@@ -17,8 +18,8 @@ use crate::memory::Memory;
 use crate::night::{night, standings, Course, Wrapped};
 use crate::shorts::{short, short_read, SHORTS};
 use crate::twist::twist;
-use crate::words::{plan_of, run_of, words_of_plan, words_of_run};
-use crate::{plans, texts, wrapper};
+use crate::words::{plan_of, run_of, run_of_any, words_of_plan, words_of_run};
+use crate::{plans, shifts, texts, wrapper};
 
 /// Buffers that are just long enough for every plan.
 pub const ENOUGH: Lent = Lent {
@@ -191,6 +192,13 @@ impl Origin {
             words: words.unwrap_or_default(),
         }
     }
+
+    /// A shift that goes on from the run in memory, one with a wrong mark too.
+    fn shift(&self, memory: &Memory) -> ShiftInput {
+        let plan = plan_of(memory.plan.contents());
+        let run = run_of_any(memory.run.contents());
+        shift_input(self.seed, self.number, &plan, &run)
+    }
 }
 
 /// Reads the file and looks up names; then all calls on the plan that was read.
@@ -222,6 +230,8 @@ fn on_file(
     }
     let course = origin.course(&memory, &input.speeds);
     let wrapped = wrapped(&memory, Some(&plan), run);
+    let shift = origin.shift(&memory);
+    shifts::drawn(both, prng, &mut memory, &shift, &wrapped)?;
     night(both, prng, &mut memory, &course, wrapped)
 }
 
@@ -267,6 +277,8 @@ fn on_hand(
     let run = wrapper::run_in_hand(both, &memory)?;
     let wrapped = wrapped(&memory, plan.as_ref(), run);
     standings(both, prng, &mut memory, &wrapped)?;
+    let shift = origin.shift(&memory);
+    shifts::drawn(both, prng, &mut memory, &shift, &wrapped)?;
     let course = origin.course(&memory, &input.speeds);
     night(both, prng, &mut memory, &course, wrapped)
 }

@@ -16,6 +16,7 @@ mod plans;
 mod report;
 mod run;
 mod selftest;
+mod shifts;
 mod shorts;
 mod show;
 mod tally;

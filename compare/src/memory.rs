@@ -1,8 +1,9 @@
-//! The memory that a host lends to the calls for one plan and its run, and to those on job lists.
+//! The memory that a host lends to the calls for one plan and its run, to a shift, and to the calls
+//! on job lists.
 
 use gateway::LONGEST_LIST;
 use reference::edition::{MOST_JOBS, TABLE_PLACES};
-use reference::generate::{Lent, Prng};
+use reference::generate::{Lent, Prng, ShiftInput};
 
 use crate::buffer::Buffer;
 use crate::words::{JOB_COUNT, LIST_WORDS, LOCATION_WORDS, PLAN_WORDS, RUN_WORDS};
@@ -78,6 +79,34 @@ impl Memory {
         if prng.once_in(2) {
             self.grants.lend(jobs);
         }
+    }
+}
+
+/// What is lent to a shift beside plan, table and run.
+pub struct Shift {
+    pub speeds: Buffer<u16>,
+    pub rows: Buffer<u32>,
+    pub numbers: Buffer<u8>,
+}
+
+impl Shift {
+    /// The speeds of a drawn shift, and known words in its outputs.
+    pub fn of(input: &ShiftInput) -> Shift {
+        Shift {
+            speeds: Buffer::of("speeds", &input.speeds, input.speeds.len()),
+            rows: Buffer::known("rows", input.rows),
+            numbers: Buffer::known("numbers", input.numbers),
+        }
+    }
+
+    /// These speeds, and outputs with as many places as they need in a plan of so many jobs, and
+    /// some to spare.
+    pub fn at(speeds: &[u16], jobs: usize, spare: usize) -> Shift {
+        Shift::of(&ShiftInput {
+            speeds: speeds.to_vec(),
+            rows: speeds.len() * jobs + spare,
+            numbers: speeds.len() + spare,
+        })
     }
 }
 

@@ -8,6 +8,7 @@ use reference::reader::reader;
 use reference::refusal::{Refusal, DONE, TOO_SHORT, UNSOUND};
 use reference::run::{end as end_job, outcome as outcome_of, start as start_run, step as step_run};
 use reference::run::{Outcome, Run};
+use reference::shift::shift as shift_run;
 use reference::slack::{slack_figure, SlackFigure};
 use reference::writer::writer;
 
@@ -88,6 +89,18 @@ pub fn start(plan: &[u64], table: &[u32], run: &mut [u32], location: &mut [u64])
 
 pub fn step(plan: &[u64], table: &[u32], run: &mut [u32], speed: u16, grants: &mut [u32]) -> u32 {
     let change = |record: &mut Run| step_run(&plan_of(plan), table, record, speed, grants);
+    change_run(plan, run, change)
+}
+
+/// The outputs are the rows of grants and the numbers.
+pub fn shift(
+    plan: &[u64],
+    table: &[u32],
+    run: &mut [u32],
+    speeds: &[u16],
+    (rows, numbers): (&mut [u32], &mut [u8]),
+) -> u32 {
+    let change = |record: &mut Run| shift_run(&plan_of(plan), table, record, speeds, rows, numbers);
     change_run(plan, run, change)
 }
 

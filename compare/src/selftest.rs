@@ -19,13 +19,17 @@ fn pointers(call: Call) -> usize {
         Call::End | Call::Outcome => 2,
         Call::Judge | Call::Import | Call::Export => 3,
         Call::Read | Call::Write | Call::Slack | Call::Start | Call::Step => 4,
+        Call::Shift => 6,
     }
 }
 
-/// The number, the wrapper's answer, and of each buffer the first and last word and the words of the
-/// border next to them.
+/// The number, the wrapper's answer, what single calls come to, and of each buffer the first and last
+/// word and the words of the border next to them.
 fn parts(call: Call) -> Vec<Part> {
     let mut parts = vec![Part::Number, Part::Wrapped(0)];
+    if call == Call::Shift {
+        parts.push(Part::Singly(0));
+    }
     for pointer in 0..pointers(call) {
         parts.extend(SPOTS.map(|spot| Part::Word(pointer, spot)));
     }

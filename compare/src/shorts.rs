@@ -5,7 +5,7 @@ use reference::generate::Prng;
 
 use crate::both::{Both, Difference};
 use crate::buffer::Buffer;
-use crate::memory::Memory;
+use crate::memory::{Memory, Shift};
 use crate::tally::Call;
 use crate::words::{LOCATION_WORDS, PLAN_WORDS, RUN_WORDS};
 
@@ -16,12 +16,14 @@ pub enum Which {
     Table,
     Run,
     Grants,
+    Rows,
+    Numbers,
     Location,
     Out,
 }
 
 /// Each call on a plan in memory with each buffer that it asks for.
-pub const SHORTS: [(Call, Which); 21] = [
+pub const SHORTS: [(Call, Which); 26] = [
     (Call::Write, Which::Plan),
     (Call::Write, Which::Table),
     (Call::Write, Which::Out),
@@ -39,14 +41,21 @@ pub const SHORTS: [(Call, Which); 21] = [
     (Call::Step, Which::Table),
     (Call::Step, Which::Run),
     (Call::Step, Which::Grants),
+    (Call::Shift, Which::Plan),
+    (Call::Shift, Which::Table),
+    (Call::Shift, Which::Run),
+    (Call::Shift, Which::Rows),
+    (Call::Shift, Which::Numbers),
     (Call::End, Which::Plan),
     (Call::End, Which::Run),
     (Call::Outcome, Which::Plan),
     (Call::Outcome, Which::Run),
 ];
 
-/// No sound plan has a normal rate below 2, so a step at this speed lacks nothing but the buffer.
-const SPEED: u16 = 1;
+/// No sound plan has a normal rate below 2, so no step at this speed is refused for it.
+pub const SPEED: u16 = 1;
+/// The speeds of a shift.
+const SPEEDS: [u16; 3] = [SPEED; 3];
 
 /// Makes one of these calls. Nothing happens where the buffer cannot be shorter.
 pub fn short(
@@ -56,7 +65,8 @@ pub fn short(
     (call, which): (Call, Which),
 ) -> Result<(), Difference> {
     memory.lend_all();
-    if !lend_short(prng, memory, which) {
+    let shift = &mut Shift::at(&SPEEDS, memory.jobs(), 0);
+    if !lend_short(prng, memory, shift, which) {
         return Ok(());
     }
     match call {
@@ -65,6 +75,7 @@ pub fn short(
         Call::Slack => both.slack(memory)?,
         Call::Start => both.start(memory)?,
         Call::Step => both.step(memory, SPEED)?,
+        Call::Shift => both.shift(memory, shift)?,
         Call::End => both.end(memory, 0)?,
         Call::Outcome => both.outcome(memory, 0)?,
         Call::Read | Call::Name => unreachable!("these take a file"),
@@ -82,19 +93,21 @@ pub fn short_read(
     memory: &mut Memory,
 ) -> Result<(), Difference> {
     let which = prng.pick(&[Which::Plan, Which::Table]);
-    lend_short(prng, memory, which);
+    lend_short(prng, memory, &mut Shift::at(&[], 0, 0), which);
     both.read(file, memory)?;
     memory.lend_all();
     Ok(())
 }
 
 /// Lends too few elements. Whether any are needed.
-fn lend_short(prng: &mut Prng, memory: &mut Memory, which: Which) -> bool {
+fn lend_short(prng: &mut Prng, memory: &mut Memory, shift: &mut Shift, which: Which) -> bool {
     let needed = match which {
         Which::Plan => PLAN_WORDS,
         Which::Table => TABLE_PLACES,
         Which::Run => RUN_WORDS,
         Which::Grants => memory.jobs(),
+        Which::Rows => shift.rows.lent(),
+        Which::Numbers => shift.numbers.lent(),
         Which::Location => LOCATION_WORDS,
         Which::Out => memory.exact,
     };
@@ -107,6 +120,8 @@ fn lend_short(prng: &mut Prng, memory: &mut Memory, which: Which) -> bool {
         Which::Table => memory.table.lend(length),
         Which::Run => memory.run.lend(length),
         Which::Grants => memory.grants.lend(length),
+        Which::Rows => shift.rows.lend(length),
+        Which::Numbers => shift.numbers.lend(length),
         Which::Location => memory.location.lend(length),
         Which::Out => memory.out.lend(length),
     }

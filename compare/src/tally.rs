@@ -5,7 +5,8 @@ use std::fmt;
 
 use reference::refusal::{
     ABOVE_RATE, AT_LAST_DEADLINE, CANNOT_END, DONE, FLOOR_RULE, HEADER, JOB_COUNT, LINE,
-    NO_SUCH_POSITION, OUTSIDE_WINDOW, ROW_ORDER, TIMES_OR_SIZE, TOO_SHORT, UNSOUND, VERSION,
+    NO_SUCH_POSITION, OUTSIDE_WINDOW, ROW_ORDER, TIMES_OR_SIZE, TOO_MANY_SPEEDS, TOO_SHORT,
+    UNSOUND, VERSION,
 };
 
 use crate::model::{DISCARDED, ENDED, MET, MISSED, NONE_ESSENTIAL, OPEN};
@@ -20,13 +21,14 @@ pub enum Call {
     Slack,
     Start,
     Step,
+    Shift,
     End,
     Outcome,
     Import,
     Export,
 }
 
-pub const CALLS: [Call; 11] = [
+pub const CALLS: [Call; 12] = [
     Call::Read,
     Call::Name,
     Call::Write,
@@ -34,6 +36,7 @@ pub const CALLS: [Call; 11] = [
     Call::Slack,
     Call::Start,
     Call::Step,
+    Call::Shift,
     Call::End,
     Call::Outcome,
     Call::Import,
@@ -57,6 +60,7 @@ impl fmt::Display for Call {
             Call::Slack => "slack",
             Call::Start => "start",
             Call::Step => "step",
+            Call::Shift => "shift",
             Call::End => "end",
             Call::Outcome => "outcome",
             Call::Import => "import",
@@ -86,6 +90,7 @@ fn numbers(call: Call) -> Vec<u32> {
         Call::Judge | Call::Start => judged(FLOOR_RULE),
         Call::Slack => [judged(ABOVE_RATE), vec![NONE_ESSENTIAL]].concat(),
         Call::Step => wide([DONE].into_iter().chain(AT_LAST_DEADLINE..=TOO_SHORT)),
+        Call::Shift => wide([DONE, UNSOUND, TOO_SHORT, TOO_MANY_SPEEDS]),
         Call::End => wide([DONE, UNSOUND, TOO_SHORT, NO_SUCH_POSITION, CANNOT_END]),
         Call::Outcome => [
             wide([UNSOUND, TOO_SHORT]),

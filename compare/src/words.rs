@@ -118,22 +118,25 @@ fn words_of_jobs(jobs: &[Job]) -> Vec<u64> {
 
 /// The run that at least 67 words say; none if a mark is neither 0 nor 1.
 pub fn run_of(words: &[u32]) -> Option<Run> {
-    if marks().any(|mark| words[mark] > 1) {
-        return None;
-    }
+    let is_good = marks().all(|mark| words[mark] <= 1);
+    is_good.then(|| run_of_any(words))
+}
+
+/// The same of any words, a wrong mark taken for a clear one.
+pub fn run_of_any(words: &[u32]) -> Run {
     let mut carried = [0; MOST_JOBS];
     carried.copy_from_slice(&words[CARRIED..ENDED]);
     let mut ended = [false; MOST_JOBS];
     for (mark, &word) in ended.iter_mut().zip(&words[ENDED..RUN_WORDS]) {
         *mark = word == 1;
     }
-    Some(Run {
+    Run {
         clock: words[CLOCK],
         slow: words[SLOW] == 1,
         below_floor: words[BELOW_FLOOR] == 1,
         carried,
         ended,
-    })
+    }
 }
 
 pub fn words_of_run(run: &Run) -> Vec<u32> {

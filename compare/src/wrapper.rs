@@ -9,7 +9,7 @@ use reference::refusal::{DONE, TOO_SHORT, UNSOUND};
 
 use crate::both::{Both, Difference};
 use crate::buffer::Buffer;
-use crate::memory::{Listing, Memory};
+use crate::memory::{Listing, Memory, Shift};
 use crate::model::{DISCARDED, ENDED, MET, MISSED, NONE_ESSENTIAL, OPEN};
 use crate::tally::Call;
 use crate::words::{
@@ -247,6 +247,30 @@ pub fn step(
     wrapped.extend(run_words(run));
     bare.extend(bare_run_words(memory));
     both.agree(Call::Step, wrapped, bare)
+}
+
+/// Takes the shift once more that the bare call took, into outputs as they were before it.
+pub fn shift(
+    both: &mut Both,
+    plan: &Plan,
+    run: &mut Run,
+    number: u32,
+    memory: &Memory,
+    shift: &Shift,
+) -> Result<(), Difference> {
+    let (mut rows, mut numbers) = (shift.rows.known_words(), shift.numbers.known_words());
+    let result = run.shift(plan, shift.speeds.contents(), &mut rows, &mut numbers);
+    let mut wrapped = [vec![number_of(&result)], run_words(run)].concat();
+    let mut bare = [vec![number.into()], bare_run_words(memory)].concat();
+    wrapped.extend(output_words(&rows, &numbers));
+    bare.extend(output_words(shift.rows.contents(), shift.numbers.contents()));
+    both.agree(Call::Shift, wrapped, bare)
+}
+
+/// The rows and the numbers of a shift.
+fn output_words<'a>(rows: &'a [u32], numbers: &'a [u8]) -> impl Iterator<Item = u64> + 'a {
+    let numbers = numbers.iter().map(|&number| u64::from(number));
+    rows.iter().map(|&units| u64::from(units)).chain(numbers)
 }
 
 /// Says once more that a job has ended.

@@ -1,9 +1,15 @@
 /* What gateway.h says at the edges: buffers of length 0 that are NULL, offsets of files and texts that end early, a job list inside a plan,
- * jobs that have ended, speeds above 16 bits, answers in words. It prints each sentence that does not hold; the exit status is then 1. */
+ * jobs that have ended, shifts, speeds above 16 bits, answers in words. It prints each sentence that does not hold; the exit status is then 1. */
 #include <stdio.h>
 #include <string.h>
 
 #include "gateway.h"
+
+/* The jobs and the slots of the plan for shifts, and what stands before a shift in each byte that it may write, and so in each word. */
+#define SHIFT_JOBS 2
+#define SLOTS 3
+#define MARK 0xEE
+#define MARKED UINT32_C(0xEEEEEEEE)
 
 static uint8_t out[GATEWAY_LARGEST_FILE];
 static uint64_t plan[GATEWAY_PLAN_WORDS];
@@ -12,6 +18,10 @@ static uint32_t run[GATEWAY_RUN_WORDS];
 static uint32_t grants[GATEWAY_MOST_JOBS];
 static uint64_t location[GATEWAY_LOCATION_WORDS];
 static uint64_t list[GATEWAY_LIST_WORDS];
+/* One speed more than a shift may have, with a row and a number for each. */
+static uint16_t speeds[GATEWAY_MOST_SPEEDS + 1];
+static uint32_t rows[GATEWAY_ROWS_PLACES + GATEWAY_MOST_JOBS];
+static uint8_t numbers[GATEWAY_MOST_SPEEDS + 1];
 static const char header[] = "name,grade,release,size,deadline\r\n";
 static const char line[] = "mirror-A,H,0,1,1\r\n";
 static uint8_t text[sizeof header + sizeof line - 2];
@@ -176,13 +186,136 @@ static void list_inside_a_plan(void)
     expect(memcmp(plan, before, sizeof plan) == 0, "import: the plan is what it was");
 }
 
+/* A second job beside the first, to be carried in three slots; a run at its beginning, marks in all places that a shift may write, and speeds at the
+ * normal rate, which is 2. */
+static void lay_out_a_shift(void)
+{
+    plan[GATEWAY_INDEX_JOB_COUNT] = SHIFT_JOBS;
+    plan[GATEWAY_INDEX_JOB_NAME(1)] = UINT64_C(0x6D6972726F722D42);
+    plan[GATEWAY_INDEX_JOB_GRADE(1)] = 0;
+    plan[GATEWAY_INDEX_JOB_RELEASE(1)] = 0;
+    plan[GATEWAY_INDEX_JOB_SIZE(1)] = 3;
+    plan[GATEWAY_INDEX_JOB_DEADLINE(1)] = SLOTS;
+    table[GATEWAY_INDEX_ALLOTMENT(1, 0)] = 1;
+    table[GATEWAY_INDEX_ALLOTMENT(1, 1)] = 2;
+    memset(run, 0, sizeof run);
+    memset(rows, MARK, sizeof rows);
+    memset(numbers, MARK, sizeof numbers);
+    for (size_t k = 0; k < GATEWAY_MOST_SPEEDS + 1; k++)
+        speeds[k] = gateway_speed(plan[GATEWAY_INDEX_NORMAL_RATE], plan);
+}
+
+/* A shift with these places for rows and numbers. */
+static uint32_t shift(size_t count, size_t places, size_t numbered)
+{
+    return gateway_shift(plan, GATEWAY_PLAN_WORDS, table, GATEWAY_TABLE_PLACES, run, GATEWAY_RUN_WORDS, speeds, count, rows, places, numbers, numbered);
+}
+
+static int places_stay(size_t from)
+{
+    for (size_t at = from; at < sizeof rows / sizeof rows[0]; at++)
+        if (rows[at] != MARKED)
+            return 0;
+    return 1;
+}
+
+static int numbers_stay(size_t from)
+{
+    for (size_t k = from; k < sizeof numbers; k++)
+        if (numbers[k] != MARK)
+            return 0;
+    return 1;
+}
+
+/* No slot was carried, and no place of the rows and the numbers was written. */
+static int nothing_changed(void)
+{
+    static const uint32_t started[GATEWAY_RUN_WORDS];
+    return memcmp(run, started, sizeof run) == 0 && places_stay(0) && numbers_stay(0);
+}
+
+static void shifts_of_nothing(void)
+{
+    lay_out_a_shift();
+    too_short(gateway_shift(NULL, 0, table, GATEWAY_TABLE_PLACES, run, GATEWAY_RUN_WORDS, speeds, 1, rows, SHIFT_JOBS, numbers, 1), "shift: no plan");
+    too_short(gateway_shift(plan, GATEWAY_PLAN_WORDS, table, GATEWAY_TABLE_PLACES, NULL, 0, speeds, 1, rows, SHIFT_JOBS, numbers, 1), "shift: no run");
+    too_short(gateway_shift(plan, GATEWAY_PLAN_WORDS, NULL, 0, run, GATEWAY_RUN_WORDS, speeds, 1, rows, SHIFT_JOBS, numbers, 1), "shift: no table");
+    too_short(gateway_shift(plan, GATEWAY_PLAN_WORDS, table, GATEWAY_TABLE_PLACES, run, GATEWAY_RUN_WORDS, speeds, 1, NULL, 0, numbers, 1), "shift: no rows");
+    too_short(gateway_shift(plan, GATEWAY_PLAN_WORDS, table, GATEWAY_TABLE_PLACES, run, GATEWAY_RUN_WORDS, speeds, 1, rows, SHIFT_JOBS, NULL, 0), "shift: no numbers");
+    too_short(gateway_shift(plan, GATEWAY_PLAN_WORDS, NULL, 0, run, GATEWAY_RUN_WORDS, NULL, 0, NULL, 0, NULL, 0), "shift: no speeds, and no table either");
+    expect(gateway_shift(plan, GATEWAY_PLAN_WORDS, table, GATEWAY_TABLE_PLACES, run, GATEWAY_RUN_WORDS, NULL, 0, NULL, 0, NULL, 0) == GATEWAY_DONE,
+        "shift: no speeds need no rows and no numbers");
+    expect(shift(0, GATEWAY_ROWS_PLACES, GATEWAY_MOST_SPEEDS) == GATEWAY_DONE, "shift: no speeds are done");
+    expect(nothing_changed(), "shift: no speeds and refused shifts change nothing");
+}
+
+/* Each ground together with those that come after it. */
+static void order_of_a_shifts_refusals(void)
+{
+    size_t many = GATEWAY_MOST_SPEEDS + 1;
+    lay_out_a_shift();
+    too_short(shift(SLOTS, SHIFT_JOBS * SLOTS - 1, SLOTS), "shift: a place too few for the rows");
+    too_short(shift(SLOTS, SHIFT_JOBS * SLOTS, SLOTS - 1), "shift: a number too few");
+    expect(shift(many, 0, 0) == GATEWAY_TOO_MANY_SPEEDS, "shift: 27 comes before 22 for rows and numbers");
+    expect(shift(many, SHIFT_JOBS * many, many) == GATEWAY_TOO_MANY_SPEEDS, "shift: 257 speeds are refused by 27");
+    expect(gateway_shift(plan, GATEWAY_PLAN_WORDS, NULL, 0, run, GATEWAY_RUN_WORDS, speeds, many, rows, 0, numbers, 0) == GATEWAY_TOO_MANY_SPEEDS,
+        "shift: 27 comes before 22 for the table");
+    expect(nothing_changed(), "shift: a refused shift changes nothing");
+    run[GATEWAY_INDEX_CLOCK] = SLOTS + 1;
+    expect(shift(many, 0, 0) == GATEWAY_UNSOUND && shift(0, 0, 0) == GATEWAY_UNSOUND, "shift: 21 comes before 27, and without speeds too");
+    run[GATEWAY_INDEX_CLOCK] = 0;
+    run[GATEWAY_INDEX_ENDED(GATEWAY_MOST_JOBS - 1)] = 2;
+    expect(shift(many, 0, 0) == GATEWAY_UNSOUND, "shift: a mark of 2 is refused by 21, past the count too");
+    too_short(gateway_shift(plan, GATEWAY_PLAN_WORDS - 1, table, GATEWAY_TABLE_PLACES, run, GATEWAY_RUN_WORDS, speeds, many, rows, 0, numbers, 0),
+        "shift: 22 for the plan comes before 21");
+    too_short(gateway_shift(plan, GATEWAY_PLAN_WORDS, table, GATEWAY_TABLE_PLACES, run, GATEWAY_RUN_WORDS - 1, speeds, many, rows, 0, numbers, 0),
+        "shift: 22 for the run comes before 21");
+    run[GATEWAY_INDEX_ENDED(GATEWAY_MOST_JOBS - 1)] = 0;
+    expect(nothing_changed(), "shift: a refused shift changes nothing, whatever refuses it");
+}
+
+/* The second speed is above the normal rate, and the fifth comes at the last deadline. */
+static void refused_speeds_of_a_shift(void)
+{
+    static const uint32_t granted[] = { 1, 1, MARKED, MARKED, 0, 2, 0, 0 };
+    static const uint8_t numbered[] = { GATEWAY_DONE, GATEWAY_SPEED_ABOVE_NORMAL, GATEWAY_DONE, GATEWAY_DONE, GATEWAY_CLOCK_AT_END };
+    lay_out_a_shift();
+    speeds[1]++;
+    expect(shift(sizeof numbered, SHIFT_JOBS * sizeof numbered, sizeof numbered) == GATEWAY_DONE, "shift: refused speeds do not refuse it");
+    expect(memcmp(numbers, numbered, sizeof numbered) == 0, "shift: each speed has its number");
+    expect(memcmp(rows, granted, sizeof granted) == 0, "shift: each speed has its row, and a refused one leaves it");
+    expect(rows[GATEWAY_INDEX_GRANT(SHIFT_JOBS, 2, 1)] == 2, "shift: the second job's grant at the third speed");
+    expect(places_stay(GATEWAY_INDEX_GRANT(SHIFT_JOBS, 4, 0)) && numbers_stay(sizeof numbered), "shift: places beyond stay");
+    expect(run[GATEWAY_INDEX_CLOCK] == SLOTS && run[GATEWAY_INDEX_SLOW] == 0, "shift: the clock counts the slots that are done");
+    expect(run[GATEWAY_INDEX_CARRIED(0)] == 1 && run[GATEWAY_INDEX_CARRIED(1)] == 3, "shift: what is granted is carried");
+}
+
+static void most_speeds_of_a_shift(void)
+{
+    lay_out_a_shift();
+    expect(shift(GATEWAY_MOST_SPEEDS, SHIFT_JOBS * GATEWAY_MOST_SPEEDS, GATEWAY_MOST_SPEEDS) == GATEWAY_DONE, "shift: 256 speeds are done");
+    expect(numbers[SLOTS - 1] == GATEWAY_DONE && numbers[SLOTS] == GATEWAY_CLOCK_AT_END, "shift: the last slot that there is");
+    expect(numbers[GATEWAY_MOST_SPEEDS - 1] == GATEWAY_CLOCK_AT_END && numbers_stay(GATEWAY_MOST_SPEEDS), "shift: the last of 256 numbers");
+    expect(places_stay(GATEWAY_INDEX_GRANT(SHIFT_JOBS, SLOTS, 0)), "shift: the rows of refused speeds stay");
+}
+
+/* The second job is told ended after the first slot: what is carried for it stays. */
+static void word_between_two_shifts(void)
+{
+    lay_out_a_shift();
+    expect(shift(1, SHIFT_JOBS, 1) == GATEWAY_DONE && tell_of(1) == GATEWAY_DONE, "shift: a word may follow it");
+    expect(shift(SLOTS - 1, SHIFT_JOBS * (SLOTS - 1), SLOTS - 1) == GATEWAY_DONE, "shift: it may follow a word");
+    expect(rows[GATEWAY_INDEX_GRANT(SHIFT_JOBS, 0, 1)] == 0 && run[GATEWAY_INDEX_CARRIED(1)] == 1, "shift: an ended job gets nothing");
+    expect(run[GATEWAY_INDEX_CLOCK] == SLOTS && run[GATEWAY_INDEX_ENDED(1)] == 1, "shift: an ended mark stays");
+}
+
 static void speeds_and_words(void)
 {
     expect(gateway_speed(0, plan) == 0 && gateway_speed(1, plan) == 1 && gateway_speed(2, plan) == 2, "speed: up to the normal rate as measured");
     expect(gateway_speed(3, plan) == 2 && gateway_speed(UINT64_C(65537), plan) == 2, "speed: the normal rate if more is measured");
     plan[GATEWAY_INDEX_NORMAL_RATE] = UINT64_MAX;
     expect(gateway_speed(UINT64_MAX, plan) == UINT16_MAX, "speed: at most 65,535 whatever the plan says");
-    expect(gateway_words(GATEWAY_CANNOT_END + 1) == gateway_words(GATEWAY_ENDED + 1), "words: a number that is no answer");
+    expect(gateway_words(GATEWAY_TOO_MANY_SPEEDS + 1) == gateway_words(GATEWAY_ENDED + 1), "words: a number that is no answer");
 }
 
 int main(void)
@@ -200,6 +333,11 @@ int main(void)
     importing_of_nothing();
     exporting_of_nothing();
     list_inside_a_plan();
+    shifts_of_nothing();
+    order_of_a_shifts_refusals();
+    refused_speeds_of_a_shift();
+    most_speeds_of_a_shift();
+    word_between_two_shifts();
     speeds_and_words();
     return failed;
 }

@@ -1,6 +1,6 @@
 /* For hosts in C and C++: plan files, judging, slots and job lists, on memory that the host lends.
  *
- * Every call answers a number: 0 when it is done, a refusal's number from 1 to 26 (enum gateway_refusal), or a number from 256 on for the
+ * Every call answers a number: 0 when it is done, a refusal's number from 1 to 27 (enum gateway_refusal), or a number from 256 on for the
  * results that are named below. Every buffer is a pointer and then its length, counted in elements. What a call is not said to change stays.
  *
  * No call relies on checks by the host: every content of the lent memory means exactly one plan, run or job list, or is refused by 21. What
@@ -8,8 +8,9 @@
  * single number's pointer is valid. A call keeps no pointer and has no state of its own, so calls on different memory may run at the same
  * time.
  *
- * A buffer of length 0 may be NULL: nothing is read or written through it. An empty file is refused by 1, an empty text of a job list by 24,
- * and any other empty buffer is too short (22, unless the call finds another number first; gateway_name answers 0). A single number's pointer (offset, written, slack) is never NULL.
+ * A buffer of length 0 may be NULL: nothing is read or written through it. An empty file is refused by 1, an empty text of a job list by 24; a
+ * shift without speeds needs neither rows nor numbers; and any other empty buffer is too short (22, unless the call finds another number first;
+ * gateway_name answers 0). A single number's pointer (offset, written, slack) is never NULL.
  *
  * A name that begins GATEWAY_INDEX_ is an index into a buffer and never the value there: run[GATEWAY_INDEX_CLOCK] is the clock. */
 #ifndef GATEWAY_H
@@ -31,6 +32,8 @@ extern "C" {
 #define GATEWAY_LONGEST_LIST 1794
 /* The bytes of a job's name. */
 #define GATEWAY_NAME_BYTES 8
+/* The most speeds of one shift. */
+#define GATEWAY_MOST_SPEEDS 256
 
 /* A plan lives in 163 words of 64 bits beside its table. The words are n, d and the job count, then for each of 32 jobs name, grade
  * (0 LO, 1 HI), release, size and deadline. A name is its eight bytes as one number, the first byte highest. A word that is too large for
@@ -68,6 +71,11 @@ extern "C" {
 #define GATEWAY_INDEX_CARRIED(i) (GATEWAY_MARK_WORDS + (size_t)(i))
 #define GATEWAY_INDEX_ENDED(i) (GATEWAY_MARK_WORDS + GATEWAY_MOST_JOBS + (size_t)(i))
 
+/* The rows of a shift are made of words of 32 bits, a row for each speed and in it a word for each job. In a plan of so many jobs, what job i is
+ * granted at speed k is at this index. No shift needs more places than GATEWAY_ROWS_PLACES. */
+#define GATEWAY_ROWS_PLACES (GATEWAY_MOST_SPEEDS * GATEWAY_MOST_JOBS)
+#define GATEWAY_INDEX_GRANT(jobs, k, i) ((size_t)(jobs) * (size_t)(k) + (size_t)(i))
+
 /* A location has two words of 64 bits: with 15 job and interval, with 16 job and 0, with 17 interval and 0, with 18 interval and deadline,
  * with any other answer of judge and start 0 and 0. */
 #define GATEWAY_LOCATION_WORDS 2
@@ -99,7 +107,8 @@ enum gateway_refusal {
     GATEWAY_WRONG_LINE = 23,
     GATEWAY_WRONG_HEADER = 24,
     GATEWAY_NO_SUCH_JOB = 25,
-    GATEWAY_CANNOT_END = 26
+    GATEWAY_CANNOT_END = 26,
+    GATEWAY_TOO_MANY_SPEEDS = 27
 };
 
 /* Results that are no refusals. */
@@ -157,7 +166,16 @@ uint32_t gateway_start(const uint64_t *plan, size_t plan_length, const uint32_t 
  * After any refusal run and grants stay. grants has at least as many places as the plan has jobs; places beyond stay. */
 uint32_t gateway_step(const uint64_t *plan, size_t plan_length, const uint32_t *table, size_t table_length, uint32_t *run, size_t run_length, uint16_t speed, uint32_t *grants, size_t grants_length);
 
-/* The host's word that a job's transfer has ended before its size was carried. It is said between two slots, and no call clears the mark.
+/* Carries a shift: a slot at each of several speeds in turn, as gateway_step carries it, each on the run that the slot before it left.
+ * In: plan, table, run and speeds. Out: the run, advanced in place by each slot that is done; for each speed a row of grants, row k from
+ * GATEWAY_INDEX_GRANT(job count, k, 0) on; and for each speed a number: 0 if its slot is done, 19 or 20 if it is refused. A refused speed leaves
+ * its row and the run, and the next one is tried. Answers, in this order, 22 (plan or run too short), 21 (as gateway_step's 21), 27 (more than
+ * GATEWAY_MOST_SPEEDS speeds), 22 (the table too short, fewer rows' places than speeds times jobs, or fewer numbers than speeds) or 0, be speeds
+ * refused or not. A shift without speeds is checked in the same way, and changes nothing. After any refusal run, rows and numbers stay. Places
+ * beyond the last row and the last number stay. */
+uint32_t gateway_shift(const uint64_t *plan, size_t plan_length, const uint32_t *table, size_t table_length, uint32_t *run, size_t run_length, const uint16_t *speeds, size_t speeds_length, uint32_t *rows, size_t rows_length, uint8_t *numbers, size_t numbers_length);
+
+/* The host's word that a job's transfer has ended before its size was carried. It is said between two slots or shifts, and no call clears the mark.
  * In: plan, run and the job's position. Out: the run, in which the job's ended mark is set and nothing else changes. Answers, in this order,
  * 22 (plan or run too short), 21 (as gateway_step's 21), 25 (no job has the position), 26 (the clock is before the job's release, or its outcome
  * is already met, ended, discarded or missed) or 0. After any refusal the run stays. */
@@ -225,10 +243,11 @@ static inline const char *gateway_words(uint32_t answer)
         "a line of the job list is not well formed",
         "the job list does not begin with its header",
         "there is no such job",
-        "the job is not running: it is not yet released, or it is over already"
+        "the job is not running: it is not yet released, or it is over already",
+        "a shift has too many speeds"
     };
     static const char *const results[] = { "no job is essential", "met", "discarded", "missed", "open", "ended" };
-    if (answer <= GATEWAY_CANNOT_END)
+    if (answer <= GATEWAY_TOO_MANY_SPEEDS)
         return refusals[answer];
     if (answer >= GATEWAY_NONE_ESSENTIAL && answer <= GATEWAY_ENDED)
         return results[answer - GATEWAY_NONE_ESSENTIAL];

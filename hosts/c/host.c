@@ -1,10 +1,11 @@
-/* A small host in C: reads a plan file and then speeds from standard input, runs the plan slot by slot, and prints what runplan prints. Where
- * a refused file is wrong it says on standard error.
+/* A small host in C: reads a plan file and then speeds from standard input, runs the plan in shifts of as many speeds as a call takes, and prints
+ * what runplan prints. Where a refused file is wrong it says on standard error.
  * With --check it reads a plan file alone, and says what the plan asks, whether it is accepted, how much slack it has, whether it is written
- * again as the same file, and how each transfer of an accepted plan ends at the floor. Then the exit status is 0 for an accepted plan and 1
- * for any other.
+ * again as the same file, and how each transfer of an accepted plan ends at the floor, run slot by slot. Then the exit status is 0 for an
+ * accepted plan and 1 for any other.
  * With --end it reads a plan file alone, starts the plan, says of each position in turn that its job has ended, also of the first position that
- * no job has, and runs the plan at the floor. It prints what each word is answered and how each transfer ends; the exit status is as with --check.
+ * no job has, and runs the plan at the floor in shifts. It prints what each word is answered and how each transfer ends; the exit status is as
+ * with --check.
  * With --import it reads a job list as text, and says which jobs it has and whether they are exported as the same text. Then the exit status is
  * 0 for a text that is taken and 1 for any other. With --refusals it prints what each refusal says. */
 #include <stdio.h>
@@ -14,6 +15,7 @@
 #include "gateway.h"
 
 #define OPENING_BYTES 5
+#define SPEED_BYTES 2
 #define FIRST_ROOM 4096
 
 static uint8_t file[GATEWAY_LARGEST_FILE];
@@ -23,6 +25,9 @@ static uint64_t plan[GATEWAY_PLAN_WORDS];
 static uint32_t table[GATEWAY_TABLE_PLACES];
 static uint32_t run[GATEWAY_RUN_WORDS];
 static uint32_t grants[GATEWAY_MOST_JOBS];
+static uint16_t speeds[GATEWAY_MOST_SPEEDS];
+static uint32_t rows[GATEWAY_ROWS_PLACES];
+static uint8_t numbers[GATEWAY_MOST_SPEEDS];
 static uint64_t location[GATEWAY_LOCATION_WORDS];
 static size_t offset;
 
@@ -43,30 +48,59 @@ static void print_name(size_t file_length, size_t job)
     fwrite(file + gateway_name(file, file_length, job), 1, GATEWAY_NAME_BYTES, stdout);
 }
 
-static void print_grants(size_t file_length, size_t jobs)
+static void print_row(size_t file_length, const uint32_t *row)
 {
     int some = 0;
-    for (size_t i = 0; i < jobs; i++) {
-        if (grants[i] == 0)
+    for (size_t i = 0; i < plan[GATEWAY_INDEX_JOB_COUNT]; i++) {
+        if (row[i] == 0)
             continue;
         putchar(' ');
         print_name(file_length, i);
-        printf("=%u", (unsigned)grants[i]);
+        printf("=%u", (unsigned)row[i]);
         some = 1;
     }
     puts(some ? "" : " -");
 }
 
-static void print_slot(size_t file_length, uint16_t speed)
+/* A shift leaves a number for each speed. What refuses the shift refuses each of its speeds. */
+static void shift(const uint16_t *first, size_t count)
 {
-    uint32_t clock = run[GATEWAY_INDEX_CLOCK];
-    uint32_t refused = gateway_step(plan, GATEWAY_PLAN_WORDS, table, GATEWAY_TABLE_PLACES, run, GATEWAY_RUN_WORDS, speed, grants, GATEWAY_MOST_JOBS);
-    if (refused != GATEWAY_DONE) {
-        printf("%u %u R %u\n", (unsigned)clock, (unsigned)speed, (unsigned)refused);
+    uint32_t refused = gateway_shift(plan, GATEWAY_PLAN_WORDS, table, GATEWAY_TABLE_PLACES, run, GATEWAY_RUN_WORDS, first, count, rows, GATEWAY_ROWS_PLACES,
+        numbers, GATEWAY_MOST_SPEEDS);
+    for (size_t k = 0; refused != GATEWAY_DONE && k < count; k++)
+        numbers[k] = (uint8_t)refused;
+}
+
+/* The lines of a shift that began at a clock. The slow mark stands after each of its slots as after the last. */
+static void print_shift(size_t file_length, uint32_t clock, const uint16_t *first, size_t count)
+{
+    size_t jobs = (size_t)plan[GATEWAY_INDEX_JOB_COUNT];
+    for (size_t k = 0; k < count; k++) {
+        printf("%u %u ", (unsigned)clock, (unsigned)first[k]);
+        if (numbers[k] != GATEWAY_DONE) {
+            printf("R %u\n", (unsigned)numbers[k]);
+            continue;
+        }
+        putchar(run[GATEWAY_INDEX_SLOW] ? 'D' : 'N');
+        print_row(file_length, rows + GATEWAY_INDEX_GRANT(jobs, k, 0));
+        clock++;
+    }
+}
+
+/* Carries the speeds and prints their lines. A line says whether the slow mark is set after its slot, and a shift leaves only how it stands after
+ * the last: one in which it was set is taken back and carried in two parts, down to the slot that sets it. */
+static void carry(size_t file_length, const uint16_t *first, size_t count)
+{
+    uint32_t before[GATEWAY_RUN_WORDS];
+    memcpy(before, run, sizeof run);
+    shift(first, count);
+    if (run[GATEWAY_INDEX_SLOW] == before[GATEWAY_INDEX_SLOW] || count == 1) {
+        print_shift(file_length, before[GATEWAY_INDEX_CLOCK], first, count);
         return;
     }
-    printf("%u %u %c", (unsigned)clock, (unsigned)speed, run[GATEWAY_INDEX_SLOW] ? 'D' : 'N');
-    print_grants(file_length, (size_t)plan[GATEWAY_INDEX_JOB_COUNT]);
+    memcpy(run, before, sizeof run);
+    carry(file_length, first, count / 2);
+    carry(file_length, first + count / 2, count - count / 2);
 }
 
 static void print_outcomes(size_t file_length)
@@ -84,9 +118,18 @@ static uint32_t start(void)
     return gateway_start(plan, GATEWAY_PLAN_WORDS, table, GATEWAY_TABLE_PLACES, run, GATEWAY_RUN_WORDS, location, GATEWAY_LOCATION_WORDS);
 }
 
+/* The speeds of a shift, as many as there are and it may have. Answers their bytes; a stray one may be among them. */
+static size_t read_speeds(void)
+{
+    static uint8_t bytes[SPEED_BYTES * GATEWAY_MOST_SPEEDS];
+    size_t got = fread(bytes, 1, sizeof bytes, stdin);
+    for (size_t k = 0; k < got / SPEED_BYTES; k++)
+        speeds[k] = (uint16_t)(bytes[SPEED_BYTES * k] << 8 | bytes[SPEED_BYTES * k + 1]);
+    return got;
+}
+
 static int night(void)
 {
-    uint8_t two[2];
     size_t got;
     size_t length = read_file();
     uint32_t refused = gateway_read(file, length, plan, GATEWAY_PLAN_WORDS, table, GATEWAY_TABLE_PLACES, &offset);
@@ -99,9 +142,11 @@ static int night(void)
         return 0;
     }
     puts("slot speed mode grants");
-    while ((got = fread(two, 1, 2, stdin)) == 2)
-        print_slot(length, (uint16_t)(two[0] << 8 | two[1]));
-    if (got == 1)
+    do {
+        got = read_speeds();
+        carry(length, speeds, got / SPEED_BYTES);
+    } while (got == SPEED_BYTES * GATEWAY_MOST_SPEEDS);
+    if (got % SPEED_BYTES != 0)
         puts("stray byte");
     print_outcomes(length);
     return 0;
@@ -162,13 +207,29 @@ static void print_written(size_t length)
     printf("written again: %s %u bytes\n", same ? "the same" : "other", (unsigned)written);
 }
 
-/* Runs a started plan at its floor until a step is refused, which is at the last deadline. */
-static void print_floor_night(size_t file_length)
+/* Runs a started plan at its floor, slot by slot, until a slot is refused, which is at the last deadline. */
+static uint32_t floor_in_slots(void)
 {
     uint16_t speed = gateway_speed(plan[GATEWAY_INDEX_FLOOR], plan);
     uint32_t refused = GATEWAY_DONE;
     while (refused == GATEWAY_DONE)
         refused = gateway_step(plan, GATEWAY_PLAN_WORDS, table, GATEWAY_TABLE_PLACES, run, GATEWAY_RUN_WORDS, speed, grants, GATEWAY_MOST_JOBS);
+    return refused;
+}
+
+/* The same in shifts, until the last speed of one is refused. */
+static uint32_t floor_in_shifts(void)
+{
+    for (size_t k = 0; k < GATEWAY_MOST_SPEEDS; k++)
+        speeds[k] = gateway_speed(plan[GATEWAY_INDEX_FLOOR], plan);
+    do
+        shift(speeds, GATEWAY_MOST_SPEEDS);
+    while (numbers[GATEWAY_MOST_SPEEDS - 1] == GATEWAY_DONE);
+    return numbers[GATEWAY_MOST_SPEEDS - 1];
+}
+
+static void print_floor_night(size_t file_length, uint32_t refused)
+{
     printf("at the floor, until %s:\n", gateway_words(refused));
     print_outcomes(file_length);
 }
@@ -193,7 +254,7 @@ static int check(void)
     print_written(length);
     if (refused != GATEWAY_DONE || start() != GATEWAY_DONE)
         return 1;
-    print_floor_night(length);
+    print_floor_night(length, floor_in_slots());
     return 0;
 }
 
@@ -220,7 +281,7 @@ static int end_all(void)
     }
     for (size_t i = 0; i <= plan[GATEWAY_INDEX_JOB_COUNT]; i++)
         print_word(i);
-    print_floor_night(length);
+    print_floor_night(length, floor_in_shifts());
     return 0;
 }
 
@@ -257,7 +318,7 @@ static int import(void)
 
 static int print_refusals(void)
 {
-    for (uint32_t number = GATEWAY_WRONG_VERSION; number <= GATEWAY_CANNOT_END; number++)
+    for (uint32_t number = GATEWAY_WRONG_VERSION; number <= GATEWAY_TOO_MANY_SPEEDS; number++)
         printf("%u %s\n", (unsigned)number, gateway_words(number));
     return 0;
 }

@@ -1,6 +1,8 @@
 //! The calls of `libgateway.a` and the sizes of what is lent to them, as `gateway.h` declares them. `tools/compare` runs them all.
 
 pub const MOST_JOBS: usize = 32;
+/// The most speeds of one shift.
+pub const MOST_SPEEDS: usize = 256;
 
 // The rates and the job count; each job; the clock and both marks of a run.
 pub const HEAD_WORDS: usize = 3;
@@ -23,6 +25,7 @@ extern "C" {
     pub fn gateway_slack(plan: *const u64, plan_length: usize, table: *const u32, table_length: usize, slack: *mut i64, location: *mut u64, location_length: usize) -> u32;
     pub fn gateway_start(plan: *const u64, plan_length: usize, table: *const u32, table_length: usize, run: *mut u32, run_length: usize, location: *mut u64, location_length: usize) -> u32;
     pub fn gateway_step(plan: *const u64, plan_length: usize, table: *const u32, table_length: usize, run: *mut u32, run_length: usize, speed: u16, grants: *mut u32, grants_length: usize) -> u32;
+    pub fn gateway_shift(plan: *const u64, plan_length: usize, table: *const u32, table_length: usize, run: *mut u32, run_length: usize, speeds: *const u16, speeds_length: usize, rows: *mut u32, rows_length: usize, numbers: *mut u8, numbers_length: usize) -> u32;
     pub fn gateway_end(plan: *const u64, plan_length: usize, run: *mut u32, run_length: usize, position: usize) -> u32;
     pub fn gateway_outcome(plan: *const u64, plan_length: usize, run: *const u32, run_length: usize, position: usize) -> u32;
     pub fn gateway_import(text: *const u8, text_length: usize, list: *mut u64, list_length: usize, offset: *mut usize) -> u32;

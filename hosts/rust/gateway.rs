@@ -8,8 +8,9 @@
 pub mod calls;
 
 use std::fmt;
+use std::ops::Range;
 
-pub use calls::{MOST_JOBS, PLAN_WORDS, RUN_WORDS};
+pub use calls::{MOST_JOBS, MOST_SPEEDS, PLAN_WORDS, RUN_WORDS};
 use calls::*;
 
 pub const MOST_INTERVALS: usize = 63;
@@ -44,6 +45,8 @@ const ENDED: u32 = 261;
 
 /// The numbers of refusals, named as in `gateway.h`.
 pub mod refusal {
+    /// No refusal: the number of a speed of a shift whose slot is done.
+    pub const DONE: u8 = 0;
     pub const WRONG_VERSION: u8 = 1;
     pub const WRONG_EXTENT: u8 = 2;
     pub const WRONG_RECORD_LENGTH: u8 = 3;
@@ -70,10 +73,12 @@ pub mod refusal {
     pub const WRONG_HEADER: u8 = 24;
     pub const NO_SUCH_JOB: u8 = 25;
     pub const CANNOT_END: u8 = 26;
+    pub const TOO_MANY_SPEEDS: u8 = 27;
 
     /// What a refusal's number says, as `gateway_words` of `gateway.h` says it.
     pub fn words(number: u8) -> &'static str {
         match number {
+            DONE => "done",
             WRONG_VERSION => "the file is empty or of another version",
             WRONG_EXTENT => "the file is shorter or longer than it says",
             WRONG_RECORD_LENGTH => "a job or a row does not have its own length",
@@ -100,6 +105,7 @@ pub mod refusal {
             WRONG_HEADER => "the job list does not begin with its header",
             NO_SUCH_JOB => "there is no such job",
             CANNOT_END => "the job is not running: it is not yet released, or it is over already",
+            TOO_MANY_SPEEDS => "a shift has too many speeds",
             _ => "the library gives no such number",
         }
     }
@@ -383,6 +389,11 @@ impl Plan {
         self.words[JOB_COUNT] as usize
     }
 
+    /// Where the grants at speed k stand in the rows of a shift: one place for each job.
+    pub fn row(&self, k: usize) -> Range<usize> {
+        k * self.job_count()..(k + 1) * self.job_count()
+    }
+
     /// The jobs in the order of their positions.
     pub fn jobs(&self) -> impl Iterator<Item = Job> + '_ {
         self.job_words().filter_map(Job::from_words)
@@ -502,6 +513,20 @@ impl Run {
         };
         grants.truncate(plan.job_count());
         done(number).map(|()| grants)
+    }
+
+    /// Carries a slot at each of at most [`MOST_SPEEDS`] speeds in turn, as [`step`](Run::step) would. For each speed it puts the grants into
+    /// its [`row`](Plan::row) of `rows`, and into `numbers` 0 or the number of a refusal, 19 or 20: a refused speed leaves its row and the run, and
+    /// the next one is tried. Places beyond the last row and the last number stay. 27 if there are more speeds, 22 if rows or numbers are too
+    /// few; a refusal leaves the run, the rows and the numbers as they were.
+    pub fn shift(&mut self, plan: &Plan, speeds: &[u16], rows: &mut [u32], numbers: &mut [u8]) -> Result<(), Refusal> {
+        // SAFETY: each pointer is valid for the length beside it; the run, the rows and the numbers are borrowed for writing.
+        done(unsafe {
+            gateway_shift(
+                plan.words.as_ptr(), PLAN_WORDS, plan.table.as_ptr(), TABLE_PLACES, self.words.as_mut_ptr(), RUN_WORDS, speeds.as_ptr(), speeds.len(),
+                rows.as_mut_ptr(), rows.len(), numbers.as_mut_ptr(), numbers.len(),
+            )
+        })
     }
 
     /// The host's word that the transfer of the job at a position has ended before its size was carried. It gets nothing in later slots, and

@@ -1,19 +1,20 @@
-//! A small host in Rust: reads a plan file and then speeds from standard input, runs the plan slot by slot, and prints what runplan prints.
-//! Where a refused file is wrong it says on standard error.
+//! A small host in Rust: reads a plan file and then speeds from standard input, runs the plan in shifts of as many speeds as a call takes, and
+//! prints what runplan prints. Where a refused file is wrong it says on standard error.
 //! With `--check` it reads a plan file alone, and says what the plan asks, whether it is accepted, how much slack it has, whether it is
-//! written again as the same file, and how each transfer of an accepted plan ends at the floor. Then the exit status is 0 for an accepted
-//! plan and 1 for any other.
+//! written again as the same file, and how each transfer of an accepted plan ends at the floor, run slot by slot. Then the exit status is 0
+//! for an accepted plan and 1 for any other.
 //! With `--end` it reads a plan file alone, starts the plan, says of each position in turn that its job has ended, also of the first position
-//! that no job has, and runs the plan at the floor. It prints what each word is answered and how each transfer ends; the exit status is as with
-//! `--check`.
+//! that no job has, and runs the plan at the floor in shifts. It prints what each word is answered and how each transfer ends; the exit status
+//! is as with `--check`.
 //! With `--import` it reads a job list as text, and says which jobs it has and whether they are exported as the same text. Then the exit status
 //! is 0 for a text that is taken and 1 for any other. With `--refusals` it prints what each refusal says.
 
-use gateway::{refusal, Grade, Job, Plan, Refusal, Run, LARGEST_FILE};
+use gateway::{refusal, Grade, Job, Plan, Refusal, Run, LARGEST_FILE, MOST_SPEEDS};
 use std::io::{self, Read, Write};
 use std::process::ExitCode;
 
 const OPENING_BYTES: usize = 5;
+const SPEED_BYTES: usize = 2;
 
 /// The file ends where its length field says, or at the largest file's length if that is earlier.
 fn file_length(input: &[u8]) -> usize {
@@ -36,16 +37,38 @@ fn name(file: &[u8], job: usize) -> String {
     String::from_utf8_lossy(gateway::name(file, job).unwrap_or_default()).into_owned()
 }
 
-fn slot_line(file: &[u8], run: &mut Run, plan: &Plan, speed: u16) -> String {
-    let clock = run.clock();
-    match run.step(plan, speed) {
-        Err(refusal) => format!("{clock} {speed} R {}", refusal.number()),
-        Ok(grants) => {
-            let shown: Vec<String> = (0..grants.len()).filter(|&i| grants[i] > 0).map(|i| format!("{}={}", name(file, i), grants[i])).collect();
-            let mode = if run.is_slow() { 'D' } else { 'N' };
-            format!("{clock} {speed} {mode} {}", if shown.is_empty() { "-".to_string() } else { shown.join(" ") })
+fn row_text(file: &[u8], row: &[u32]) -> String {
+    let shown: Vec<String> = (0..row.len()).filter(|&i| row[i] > 0).map(|i| format!("{}={}", name(file, i), row[i])).collect();
+    if shown.is_empty() { "-".to_string() } else { shown.join(" ") }
+}
+
+/// Carries the speeds and writes their lines. A line says whether the slow mark is set after its slot, and a shift leaves only how it stands after
+/// the last: one in which it was set is taken back and carried in two parts, down to the slot that sets it.
+fn write_shift(file: &[u8], run: &mut Run, plan: &Plan, speeds: &[u16], out: &mut impl Write) -> io::Result<()> {
+    let before = run.clone();
+    let mut rows = vec![0; speeds.len() * plan.job_count()];
+    let mut numbers = vec![refusal::DONE; speeds.len()];
+    if let Err(refusal) = run.shift(plan, speeds, &mut rows, &mut numbers) {
+        // What refuses the shift refuses each of its speeds.
+        numbers.fill(refusal.number());
+    }
+    if run.is_slow() != before.is_slow() && speeds.len() > 1 {
+        *run = before;
+        let (first, rest) = speeds.split_at(speeds.len() / 2);
+        write_shift(file, run, plan, first, out)?;
+        return write_shift(file, run, plan, rest, out);
+    }
+    let mode = if run.is_slow() { 'D' } else { 'N' };
+    let mut clock = before.clock();
+    for (k, (speed, number)) in speeds.iter().zip(numbers).enumerate() {
+        if number == refusal::DONE {
+            writeln!(out, "{clock} {speed} {mode} {}", row_text(file, &rows[plan.row(k)]))?;
+            clock += 1;
+        } else {
+            writeln!(out, "{clock} {speed} R {number}")?;
         }
     }
+    Ok(())
 }
 
 fn outcome_line(file: &[u8], run: &Run, plan: &Plan, job: usize) -> String {
@@ -67,10 +90,11 @@ fn night(file: &[u8], speeds: &[u8], out: &mut impl Write) -> io::Result<()> {
         }
     };
     writeln!(out, "slot speed mode grants")?;
-    let pairs = speeds.chunks_exact(2);
+    let pairs = speeds.chunks_exact(SPEED_BYTES);
     let stray = !pairs.remainder().is_empty();
-    for pair in pairs {
-        writeln!(out, "{}", slot_line(file, &mut run, &plan, u16::from_be_bytes([pair[0], pair[1]])))?;
+    let speeds: Vec<u16> = pairs.map(|pair| u16::from_be_bytes([pair[0], pair[1]])).collect();
+    for shift in speeds.chunks(MOST_SPEEDS) {
+        write_shift(file, &mut run, &plan, shift, out)?;
     }
     if stray {
         writeln!(out, "stray byte")?;
@@ -94,23 +118,42 @@ fn write_jobs(jobs: impl Iterator<Item = Job>, out: &mut impl Write) -> io::Resu
     Ok(())
 }
 
-/// Runs a started plan at its floor until a step is refused, which is at the last deadline. Between two slots the run is kept as words.
-fn floor_night(plan: &Plan, mut run: Run) -> Result<(Run, Refusal), Refusal> {
+/// Where a night at the floor ends: the run, and the number that refuses the floor, which is at the last deadline.
+type FloorNight = Result<(Run, u8), Refusal>;
+
+/// Runs a started plan at its floor, slot by slot. Between two slots the run is kept as words.
+fn floor_in_slots(plan: &Plan, mut run: Run) -> FloorNight {
     loop {
         if let Err(refusal) = run.step(plan, plan.floor()) {
-            return Ok((run, refusal));
+            return Ok((run, refusal.number()));
         }
         let stored = run.words().to_vec();
         run = Run::from_words(&stored)?;
     }
 }
 
-fn write_floor_night(file: &[u8], plan: &Plan, run: Run, out: &mut impl Write) -> io::Result<bool> {
-    let (run, last) = match floor_night(plan, run) {
+/// The same in shifts, until the last speed of one is refused.
+fn floor_in_shifts(plan: &Plan, mut run: Run) -> FloorNight {
+    let speeds = [plan.floor(); MOST_SPEEDS];
+    let mut rows = vec![0; MOST_SPEEDS * plan.job_count()];
+    let mut numbers = [refusal::DONE; MOST_SPEEDS];
+    loop {
+        run.shift(plan, &speeds, &mut rows, &mut numbers)?;
+        let last = numbers[MOST_SPEEDS - 1];
+        if last != refusal::DONE {
+            return Ok((run, last));
+        }
+        let stored = run.words().to_vec();
+        run = Run::from_words(&stored)?;
+    }
+}
+
+fn write_floor_night(file: &[u8], plan: &Plan, night: FloorNight, out: &mut impl Write) -> io::Result<bool> {
+    let (run, last) = match night {
         Ok(night) => night,
         Err(_) => return Ok(false),
     };
-    writeln!(out, "at the floor, until {}:", last.words())?;
+    writeln!(out, "at the floor, until {}:", refusal::words(last))?;
     write_outcomes(file, &run, plan, out)?;
     Ok(true)
 }
@@ -138,7 +181,7 @@ fn check(file: &[u8], out: &mut impl Write) -> io::Result<bool> {
     writeln!(out, "{}", slack_line(&plan))?;
     writeln!(out, "written again: {} {} bytes", if again == file { "the same" } else { "other" }, again.len())?;
     match plan.start() {
-        Ok(run) => write_floor_night(file, &plan, run, out),
+        Ok(run) => write_floor_night(file, &plan, floor_in_slots(&plan, run), out),
         Err(_) => Ok(false),
     }
 }
@@ -154,7 +197,7 @@ fn end_all(file: &[u8], out: &mut impl Write) -> io::Result<bool> {
             Err(refusal) => writeln!(out, "position {position}: {refusal}")?,
         }
     }
-    write_floor_night(file, &plan, run, out)
+    write_floor_night(file, &plan, floor_in_shifts(&plan, run), out)
 }
 
 fn import(text: &[u8], out: &mut impl Write) -> io::Result<bool> {
@@ -169,7 +212,7 @@ fn import(text: &[u8], out: &mut impl Write) -> io::Result<bool> {
 }
 
 fn write_refusals(out: &mut impl Write) -> io::Result<()> {
-    (refusal::WRONG_VERSION..=refusal::CANNOT_END).try_for_each(|number| writeln!(out, "{number} {}", refusal::words(number)))
+    (refusal::WRONG_VERSION..=refusal::TOO_MANY_SPEEDS).try_for_each(|number| writeln!(out, "{number} {}", refusal::words(number)))
 }
 
 fn read_input() -> io::Result<Vec<u8>> {

@@ -18,6 +18,8 @@ pub const MOST_DEADLINE: u32 = 100_000;
 pub const LEAST_SIZE: u64 = 1;
 /// Greatest size of a job, in units.
 pub const MOST_SIZE: u64 = 100_000_000;
+/// Most speeds in one shift.
+pub const MOST_SHIFT_SPEEDS: usize = 256;
 
 /// Bytes of a name.
 pub const NAME_BYTES: usize = 8;

@@ -12,5 +12,6 @@ pub mod program;
 pub mod reader;
 pub mod refusal;
 pub mod run;
+pub mod shift;
 pub mod slack;
 pub mod writer;

@@ -29,6 +29,7 @@ pub const LINE: u8 = 23;
 pub const HEADER: u8 = 24;
 pub const NO_SUCH_POSITION: u8 = 25;
 pub const CANNOT_END: u8 = 26;
+pub const TOO_MANY_SPEEDS: u8 = 27;
 
 /// A refusal with its places, listed in the order in which they are named.
 ///

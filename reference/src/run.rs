@@ -105,8 +105,8 @@ fn standing(job: &Job, run: &Run, position: usize) -> Outcome {
     }
 }
 
-/// What a slot, a word of the host and an outcome ask of plan and run.
-fn sound_to_run(plan: &Plan, run: &Run) -> bool {
+/// What a slot, a shift, a word of the host and an outcome ask of plan and run.
+pub fn sound_to_run(plan: &Plan, run: &Run) -> bool {
     numbers_hold(plan)
         && first_release(plan.counted()) <= run.clock
         && run.clock <= last_deadline(plan.counted())

@@ -5,9 +5,9 @@ use std::hint::black_box;
 use std::process::ExitCode;
 
 use bench::inputs::{Input, Shape, LARGEST_FILE};
-use bench::{judge, read, slack, step, write, MOST_JOBS, PLACES};
+use bench::{judge, read, shift, slack, step, write, MOST_JOBS, MOST_SPEEDS, PLACES};
 
-const USAGE: &str = "usage: calls read|write|judge|slack|step 1|8|16|32|largest REPEAT";
+const USAGE: &str = "usage: calls read|write|judge|slack|step|shift 1|8|16|32|largest REPEAT";
 
 fn main() -> ExitCode {
     let words: Vec<String> = env::args().skip(1).collect();
@@ -52,6 +52,7 @@ fn call_of(what: &str) -> Option<fn(&Input, u64)> {
         "judge" => Some(judges),
         "slack" => Some(slacks),
         "step" => Some(steps),
+        "shift" => Some(shifts),
         _ => None,
     }
 }
@@ -98,6 +99,23 @@ fn steps(input: &Input, repeat: u64) {
             black_box(&mut run),
             black_box(input.plan.n),
             black_box(&mut grants),
+        );
+        black_box(&answer);
+    }
+}
+
+fn shifts(input: &Input, repeat: u64) {
+    let night = &input.nights()[0];
+    let (mut rows, mut numbers) = ([0; MOST_JOBS * MOST_SPEEDS], [0; MOST_SPEEDS]);
+    for _ in 0..repeat {
+        let mut run = night.run;
+        let answer = shift(
+            black_box(&night.plan),
+            black_box(&night.table),
+            black_box(&mut run),
+            black_box(&night.speeds),
+            black_box(&mut rows),
+            black_box(&mut numbers),
         );
         black_box(&answer);
     }

@@ -14,10 +14,10 @@ use crate::words::{
 };
 
 /// The words of a run before it had ended marks.
-const WORDS_BEFORE: usize = 35;
+pub const WORDS_BEFORE: usize = 35;
 
 /// Both jobs of plan E are running.
-const IN_THE_MIDDLE: Run = [3, 0, 0, 2, 4];
+pub const IN_THE_MIDDLE: Run = [3, 0, 0, 2, 4];
 
 /// The word itself: done, and refused for each ground.
 pub fn words(cases: &mut Cases) -> Result<(), String> {
@@ -42,7 +42,7 @@ pub fn runs(cases: &mut Cases) -> Result<(), String> {
 }
 
 /// Plan E with a run in which the jobs at these places have ended.
-fn e_with_ended(run: Run, ended: &[usize]) -> Memory {
+pub fn e_with_ended(run: Run, ended: &[usize]) -> Memory {
     let mut memory = e_with(run);
     for place in ended {
         memory.run.put(ENDED_MARKS + place, &[1]);
@@ -150,9 +150,9 @@ fn no_such_job(cases: &mut Cases) -> Result<(), String> {
     hold(cases, "first position of one job", memory, 0, 0)
 }
 
-/// Plans that are refused by 21, and names, which no word looks at.
-fn unsound_plans(cases: &mut Cases) -> Result<(), String> {
-    let plans = [
+/// Words of plan E that break a rule, each with the place where it stands.
+pub fn broken_words() -> [(&'static str, usize, u64); 14] {
+    [
         ("rate 1001", NORMAL_RATE, 1_001),
         ("rate with a bit too many", NORMAL_RATE, 2 + (1 << 16)),
         ("floor 0", FLOOR, 0),
@@ -167,14 +167,23 @@ fn unsound_plans(cases: &mut Cases) -> Result<(), String> {
         ("size with a bit too many", job_at(1) + SIZE, 8 + (1 << 32)),
         ("deadline 100001", job_at(1) + DEADLINE, 100_001),
         ("deadline with a bit too many", job_at(1) + DEADLINE, 10 + (1 << 32)),
-    ];
-    for (case, at, word) in plans {
+    ]
+}
+
+/// Names of the second job that a plan file cannot have.
+pub fn broken_names() -> [(&'static str, u64); 2] {
+    let name = u64::from_be_bytes(*b"Mirror-A");
+    [("name of the job before", name), ("name with a space", 0x20)]
+}
+
+/// Plans that are refused by 21, and names, which no word looks at.
+fn unsound_plans(cases: &mut Cases) -> Result<(), String> {
+    for (case, at, word) in broken_words() {
         let memory = &mut e_with(IN_THE_MIDDLE);
         memory.plan.put(at, &[word]);
         hold(cases, case, memory, 0, 21)?;
     }
-    let name = u64::from_be_bytes(*b"Mirror-A");
-    for (case, word) in [("name of the job before", name), ("name with a space", 0x20)] {
+    for (case, word) in broken_names() {
         let memory = &mut e_with(IN_THE_MIDDLE);
         memory.plan.put(job_at(1) + NAME, &[word]);
         hold(cases, case, memory, 1, 0)?;

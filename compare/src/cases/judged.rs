@@ -33,12 +33,13 @@ struct PlanCase {
     answers: Answers,
 }
 
-const P5: [Job; 4] = [
+pub const P5: [Job; 4] = [
     (b"job----A", HI, 0, 8, 10),
     (b"job----B", HI, 0, 4, 16),
     (b"job----C", LO, 0, 6, 4),
     (b"job----D", LO, 0, 10, 12),
 ];
+pub const P5_ROWS: [&[u32]; 4] = [&[2, 6, 0, 0], &[0, 0, 0, 4], &[6, 0, 0, 0], &[0, 6, 4, 0]];
 const P6: [Job; 3] = [
     (b"job----A", LO, 0, 4, 2),
     (b"job----B", HI, 0, 2, 4),
@@ -75,7 +76,7 @@ const PLANS: [PlanCase; 12] = [
     PlanCase {
         name: "P5",
         jobs: &P5,
-        rows: &[&[2, 6, 0, 0], &[0, 0, 0, 4], &[6, 0, 0, 0], &[0, 6, 4, 0]],
+        rows: &P5_ROWS,
         answers: answers((0, 190), (0, NOWHERE), (0, 0, [1, 10])),
     },
     PlanCase {

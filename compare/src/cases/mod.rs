@@ -9,6 +9,8 @@ mod judged;
 mod largest;
 mod lists;
 mod plan_e;
+mod refused_shifts;
+mod shifts;
 mod slots;
 mod sums;
 mod texts;
@@ -44,6 +46,19 @@ impl Cases {
             Err(difference) => Err(format!("case '{}': {}", case, difference)),
         }
     }
+
+    /// Holds a list to the written one. Where they differ only the first such place is told.
+    fn expect_list<T: Debug + PartialEq>(
+        &mut self,
+        case: &str,
+        got: &[T],
+        expected: &[T],
+    ) -> Result<(), String> {
+        let differs = |&at: &usize| got.get(at) != expected.get(at);
+        let first = (0..got.len().max(expected.len())).find(differs);
+        let shown = first.map(|at| (at, got.get(at)));
+        self.expect(case, Ok(shown), first.map(|at| (at, expected.get(at))))
+    }
 }
 
 /// How many answers were as expected, or the first that was not.
@@ -62,6 +77,10 @@ pub fn all() -> Result<u64, String> {
     slots::outcomes(cases)?;
     ended::words(cases)?;
     ended::runs(cases)?;
+    shifts::of_plan_e(cases)?;
+    shifts::of_others(cases)?;
+    refused_shifts::grounds(cases)?;
+    refused_shifts::rooms(cases)?;
     sums::columns(cases)?;
     sums::dues(cases)?;
     largest::file(cases)?;

@@ -11,13 +11,13 @@ use crate::words::{
 };
 
 /// As few jobs as can have 2^31 units together, at most 100,000,000 each.
-const JOB_COUNT: u64 = 22;
-const HALF: u64 = 1 << 31;
+pub const JOB_COUNT: u64 = 22;
+pub const HALF: u64 = 1 << 31;
 /// The file: ten bytes, 22 for each job, two for the row count, 15 for each row.
 const FILE_LENGTH: usize = 10 + 22 * 22 + 2 + 22 * 15;
 
 /// Jobs of one window and one grade that get all their units, this many in total, in one interval.
-fn heavy(total: u64, grade: u64) -> Memory {
+pub fn heavy(total: u64, grade: u64) -> Memory {
     let mut memory = memory_of(&[], &[]);
     let mut words = vec![1_000, 999, JOB_COUNT];
     words.resize(PLAN_WORDS, 0);

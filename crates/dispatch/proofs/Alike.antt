@@ -6,7 +6,7 @@ use mathlib.Core.Bool.{Bool, true, false, not, _&&_, _||_, cond}
 use mathlib.Core.List.{List, [], _∷_, _++_}
 use Prim.Native.Nat.{ℕ, suc, _+_, _*_, _-_, _≤_, _<_, min}
 use native.Mathlib.Omega.{arith}
-use borrow.Author.Tests.{ltb-true, eqb-false, not-false, lt-ltb, le-ltb}
+use borrow.Author.Tests.{ltb-true, ltb-false, eqb-false, not-false, lt-ltb, le-ltb}
 use lib.Dec.{leb, ltb, eqb}
 use lib.ListN.{length, getD, take, length-take}
 use lib.Seq.{getD-take}
@@ -31,17 +31,19 @@ use Rattle.dispatch.specs.Step.{Ending, isOpen, WordEffect, endBy, slotS
 use Rattle.dispatch.proofs.Queues.{queued, queue-ext, serve-ext, queued-both, queued-below}
 use Rattle.dispatch.proofs.SlotSoundness.{SlotSound, slot-sound}
 
--- If nothing is refused, plan and run are sound and the clock is not at the end.
-none-refused : (bad short over fast : Bool) → refusedBy bad short over fast ≡ [] → (bad ≡ false) × (over ≡ false)
+-- If nothing is refused, plan and run are sound, the clock is not at the end, and the speed is not above the normal rate.
+none-refused : (bad short over fast : Bool) → refusedBy bad short over fast ≡ [] → (bad ≡ false) × (over ≡ false) × (fast ≡ false)
 none-refused true short over fast e = let z : _≡_ {A = ℕ} 0 1 = cc in absurd (omega arith)
 none-refused false true over fast e = let z : _≡_ {A = ℕ} 0 1 = cc in absurd (omega arith)
 none-refused false false true fast e = let z : _≡_ {A = ℕ} 0 1 = cc in absurd (omega arith)
-none-refused false false false fast e = (refl, refl)
+none-refused false false false true e = let z : _≡_ {A = ℕ} 0 1 = cc in absurd (omega arith)
+none-refused false false false false e = (refl, refl, refl)
 
 -- What the tests of a done call establish.
 pub record Done (p : Plan) (table : List ℕ) (run : Run) (v : ℕ) (grants : List ℕ) : Type 0 where
   pub sound : SlotSound p run
   pub before-end : run .clock .0 < lastDeadline p
+  pub normal : v ≤ p .n .0
 
 pub done : (p : Plan) (table : List ℕ) (run : Run) (v : ℕ) (grants : List ℕ) → slotFault p table run v grants ≡ [] → Done p table run v grants
 unfolding slotFault
@@ -49,7 +51,11 @@ done p table run v grants e =
     let none = none-refused (not (slotSound p run)) (ltb (length table) places || ltb (length grants) (counted p))
     (eqb (run .clock .0) (lastDeadline p)) (ltb (p .n .0) v) e in
     let sound = slot-sound p run (not-false (slotSound p run) (none .0)) in
-    record { sound = sound; before-end = early (sound .not-over) (eqb-false (run .clock .0) (lastDeadline p) (none .1)) }
+    record {
+      sound = sound;
+      before-end = early (sound .not-over) (eqb-false (run .clock .0) (lastDeadline p) (none .1));
+      normal = ltb-false (p .n .0) v (none .2);
+    }
   where
     early : run .clock .0 ≤ lastDeadline p → run .clock .0 ≢ lastDeadline p → run .clock .0 < lastDeadline p
     early h n = omega arith

@@ -15,3 +15,5 @@ pub mod SlotOver
 pub mod OutcomeColumns
 pub mod EndColumns
 pub mod WordLimits
+pub mod SlotsInTurn
+pub mod ShiftLimits

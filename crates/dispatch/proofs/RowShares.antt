@@ -46,6 +46,15 @@ added-rest (suc n) (x ∷ l) [] k h = refl
 added-rest (suc n) (x ∷ l) (y ∷ g) zero h = absurd (omega arith)
 added-rest (suc n) (x ∷ l) (y ∷ g) (suc k) h = added-rest n l g k (omega arith)
 
+-- An entry is at most the sum of both entries.
+pub added-most : (n : ℕ) (l g : List ℕ) (k : ℕ) → getD (added n l g) k 0 ≤ getD l k 0 + getD g k 0
+unfolding added
+added-most zero l g k = omega arith
+added-most (suc n) [] g k = omega arith
+added-most (suc n) (x ∷ l) [] k = omega arith
+added-most (suc n) (x ∷ l) (y ∷ g) zero = omega arith
+added-most (suc n) (x ∷ l) (y ∷ g) (suc k) = added-most n l g k
+
 pub filled-is-added : (f : ℕ → ℕ) (n : ℕ) (l g : List ℕ) → n ≤ length g
     → ((k : ℕ) → k < n → f k ≡ getD l k 0 + getD g k 0) → filled f n l ≡ added n l g
 filled-is-added f n l g room h =

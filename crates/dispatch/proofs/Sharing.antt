@@ -3,28 +3,30 @@
 use mathlib.Core.Path.{_≡_, refl, sym, _∙_, ap, ap₂}
 use mathlib.Core.Bool.{Bool, true, false, not, cond, _&&_, _||_, and-false}
 use mathlib.Core.List.{List, [], _++_}
-use Prim.Native.Nat.{ℕ, zero, suc, _-_, _≤_, _<_, min}
+use Prim.Native.Nat.{ℕ, zero, suc, _+_, _*_, _-_, _≤_, _<_, min}
+use native.Mathlib.Nat.{one-mul}
 use native.Mathlib.Omega.{arith}
 use lib.Dec.{leb, ltb, eqb}
 use lib.ListN.{length, getD, drop, replicate, length-replicate, getD-replicate}
 use Rattle.base.specs.Fill.{filled}
-use Rattle.base.specs.Sum.{sum, on}
+use Rattle.base.specs.Sum.{sum, strided, on}
 use Rattle.base.proofs.FillLaws.{filled-ext, filled-at, filled-rest, is-filled}
 use Rattle.base.proofs.SumLaws.{sum-ext, same-terms}
 use Rattle.base.proofs.Logic.{if-true, if-less}
 use Rattle.plan.specs.Edition.{mostJobs, mostIntervals}
-use Rattle.plan.specs.Rules.{hi, counted, deadline, isHi}
+use Rattle.plan.specs.Rules.{hi, counted, size, deadline, isHi}
 use Rattle.plan.specs.Boundaries.{present}
 use Rattle.plan.specs.Table.{allotment}
 use Rattle.plan.specs.declared.kinds.Outline.{Outline}
 use Rattle.plan.specs.declared.kinds.Plan.{Plan}
+use Rattle.plan.specs.declared.kinds.Slots.{Slots}
 use Rattle.dispatch.specs.declared.Run.{Run}
 use Rattle.dispatch.specs.Dues.{carriedOf, inItsWindow, live, slowAfter, goal, due}
 use Rattle.dispatch.specs.Order.{rankAt, rank, queue, serve}
 use Rattle.dispatch.specs.Step.{granted}
 use Rattle.dispatch.specs.inner.Columns.{planOn}
 use Rattle.dispatch.specs.inner.Shares.{served, claim}
-use Rattle.dispatch.specs.inner.Turns.{liveIn, classIn, rankIn, servedIn, dueIn, claimIn, unknown, KnownDue, Claimed, inTurns}
+use Rattle.dispatch.specs.inner.Turns.{inWindowIn, classIn, rankIn, servedIn, goalIn, Goals, unknown, KnownDue, Claimed, inTurns}
 use Rattle.dispatch.proofs.Queues.{over, queue-ext, serve-ext, over-queue, queued-below}
 use Rattle.dispatch.proofs.Shares.{two-lines, within-claim, all-served}
 use Rattle.dispatch.proofs.RowShares.{blank-none, blank-rest, blank-length, granted-rest, granted-length}
@@ -57,7 +59,7 @@ blank-filled n grants room =
     (λ k inside below. blank-none n grants k below)
     (λ k after. blank-rest n grants k after)
 
-module _ (o : Outline) (grades releases sizes deadlines table carried : List ℕ) (run : Run) (v spans : ℕ) where
+module _ (o : Outline) (grades releases sizes deadlines table : List ℕ) (run : Run) (v : ℕ) where
   abbrev q : Plan
   q = planOn o grades releases sizes deadlines
 
@@ -67,9 +69,8 @@ module _ (o : Outline) (grades releases sizes deadlines table carried : List ℕ
   abbrev t : ℕ
   t = run .clock .0
 
-  module _ (held : run .carried ≡ carried) (unended : run .ended ≡ []) (marked : slowAfter q run v ≡ run .slow)
-      (begun : run .slow ≡ false → spans ≡ suc (present q t)) where
-    live-on : (k : ℕ) → k < n → live q run k ≡ liveIn t releases deadlines k
+  module _ (unended : run .ended ≡ []) (marked : slowAfter q run v ≡ run .slow) where
+    live-on : (k : ℕ) → k < n → live q run k ≡ inWindowIn t releases deadlines k
     live-on k l =
         ap (λ e. not (getD e k false) && inItsWindow q t k) unended
         ∙ ap₂ (λ a b. leb a t && ltb t b) (release-on o grades releases sizes deadlines k l) (deadline-on o grades releases sizes deadlines k l)
@@ -80,35 +81,10 @@ module _ (o : Outline) (grades releases sizes deadlines table carried : List ℕ
     rank-on : (k : ℕ) → k < n → rank q k ≡ rankIn grades deadlines k
     rank-on k l = ap₂ (λ h d. rankAt h d k) (hi-on k l) (deadline-on o grades releases sizes deadlines k l)
 
-    -- What is due by the columns is what is due by the rules.
-    due-on : (k : ℕ) → k < n → due q table run (slowAfter q run v) k ≡ dueIn (run .slow) spans sizes carried table k
-    due-on k l = ap (λ s. due q table run s k) marked ∙ ap (λ e. cond (getD e k false) 0 (left (run .slow))) unended ∙ go (run .slow) refl
-      where
-        left : Bool → ℕ
-        left slow = goal q table t slow k - carriedOf run k
-
-        go : (slow : Bool) → run .slow ≡ slow → left slow ≡ dueIn slow spans sizes carried table k
-        go true e = ap₂ (λ s c. s - getD c k 0) (size-on o grades releases sizes deadlines k l) held
-        go false e =
-            ap₂ (λ s c. min s (sum (allotment mostIntervals table k) (suc (present q t))) - getD c k 0) (size-on o grades releases sizes deadlines k l) held
-            ∙ ap (λ x. min (getD sizes k 0) (sum (allotment mostIntervals table k) x) - getD carried k 0) (sym (begun e))
-
     served-on : (k : ℕ) → k < n → served q run (slowAfter q run v) k ≡ servedIn t (run .slow) grades releases deadlines k
     served-on k l =
         ap (λ s. served q run s k) marked
         ∙ ap₂ (λ a h. a && (h || not (run .slow))) (live-on k l) (hi-on k l)
-
-    claim-on : (k : ℕ) → k < n → claimIn t (run .slow) spans grades releases sizes deadlines carried table k ≡ claim q table run (slowAfter q run v) k
-    claim-on k l = sym (ap₂ on (served-on k l) (due-on k l))
-
-    -- The claims of the columns, if they fit, are the grants.
-    pub claims-granted : (grants : List ℕ) → n ≤ length grants
-        → sum (claimIn t (run .slow) spans grades releases sizes deadlines carried table) n ≤ v
-        → filled (claimIn t (run .slow) spans grades releases sizes deadlines carried table) n grants ≡ granted q table run v grants
-    claims-granted grants room fits =
-        filled-ext _ (claim q table run (slowAfter q run v)) n grants claim-on
-        ∙ fitting-claims q table run v grants room
-        (rw (sym (sum-ext _ (claim q table run (slowAfter q run v)) n claim-on)) fits)
 
     -- The queues of the columns are those of the rules.
     hi-queue : queue (classIn true t grades releases deadlines) (rankIn grades deadlines) n
@@ -143,12 +119,33 @@ module _ (o : Outline) (grades releases sizes deadlines table carried : List ℕ
         last true false = refl
         last false h = refl
 
-    module _ (grants : List ℕ) (room : n ≤ length grants) where
+    -- With goals that are those of the rules, what is due is the goal less what is carried.
+    module _ (goals : ℕ → ℕ) (right : Goals o grades releases sizes deadlines table (run .clock) (run .slow) goals)
+        (grants : List ℕ) (room : n ≤ length grants) where
       abbrev dues : ℕ → ℕ
       dues = due q table run (slowAfter q run v)
 
       abbrev duesIn : ℕ → ℕ
-      duesIn = dueIn (run .slow) spans sizes carried table
+      duesIn k = goals k - carriedOf run k
+
+      due-on : (k : ℕ) → k < n → dues k ≡ duesIn k
+      due-on k l =
+          ap (λ s. due q table run s k) marked
+          ∙ ap (λ e. cond (getD e k false) 0 (goal q table t (run .slow) k - carriedOf run k)) unended
+          ∙ ap (λ g. g - carriedOf run k) (sym (right k l))
+
+      abbrev claimsIn : ℕ → ℕ
+      claimsIn k = on (servedIn t (run .slow) grades releases deadlines k) (duesIn k)
+
+      claim-on : (k : ℕ) → k < n → claimsIn k ≡ claim q table run (slowAfter q run v) k
+      claim-on k l = sym (ap₂ on (served-on k l) (due-on k l))
+
+      -- The claims of the columns, if they fit, are the grants.
+      pub claims-granted : sum claimsIn n ≤ v → filled claimsIn n grants ≡ granted q table run v grants
+      claims-granted fits =
+          filled-ext _ (claim q table run (slowAfter q run v)) n grants claim-on
+          ∙ fitting-claims q table run v grants room
+          (rw (sym (sum-ext _ (claim q table run (slowAfter q run v)) n claim-on)) fits)
 
       abbrev hiTest : ℕ → Bool
       hiTest k = live q run k && isHi q k
@@ -206,6 +203,33 @@ module _ (o : Outline) (grades releases sizes deadlines table carried : List ℕ
           (λ e. ap (λ s. cond s firstIn secondIn) e ∙ first-row ∙ sym (no-others e))
           (λ e. ap (λ s. cond s firstIn secondIn) e ∙ second-row e)
           ∙ sym (two-lines q table run v grants)
+
+-- The sum of the first numbers of a row is the sum of the allotments in as many intervals.
+pub allotted : (table : List ℕ) (i spans : ℕ) → sum (strided table (mostIntervals * i) 1) spans ≡ sum (allotment mostIntervals table i) spans
+allotted table i spans =
+    sum-ext (strided table (mostIntervals * i) 1) (allotment mostIntervals table i) spans
+    (λ k l. ap (λ x. getD table (mostIntervals * i + x) 0) (one-mul k))
+
+-- The column of sizes has the whole goals under the slow mark; otherwise the rows of the table, as far as intervals have
+-- begun, make the goals.
+pub sizes-are-goals : (o : Outline) (grades releases sizes deadlines table : List ℕ) (clock : Slots) (slow : Bool) (spans : ℕ)
+    → (slow ≡ false → spans ≡ suc (present (planOn o grades releases sizes deadlines) (clock .0)))
+    → Goals o grades releases sizes deadlines table clock slow (goalIn slow spans sizes table)
+sizes-are-goals o grades releases sizes deadlines table clock slow spans begun k l = by slow begun
+  where
+    size-is : getD sizes k 0 ≡ size (planOn o grades releases sizes deadlines) k
+    size-is = sym (size-on o grades releases sizes deadlines k l)
+
+    by : (s : Bool) → (s ≡ false → spans ≡ suc (present (planOn o grades releases sizes deadlines) (clock .0)))
+        → goalIn s spans sizes table k ≡ goal (planOn o grades releases sizes deadlines) table (clock .0) s k
+    by true b = size-is
+    by false b = ap₂ (λ s m. min s (sum (allotment mostIntervals table k) m)) size-is (b refl)
+
+-- A mark that is set whenever the speed is below the rate is the mark after the slot.
+pub absorbs : (s x : Bool) → (x ≡ true → s ≡ true) → (s || x) ≡ s
+absorbs true x h = refl
+absorbs false true h = sym (h refl)
+absorbs false false h = refl
 
 -- What a row of claims holds: a known claim is right.
 pub claims-known : (claim dues : ℕ → ℕ) (served : ℕ → Bool) (v n : ℕ) {row : List ℕ} {fit : Bool} → ((k : ℕ) → claim k ≡ on (served k) (dues k))

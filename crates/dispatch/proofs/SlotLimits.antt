@@ -22,6 +22,15 @@ module _ (p : Plan) (table : List ℕ) (run : Run) (v : ℕ) (grants : List ℕ)
   abbrev grant : ℕ → ℕ
   grant i = getD (granted p table run v grants) i 0
 
+  -- The answer of a slot's call is the refusal found.
+  pub slot-answer : stepped p table run v grants .answer ≡ slotFault p table run v grants
+  unfolding stepped
+  slot-answer = by-fault (slotFault p table run v grants)
+    where
+      by-fault : (f : Report) → slotBy f p table run v grants .answer ≡ f
+      by-fault [] = refl
+      by-fault (number ∷ rest) = refl
+
   -- The grants of a slot sum to at most its speed.
   pub never-above-speed : sum grant (counted p) ≤ v
   never-above-speed = rw (all-served p table run v grants) (omega arith)

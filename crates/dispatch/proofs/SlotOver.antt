@@ -1,26 +1,27 @@
 -- The effect of a slot's call from what the code finds: a refusal, or marks, grants and carried units.
 use mathlib.Core.Path.{_≡_, refl, sym, _∙_, ap, ap₂}
-use mathlib.Core.Bool.{Bool, true, false, cond}
-use mathlib.Core.List.{List, [], _∷_, _++_}
+use mathlib.Core.Bool.{Bool, true, false, cond, _||_}
+use mathlib.Core.List.{List, [], _∷_}
 use Prim.Native.Nat.{ℕ, _+_, _-_, _≤_, _<_, _^_, min}
 use native.Mathlib.Omega.{arith}
-use lib.Dec.{ltb}
-use lib.ListN.{length, getD, drop, replicate}
+use lib.ListN.{length, getD}
 use Rattle.base.specs.Fill.{filled}
-use Rattle.base.specs.Sum.{sum, on}
+use Rattle.base.specs.Sum.{on}
 use Rattle.base.proofs.Choice.{on-less, on-zero}
 use Rattle.base.proofs.FillLaws.{filled-ext, is-filled}
 use Rattle.base.proofs.SumLaws.{sum-ext}
 use Rattle.plan.specs.Rules.{counted, size}
 use Rattle.plan.specs.Refusal.{unsound}
 use Rattle.plan.specs.Report.{Report, isNone}
+use Rattle.plan.specs.declared.kinds.Outline.{Outline}
 use Rattle.plan.specs.declared.kinds.Plan.{Plan}
 use Rattle.plan.specs.declared.kinds.Slots.{Slots}
 use Rattle.dispatch.specs.declared.Run.{Run}
 use Rattle.dispatch.specs.Dues.{carriedOf, endedOf, slowAfter, belowAfter, goal, due}
 use Rattle.dispatch.specs.Order.{before}
 use Rattle.dispatch.specs.Step.{slotSound, slotFault, granted, added, advanced, slotBy, stepped}
-use Rattle.dispatch.specs.inner.Shares.{served, claim, share}
+use Rattle.dispatch.specs.inner.Shares.{settledOf, served, claim, share}
+use Rattle.dispatch.specs.inner.Turns.{Goals}
 use Rattle.dispatch.proofs.Readiness.{left-by}
 use Rattle.dispatch.proofs.RowShares.{filled-is-added, granted-rest, granted-length}
 use Rattle.dispatch.proofs.Shares.{granted-is-share, within-claim}
@@ -34,7 +35,7 @@ slot-refused p table run v grants {found} e some =
     sym (left-by found p table run v grants some) ∙ ap (λ f. slotBy f p table run v grants) e
 
 -- A job's claim is at most what is left of its size.
-claim-small : (p : Plan) (table : List ℕ) (run : Run) (slow : Bool) (i : ℕ) → claim p table run slow i ≤ size p i - carriedOf run i
+pub claim-small : (p : Plan) (table : List ℕ) (run : Run) (slow : Bool) (i : ℕ) → claim p table run slow i ≤ size p i - carriedOf run i
 claim-small p table run slow i = omega (arith, on-less (served p run slow i) (due p table run slow i), by (endedOf run i) slow)
   where
     by : (ended slow : Bool) → cond ended 0 (goal p table (run .clock .0) slow i - carriedOf run i) ≤ size p i - carriedOf run i
@@ -61,14 +62,14 @@ shares-granted p table run v grants room =
     is-filled (share p table run v) (counted p) grants (granted p table run v grants) (granted-length p table run v grants room)
     (λ k inside below. granted-is-share p table run v grants k below) (granted-rest p table run v grants)
 
--- A run in which nobody has ended, but who has counts as carried in whole, and with the slow mark of after the slot, gets the
--- same grants: nothing is due to a job that has ended, or that has its size.
+-- A run in which no job has ended, but each that has counts as carried in whole, and with the slow mark of after the slot, gets
+-- the same grants: nothing is due to a job that has ended, or that has its size.
 module _ (p : Plan) (table : List ℕ) (run : Run) (slow below : Bool) (settled : List ℕ) (v : ℕ) where
   abbrev settledRun : Run
   settledRun = record { clock = run .clock; slow = slow; below = below; carried = settled; ended = [] }
 
   module _ (mark : slowAfter p settledRun v ≡ slowAfter p run v)
-      (held : (k : ℕ) → k < counted p → getD settled k 0 ≡ cond (endedOf run k) (size p k) (carriedOf run k)) where
+      (held : (k : ℕ) → k < counted p → getD settled k 0 ≡ settledOf p run k) where
     settled-claim : (k : ℕ) → k < counted p → claim p table settledRun (slowAfter p settledRun v) k ≡ claim p table run (slowAfter p run v) k
     settled-claim k l = ap (λ s. claim p table settledRun s k) mark ∙ by (endedOf run k) refl (slowAfter p run v)
       where
@@ -94,19 +95,43 @@ module _ (p : Plan) (table : List ℕ) (run : Run) (slow below : Bool) (settled 
         sym (shares-granted p table settledRun v grants room) ∙ filled-ext _ _ (counted p) grants settled-share
         ∙ shares-granted p table run v grants room
 
--- A call that is not refused: the marks, the grants, and the carried units with the grants added.
-pub slot-done : (p : Plan) (table : List ℕ) (run : Run) (v : ℕ) (grants : List ℕ) {found : Report} {slow below : Bool} {clock : Slots} {carried left : List ℕ}
-    → found ≡ slotFault p table run v grants → found ≡ [] → counted p ≤ length grants
-    → clock ≡ record { 0 = run .clock .0 + 1 } → slow ≡ slowAfter p run v → below ≡ belowAfter p run v
+-- Laws for the functions that carry a slot, in a single call and in a shift.
+-- The slow mark of after the slot is that of the slot for a run that has it.
+pub again : (was x : Bool) {slow : Bool} → slow ≡ (was || x) → (slow || x) ≡ (was || x)
+again true x e = rw e refl
+again false true e = rw e refl
+again false false e = rw e refl
+
+-- The goals of the slot are those under the slow mark of after it.
+pub same-mark : (o : Outline) (grades releases sizes deadlines table : List ℕ) (t : Slots) {slow mark : Bool} (f : ℕ → ℕ) → slow ≡ mark
+    → Goals o grades releases sizes deadlines table t mark f → Goals o grades releases sizes deadlines table t slow f
+same-mark o grades releases sizes deadlines table t f e g = rw e g
+
+-- The room and the sums for an equal row.
+pub same-room : {m n : ℕ} {l g : List ℕ} → m ≡ n → l ≡ g → n ≤ length g → m ≤ length l
+same-room e q h = rw (e, q) h
+
+pub same-sums : (x k : ℕ) {l g : List ℕ} → l ≡ g → x + getD g k 0 < 2 ^ 32 → x + getD l k 0 < 2 ^ 32
+same-sums x k q h = rw q h
+
+-- The run after a slot: the marks, and the carried units with the grants added.
+pub slot-run : (p : Plan) (table : List ℕ) (run : Run) (v : ℕ) (grants : List ℕ) {slow below : Bool} {clock : Slots} {carried left : List ℕ}
+    → counted p ≤ length grants → clock ≡ record { 0 = run .clock .0 + 1 } → slow ≡ slowAfter p run v → below ≡ belowAfter p run v
     → left ≡ granted p table run v grants → carried ≡ filled (λ k. carriedOf run k + getD left k 0) (counted p) (run .carried)
-    → record { answer = found; run = record { clock = clock; slow = slow; below = below; carried = carried; ended = run .ended }; grants = left } ≡ stepped p table run v grants
-unfolding stepped advanced
-slot-done p table run v grants {found} {slow} {below} {clock} {carried} {left} e none room c s b g h =
+    → record { clock = clock; slow = slow; below = below; carried = carried; ended = run .ended } ≡ advanced p table run v grants
+unfolding advanced
+slot-run p table run v grants {slow} {below} {clock} {carried} {left} room c s b g h =
     let sums : carried ≡ added (counted p) (run .carried) (granted p table run v grants) =
     h ∙ ap (λ l. filled (λ k. carriedOf run k + getD l k 0) (counted p) (run .carried)) g
     ∙ filled-is-added _ (counted p) (run .carried) (granted p table run v grants) (rw (granted-length p table run v grants room) room) (λ k l. refl) in
-    rw (sym e ∙ none)
-    (λ t. record { answer = none t; run = record { clock = c t; slow = s t; below = b t; carried = sums t; ended = run .ended }; grants = g t })
+    λ t. record { clock = c t; slow = s t; below = b t; carried = sums t; ended = run .ended }
+
+-- A call that is not refused: the run after it, and its grants.
+pub slot-done : (p : Plan) (table : List ℕ) (run : Run) (v : ℕ) (grants : List ℕ) {found : Report} {next : Run} {left : List ℕ}
+    → found ≡ slotFault p table run v grants → found ≡ [] → next ≡ advanced p table run v grants → left ≡ granted p table run v grants
+    → record { answer = found; run = next; grants = left } ≡ stepped p table run v grants
+unfolding stepped
+slot-done p table run v grants e none r g = rw (sym e ∙ none) (λ t. record { answer = none t; run = r t; grants = g t })
 
 -- A plan and a run that are not sound are refused with 21.
 pub unsound-refused : (p : Plan) (table : List ℕ) (run : Run) (v : ℕ) (grants : List ℕ) → slotSound p run ≡ false

@@ -18,6 +18,15 @@ module _ (p : Plan) (run : Run) (i : ℕ) where
   abbrev left : Run
   left = toldEnded p run i .run
 
+  -- Its answer is the refusal found.
+  pub word-answer : toldEnded p run i .answer ≡ endFault p run i
+  unfolding toldEnded
+  word-answer = by (endFault p run i)
+    where
+      by : (r : Report) → endBy r run i .answer ≡ r
+      by [] = refl
+      by (number ∷ rest) = refl
+
   -- It changes neither clock nor marks of the link nor what is carried.
   pub word-leaves : (left .clock ≡ run .clock) × (left .slow ≡ run .slow) × (left .below ≡ run .below) × (left .carried ≡ run .carried)
   unfolding toldEnded

@@ -12,6 +12,7 @@ use Rattle.judge.specs.Verdict.{judged}
 use Rattle.plan.specs.Report.{Report}
 use Rattle.judge.specs.Answers as verdict
 use Rattle.dispatch.specs.Step.{Ending, met, endedEarly, discarded, missed, stillOpen, refused, started, noRun, startFrom, stepped, outcome, toldEnded}
+use Rattle.dispatch.specs.Shift.{shifted}
 use Rattle.dispatch.specs.declared.Run.{Run}
 use Rattle.dispatch.specs.declared.answers.Answer.{Answer}
 use Rattle.dispatch.specs.declared.answers.Answer.the-variants as answer
@@ -56,6 +57,19 @@ StepsOver o grades releases sizes deadlines table at v ended carried grants r ca
 -- at exit are the effect of the slot's call.
 abbrev pub Steps : (p : Plan) (table : Table) (run : Run) (v : Speed) (grants : Row) (r : Stepped) (left : List ℕ) → Type 0
 Steps p table run v grants r left = record { answer = answerView (r .answer); run = r .run; grants = left } ≡ stepped p table run v grants
+
+-- The contract of `shift_over`: for every plan whose outline and columns it is lent, its answer, the run, the rows of
+-- grants and the numbers at exit are the effect of the shift.
+abbrev pub ShiftsOver : (o : Outline) (grades releases sizes deadlines : List ℕ) (table : Table) (at : Moment) (speeds : List ℕ) (ended : List Bool) (carried rows : Row) (numbers : List ℕ) (r : Slot) (carried-left rows-left numbers-left : List ℕ) → Type 0
+ShiftsOver o grades releases sizes deadlines table at speeds ended carried rows numbers r carried-left rows-left numbers-left =
+    (p : Plan) → Columns p o grades releases sizes deadlines
+    → record { answer = answerView (r .answer); run = runAt (r .next) carried-left ended; rows = rows-left; numbers = numbers-left }
+    ≡ shifted p table (runAt at carried ended) speeds rows numbers
+
+-- The contract of `shift`: its answer, the run, the rows of grants and the numbers at exit are the effect of the shift.
+abbrev pub Shifts : (p : Plan) (table : Table) (run : Run) (speeds : List ℕ) (rows : Row) (numbers : List ℕ) (r : Stepped) (rows-left numbers-left : List ℕ) → Type 0
+Shifts p table run speeds rows numbers r rows-left numbers-left =
+    record { answer = answerView (r .answer); run = r .run; rows = rows-left; numbers = numbers-left } ≡ shifted p table run speeds rows numbers
 
 -- The contract of `outcome`: the view of its answer is the outcome of the job at the position.
 abbrev pub Ends : (p : Plan) (run : Run) (position : Position) (r : Outcome) → Type 0

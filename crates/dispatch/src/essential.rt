@@ -38,24 +38,25 @@ fn grant_hi(
     jobs: usize,
     v: Units,
     clock: Slots,
+    whole: bool,
     spans: u32,
     grades: &[u32; Edition::MOST_JOBS],
     releases: &[u32; Edition::MOST_JOBS],
-    sizes: &[u32; Edition::MOST_JOBS],
+    goals: &[u32; Edition::MOST_JOBS],
     deadlines: &[u32; Edition::MOST_JOBS],
     carried: &[u32; Edition::MOST_JOBS],
     table: &[u32],
     grants: &mut [u32],
 ) -> Units
-    requires { ⌜ (jobs ≤ mostJobs) × (jobs ≤ length (now grants)) × ((k : ℕ) → k < jobs → classIn true (clock .0) (now grades) (now releases) (now deadlines) k ≡ true → KnownDue (now claims) (dueIn false spans (now sizes) (now carried) (now table)) k) ⌝ }
-    ensures { λ r. ⌜ Granted (λ k. on (classIn true (clock .0) (now (grades .entry)) (now (releases .entry)) (now (deadlines .entry)) k) (dueIn false spans (now (sizes .entry)) (now (carried .entry)) (now (table .entry)) k)) (v .0) jobs (now (grants .entry)) (now (grants .exit)) (r .0) × ((k : ℕ) → KnownDue (now (claims .entry)) (dueIn false spans (now (sizes .entry)) (now (carried .entry)) (now (table .entry))) k → KnownDue (now (claims .exit)) (dueIn false spans (now (sizes .entry)) (now (carried .entry)) (now (table .entry))) k) ⌝ }
+    requires { ⌜ (jobs ≤ mostJobs) × (jobs ≤ length (now grants)) × ((k : ℕ) → k < jobs → classIn true (clock .0) (now grades) (now releases) (now deadlines) k ≡ true → KnownDue (now claims) (dueIn whole spans (now goals) (now carried) (now table)) k) ⌝ }
+    ensures { λ r. ⌜ Granted (λ k. on (classIn true (clock .0) (now (grades .entry)) (now (releases .entry)) (now (deadlines .entry)) k) (dueIn whole spans (now (goals .entry)) (now (carried .entry)) (now (table .entry)) k)) (v .0) jobs (now (grants .entry)) (now (grants .exit)) (r .0) × ((k : ℕ) → KnownDue (now (claims .entry)) (dueIn whole spans (now (goals .entry)) (now (carried .entry)) (now (table .entry))) k → KnownDue (now (claims .exit)) (dueIn whole spans (now (goals .entry)) (now (carried .entry)) (now (table .entry))) k) ⌝ }
 {
     let mut total = Units(0);
     let mut i = 0;
     while (i < jobs) & (total.0 <= v.0) {
         let mut due = Units(0);
         if is_of(true, clock, grades, releases, deadlines, i) {
-            due = claim_at(claims, false, spans, sizes, carried, table, i);
+            due = claim_at(claims, whole, spans, goals, carried, table, i);
             claims[i] = due.0 as u32;
         }
         grants[i] = due.0 as u32;
@@ -74,10 +75,11 @@ pub(crate) fn serve_hi(
     v: Units,
     clock: Slots,
     slow: bool,
+    whole: bool,
     spans: u32,
     grades: &[u32; Edition::MOST_JOBS],
     releases: &[u32; Edition::MOST_JOBS],
-    sizes: &[u32; Edition::MOST_JOBS],
+    goals: &[u32; Edition::MOST_JOBS],
     deadlines: &[u32; Edition::MOST_JOBS],
     carried: &[u32; Edition::MOST_JOBS],
     table: &[u32],
@@ -85,8 +87,8 @@ pub(crate) fn serve_hi(
     ranks: &mut [u32; Edition::MOST_JOBS],
     grants: &mut [u32],
 ) -> Units
-    requires { ⌜ (jobs ≤ mostJobs) × (jobs ≤ length (now ranks)) × (jobs ≤ length (now grants)) × ((k : ℕ) → k < jobs → getD (now deadlines) k 0 ≤ mostDeadline) × ((k : ℕ) → k < jobs → classIn true (clock .0) (now grades) (now releases) (now deadlines) k ≡ true → KnownDue (now claims) (dueIn slow spans (now sizes) (now carried) (now table)) k) ⌝ }
-    ensures { λ r. ⌜ (now (grants .exit) ≡ serve (dueIn slow spans (now (sizes .entry)) (now (carried .entry)) (now (table .entry))) (v .0) (queue (classIn true (clock .0) (now (grades .entry)) (now (releases .entry)) (now (deadlines .entry))) (rankIn (now (grades .entry)) (now (deadlines .entry))) jobs) (filled (λ k. 0) jobs (now (grants .entry)))) × (r .0 ≡ v .0 - sum (λ k. on (classIn true (clock .0) (now (grades .entry)) (now (releases .entry)) (now (deadlines .entry)) k) (dueIn slow spans (now (sizes .entry)) (now (carried .entry)) (now (table .entry)) k)) jobs) × (length (now (ranks .exit)) ≡ length (now (ranks .entry))) × ((k : ℕ) → KnownDue (now (claims .entry)) (dueIn slow spans (now (sizes .entry)) (now (carried .entry)) (now (table .entry))) k → KnownDue (now (claims .exit)) (dueIn slow spans (now (sizes .entry)) (now (carried .entry)) (now (table .entry))) k) ⌝ }
+    requires { ⌜ (jobs ≤ mostJobs) × (jobs ≤ length (now ranks)) × (jobs ≤ length (now grants)) × ((k : ℕ) → k < jobs → getD (now deadlines) k 0 ≤ mostDeadline) × ((k : ℕ) → k < jobs → classIn true (clock .0) (now grades) (now releases) (now deadlines) k ≡ true → KnownDue (now claims) (dueIn whole spans (now goals) (now carried) (now table)) k) ⌝ }
+    ensures { λ r. ⌜ (now (grants .exit) ≡ serve (dueIn whole spans (now (goals .entry)) (now (carried .entry)) (now (table .entry))) (v .0) (queue (classIn true (clock .0) (now (grades .entry)) (now (releases .entry)) (now (deadlines .entry))) (rankIn (now (grades .entry)) (now (deadlines .entry))) jobs) (filled (λ k. 0) jobs (now (grants .entry)))) × (r .0 ≡ v .0 - sum (λ k. on (classIn true (clock .0) (now (grades .entry)) (now (releases .entry)) (now (deadlines .entry)) k) (dueIn whole spans (now (goals .entry)) (now (carried .entry)) (now (table .entry)) k)) jobs) × (length (now (ranks .exit)) ≡ length (now (ranks .entry))) × ((k : ℕ) → KnownDue (now (claims .entry)) (dueIn whole spans (now (goals .entry)) (now (carried .entry)) (now (table .entry))) k → KnownDue (now (claims .exit)) (dueIn whole spans (now (goals .entry)) (now (carried .entry)) (now (table .entry))) k) ⌝ }
 {
     if !slow & (claims[jobs / 2] != UNKNOWN) {
         let total = grant_hi(
@@ -94,10 +96,11 @@ pub(crate) fn serve_hi(
             jobs,
             v,
             clock,
+            whole,
             spans,
             grades,
             releases,
-            sizes,
+            goals,
             deadlines,
             carried,
             table,
@@ -113,9 +116,9 @@ pub(crate) fn serve_hi(
         ranks,
         count,
         v,
-        slow,
+        whole,
         spans,
-        sizes,
+        goals,
         carried,
         table,
         claims,

@@ -1,11 +1,12 @@
-// One slot, one run: the run record, its start, the grants of a slot, the word that a
-// job has ended, and the outcome of each job.
+// One slot, one run: the run record, its start, the grants of a slot, slots at several speeds, the word
+// that a job has ended, and the outcome of each job.
 pub mod answers;
 mod claims;
 pub mod early;
 mod essential;
 pub mod outcome;
 pub mod ranks;
+pub mod shift;
 mod slot;
 pub mod soundness;
 pub mod start;

@@ -1,5 +1,6 @@
 // One slot of a sound run: the grants. If all claims fit into the speed, each is granted; otherwise the
 // jobs get their turns.
+use crate::Moment;
 use crate::claims::UNKNOWN;
 use crate::claims::all_fit;
 use crate::essential::serve_hi;
@@ -14,7 +15,7 @@ use plan::kinds::Units;
 use plan::rules::counted_within;
 ghost use mathlib.Core.Path.{_≡_};
 ghost use mathlib.Core.Bool.{true, false, cond, _||_};
-ghost use mathlib.Core.List.{[]};
+ghost use mathlib.Core.List.{List, []};
 ghost use Prim.Native.Nat.{ℕ, suc, _+_, _≤_, _<_, _^_, min};
 ghost use lib.Dec.{ltb};
 ghost use lib.ListN.{length, getD};
@@ -24,11 +25,12 @@ ghost use Rattle.plan.specs.Boundaries.{present};
 ghost use Rattle.plan.specs.Rules.{counted, release, deadline};
 ghost use Rattle.plan.specs.declared.kinds.Plan.{Plan};
 ghost use Rattle.dispatch.specs.inner.Columns.{planOn};
-ghost use Rattle.dispatch.specs.inner.Turns.{settledIn, servedIn, dueIn, KnownDue, inTurns};
-ghost use Rattle.dispatch.specs.Step.{granted};
+ghost use Rattle.dispatch.specs.inner.Turns.{settledIn, servedIn, goalIn, dueIn, KnownDue, inTurns, Goals};
+ghost use Rattle.dispatch.specs.Answers.{runAt};
+ghost use Rattle.dispatch.specs.Step.{slotSound, granted, advanced};
 
 // Writes the claims to the grant row.
-fn grant_claims(claims: &[u32; Edition::MOST_JOBS], jobs: usize, grants: &mut [u32])
+pub(crate) fn grant_claims(claims: &[u32; Edition::MOST_JOBS], jobs: usize, grants: &mut [u32])
     requires { ⌜ (jobs ≤ mostJobs) × (jobs ≤ length (now grants)) ⌝ }
     ensures { λ r. ⌜ now (grants .exit) ≡ filled (λ k. getD (now (claims .entry)) k 0) jobs (now (grants .entry)) ⌝ }
 {
@@ -83,23 +85,24 @@ pub(crate) fn mark_after(was: bool, v: Rate, rate: Rate) -> bool
 
 // The HI jobs are served, and then the others in turns with what is left, unless the slow mark is set.
 // Claims that are known are not worked out again.
-fn serve_in_turns(
+pub(crate) fn serve_in_turns(
     jobs: usize,
     v: Units,
     clock: Slots,
     slow: bool,
+    whole: bool,
     spans: u32,
     grades: &[u32; Edition::MOST_JOBS],
     releases: &[u32; Edition::MOST_JOBS],
-    sizes: &[u32; Edition::MOST_JOBS],
+    goals: &[u32; Edition::MOST_JOBS],
     deadlines: &[u32; Edition::MOST_JOBS],
     carried: &[u32; Edition::MOST_JOBS],
     table: &[u32],
     claims: &mut [u32; Edition::MOST_JOBS],
     grants: &mut [u32],
 )
-    requires { ⌜ (jobs ≤ mostJobs) × (jobs ≤ length (now grants)) × ((k : ℕ) → k < jobs → getD (now deadlines) k 0 ≤ mostDeadline) × ((k : ℕ) → k < jobs → servedIn (clock .0) slow (now grades) (now releases) (now deadlines) k ≡ true → KnownDue (now claims) (dueIn slow spans (now sizes) (now carried) (now table)) k) ⌝ }
-    ensures { λ r. ⌜ now (grants .exit) ≡ inTurns (clock .0) slow (now (grades .entry)) (now (releases .entry)) (now (deadlines .entry)) (dueIn slow spans (now (sizes .entry)) (now (carried .entry)) (now (table .entry))) (v .0) jobs (filled (λ k. 0) jobs (now (grants .entry))) ⌝ }
+    requires { ⌜ (jobs ≤ mostJobs) × (jobs ≤ length (now grants)) × ((k : ℕ) → k < jobs → getD (now deadlines) k 0 ≤ mostDeadline) × ((k : ℕ) → k < jobs → servedIn (clock .0) slow (now grades) (now releases) (now deadlines) k ≡ true → KnownDue (now claims) (dueIn whole spans (now goals) (now carried) (now table)) k) ⌝ }
+    ensures { λ r. ⌜ now (grants .exit) ≡ inTurns (clock .0) slow (now (grades .entry)) (now (releases .entry)) (now (deadlines .entry)) (dueIn whole spans (now (goals .entry)) (now (carried .entry)) (now (table .entry))) (v .0) jobs (filled (λ k. 0) jobs (now (grants .entry))) ⌝ }
 {
     let mut ranks = [0u32; Edition::MOST_JOBS];
     let rest = serve_hi(
@@ -107,10 +110,11 @@ fn serve_in_turns(
         v,
         clock,
         slow,
+        whole,
         spans,
         grades,
         releases,
-        sizes,
+        goals,
         deadlines,
         carried,
         table,
@@ -126,9 +130,9 @@ fn serve_in_turns(
         &mut ranks,
         others,
         rest,
-        slow,
+        whole,
         spans,
-        sizes,
+        goals,
         carried,
         table,
         claims,
@@ -136,15 +140,15 @@ fn serve_in_turns(
     );
 }
 
-// The number of intervals begun. Under the slow mark nobody uses it.
-fn spans_of(
+// The number of intervals begun; 0 under the slow mark, where it is not used.
+pub(crate) fn spans_of(
     slow: bool,
     count: usize,
     releases: &[u32; Edition::MOST_JOBS],
     deadlines: &[u32; Edition::MOST_JOBS],
     clock: Slots,
 ) -> u32
-    ensures { λ r. ⌜ ((p : Plan) → slow ≡ false → p .count ≡ count → ((i : ℕ) → i < counted p → getD (now (releases .entry)) i 0 ≡ release p i) → ((i : ℕ) → i < counted p → getD (now (deadlines .entry)) i 0 ≡ deadline p i) → r ≡ suc (present p (clock .0))) ⌝ }
+    ensures { λ r. ⌜ (slow ≡ true → r ≡ 0) × ((p : Plan) → slow ≡ false → p .count ≡ count → ((i : ℕ) → i < counted p → getD (now (releases .entry)) i 0 ≡ release p i) → ((i : ℕ) → i < counted p → getD (now (deadlines .entry)) i 0 ≡ deadline p i) → r ≡ suc (present p (clock .0))) ⌝ }
 {
     if slow {
         return 0;
@@ -152,27 +156,29 @@ fn spans_of(
     begun_by(count, releases, deadlines, clock) as u32
 }
 
-// Writes the grants of a slot at speed v that is not refused. `slow` is the slow mark after the slot, and
-// `carried` what the jobs count as carried in it.
-pub(crate) fn share_out(
+// Writes the grants of a slot at speed v that is not refused. `slow` is the slow mark after the slot, `carried` what
+// the jobs count as carried in it, and `goals` a column from which, with the rows of the table unless it has the whole
+// goals, come the goals of the plan's jobs.
+fn share_out(
     o: Outline,
     v: Rate,
     clock: Slots,
     slow: bool,
+    whole: bool,
+    spans: u32,
     grades: &[u32; Edition::MOST_JOBS],
     releases: &[u32; Edition::MOST_JOBS],
-    sizes: &[u32; Edition::MOST_JOBS],
+    goals: &[u32; Edition::MOST_JOBS],
     deadlines: &[u32; Edition::MOST_JOBS],
     carried: &[u32; Edition::MOST_JOBS],
     table: &[u32],
     grants: &mut [u32],
 )
     requires { ⌜ (min (o .count) mostJobs ≤ length (now grants)) × ((k : ℕ) → k < min (o .count) mostJobs → getD (now deadlines) k 0 ≤ mostDeadline) × (v .0 ≤ mostRate) × (ltb (v .0) (o .n .0) ≡ true → slow ≡ true) ⌝ }
-    ensures { λ r. ⌜ now (grants .exit) ≡ granted (planOn o (now (grades .entry)) (now (releases .entry)) (now (sizes .entry)) (now (deadlines .entry))) (now (table .entry)) (record { clock = clock; slow = slow; below = false; carried = now (carried .entry); ended = [] }) (v .0) (now (grants .entry)) ⌝ }
+    ensures { λ r. ⌜ ((sizes rows : List ℕ) → Goals o (now (grades .entry)) (now (releases .entry)) sizes (now (deadlines .entry)) rows clock slow (goalIn whole spans (now (goals .entry)) (now (table .entry))) → now (grants .exit) ≡ granted (planOn o (now (grades .entry)) (now (releases .entry)) sizes (now (deadlines .entry))) rows (record { clock = clock; slow = slow; below = false; carried = now (carried .entry); ended = [] }) (v .0) (now (grants .entry))) ⌝ }
 {
     let jobs = counted_within(o.count);
     let most = v.over(Slots(1));
-    let spans = spans_of(slow, o.count, releases, deadlines, clock);
     let mut claims = [UNKNOWN; Edition::MOST_JOBS];
     if all_fit(
         &mut claims,
@@ -180,10 +186,11 @@ pub(crate) fn share_out(
         most,
         clock,
         slow,
+        whole,
         spans,
         grades,
         releases,
-        sizes,
+        goals,
         deadlines,
         carried,
         table,
@@ -196,14 +203,62 @@ pub(crate) fn share_out(
         most,
         clock,
         slow,
+        whole,
         spans,
         grades,
         releases,
-        sizes,
+        goals,
         deadlines,
         carried,
         table,
         &mut claims,
         grants,
     );
+}
+
+// Carries a slot at speed v, not above n, of a sound run: writes the grants, adds them to the carried units, and
+// answers the rest of the run. `whole`, `spans` and `goals` give the goals of the jobs in it.
+pub(crate) fn carry_slot(
+    o: Outline,
+    v: Rate,
+    at: Moment,
+    whole: bool,
+    spans: u32,
+    goals: &[u32; Edition::MOST_JOBS],
+    grades: &[u32; Edition::MOST_JOBS],
+    releases: &[u32; Edition::MOST_JOBS],
+    sizes: &[u32; Edition::MOST_JOBS],
+    deadlines: &[u32; Edition::MOST_JOBS],
+    table: &[u32],
+    ended: &[bool; Edition::MOST_JOBS],
+    carried: &mut [u32; Edition::MOST_JOBS],
+    grants: &mut [u32],
+) -> Moment
+    requires { ⌜ (slotSound (planOn o (now grades) (now releases) (now sizes) (now deadlines)) (runAt at (now carried) (now ended)) ≡ true) × (min (o .count) mostJobs ≤ length (now grants)) × (v .0 ≤ o .n .0) × Goals o (now grades) (now releases) (now sizes) (now deadlines) (now table) (at .clock) (at .slow || ltb (v .0) (o .n .0)) (goalIn whole spans (now goals) (now table)) ⌝ }
+    ensures { λ r. ⌜ (runAt r (now (carried .exit)) (now (ended .entry)) ≡ advanced (planOn o (now (grades .entry)) (now (releases .entry)) (now (sizes .entry)) (now (deadlines .entry))) (now (table .entry)) (runAt at (now (carried .entry)) (now (ended .entry))) (v .0) (now (grants .entry))) × (now (grants .exit) ≡ granted (planOn o (now (grades .entry)) (now (releases .entry)) (now (sizes .entry)) (now (deadlines .entry))) (now (table .entry)) (runAt at (now (carried .entry)) (now (ended .entry))) (v .0) (now (grants .entry))) ⌝ }
+{
+    let clock = at.clock;
+    let jobs = counted_within(o.count);
+    let slow = mark_after(at.slow, v, o.n);
+    let below = mark_after(at.below, v, o.d);
+    let mut settled = [0u32; Edition::MOST_JOBS];
+    settle(ended, sizes, carried, &mut settled);
+    share_out(
+        o,
+        v,
+        clock,
+        slow,
+        whole,
+        spans,
+        grades,
+        releases,
+        goals,
+        deadlines,
+        &settled,
+        table,
+        grants,
+    );
+    carry_grants(carried, jobs, grants);
+    let clock = Slots(clock.0 + 1);
+    Moment { clock, slow, below }
 }

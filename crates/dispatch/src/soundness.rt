@@ -57,7 +57,7 @@ fn first_of(releases: &[u32; Edition::MOST_JOBS], jobs: usize) -> Slots
 }
 
 // The greatest of the first deadlines; 0 without jobs.
-fn last_of(deadlines: &[u32; Edition::MOST_JOBS], jobs: usize) -> Slots
+pub(crate) fn last_of(deadlines: &[u32; Edition::MOST_JOBS], jobs: usize) -> Slots
     requires { ⌜ jobs ≤ mostJobs ⌝ }
     ensures { λ r. ⌜ r .0 ≡ greatest (λ i. getD (now (deadlines .entry)) i 0) jobs ⌝ }
 {

@@ -2,10 +2,9 @@
 use crate::Moment;
 use crate::Run;
 use crate::answers::Answer;
-use crate::slot::carry_grants;
+use crate::slot::carry_slot;
 use crate::slot::mark_after;
-use crate::slot::settle;
-use crate::slot::share_out;
+use crate::slot::spans_of;
 use crate::soundness::Readiness;
 use crate::soundness::is_over;
 use crate::soundness::is_sound;
@@ -15,7 +14,6 @@ use plan::edition::Edition;
 use plan::kinds::Outline;
 use plan::kinds::Plan;
 use plan::kinds::Rate;
-use plan::kinds::Slots;
 use plan::refusal::BUFFER_TOO_SHORT;
 use plan::refusal::CLOCK_AT_END;
 use plan::refusal::SPEED_ABOVE_NORMAL;
@@ -27,14 +25,14 @@ ghost use Rattle.plan.specs.Report.{isNone};
 ghost use Rattle.dispatch.specs.inner.Readiness.{faultBy};
 ghost use Rattle.dispatch.specs.Answers.{answerView, runAt, Steps, StepsOver};
 
-// The result of a slot's call over columns: the answer, and the run but for its carried units, which are
+// The result of a slot's call or of a shift over columns: the answer, and the run but for its carried units, which are
 // lent. With a refusal the run is unchanged.
 pub struct Slot {
     pub answer: Answer,
     pub next: Moment,
 }
 
-// The result of a slot's call by value; with a refusal the run is unchanged.
+// The result of a slot's call or of a shift by value; with a refusal the run is unchanged.
 pub struct Stepped {
     pub answer: Answer,
     pub run: Run,
@@ -95,30 +93,32 @@ pub fn slot_over(
         return Slot { answer, next: at };
     }
     let slow = mark_after(at.slow, speed, o.n);
-    let below = mark_after(at.below, speed, o.d);
-    let mut settled = [0u32; Edition::MOST_JOBS];
-    settle(ended, sizes, carried, &mut settled);
-    share_out(
+    let spans = spans_of(slow, o.count, releases, deadlines, clock);
+    let next = carry_slot(
         o,
         speed,
-        clock,
+        at,
         slow,
+        spans,
+        sizes,
         grades,
         releases,
         sizes,
         deadlines,
-        &settled,
         table,
+        ended,
+        carried,
         grants,
     );
-    carry_grants(carried, jobs, grants);
-    let clock = Slots(clock.0 + 1);
-    let next = Moment { clock, slow, below };
     Slot { answer, next }
 }
 
 // A run, from its parts.
-fn run_at(at: Moment, carried: [u32; Edition::MOST_JOBS], ended: [bool; Edition::MOST_JOBS]) -> Run
+pub(crate) fn run_at(
+    at: Moment,
+    carried: [u32; Edition::MOST_JOBS],
+    ended: [bool; Edition::MOST_JOBS],
+) -> Run
     ensures { λ r. ⌜ r ≡ runAt at carried ended ⌝ }
 {
     let clock = at.clock;

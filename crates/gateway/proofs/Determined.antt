@@ -5,8 +5,8 @@ use mathlib.Core.List.{List}
 use Prim.Native.Nat.{ℕ}
 use lib.IntN.{ℤ}
 use Rattle.planfile.specs.Reader.{nameFound}
-use Rattle.gateway.specs.Calls.{HostJudgeEffect, HostSlackEffect, HostStartEffect, HostStepEffect, HostReadEffect, HostWriteEffect, HostImportEffect, HostExportEffect, HostEndEffect, judgeCall, startCall, stepCall, outcomeCall, slackCall, readCall, writeCall, importCall, exportCall, endCall}
-use Rattle.gateway.specs.Answers.{HostReads, HostWrites, HostShows, HostJudges, HostMeasures, HostStarts, HostSteps, HostEnds, HostImports, HostExports, HostTells}
+use Rattle.gateway.specs.Calls.{HostJudgeEffect, HostSlackEffect, HostStartEffect, HostStepEffect, HostShiftEffect, HostReadEffect, HostWriteEffect, HostImportEffect, HostExportEffect, HostEndEffect, judgeCall, startCall, stepCall, shiftCall, outcomeCall, slackCall, readCall, writeCall, importCall, exportCall, endCall}
+use Rattle.gateway.specs.Answers.{HostReads, HostWrites, HostShows, HostJudges, HostMeasures, HostStarts, HostSteps, HostShifts, HostEnds, HostImports, HostExports, HostTells}
 
 -- `gateway_read`.
 pub one-read : (file plan table : List ℕ) (was r s : ℕ) (words others cells other-cells : List ℕ) (offset other : ℕ) → HostReads file plan table was r words cells offset
@@ -82,6 +82,23 @@ one-step plan table run v grants r s words others left other d e =
 pub some-step : (plan table run : List ℕ) (v : ℕ) (grants : List ℕ)
     → (r : ℕ) × (words : List ℕ) × (left : List ℕ) × HostSteps plan table run v grants r words left
 some-step plan table run v grants = let c = stepCall plan table run v grants in (c .number, c .run, c .grants, refl)
+
+-- `gateway_shift`.
+pub one-shift : (plan table run speeds rows numbers : List ℕ) (r s : ℕ) (words others filled other told untold : List ℕ)
+    → HostShifts plan table run speeds rows numbers r words filled told → HostShifts plan table run speeds rows numbers s others other untold
+    → (r ≡ s) × (words ≡ others) × (filled ≡ other) × (told ≡ untold)
+one-shift plan table run speeds rows numbers r s words others filled other told untold d e =
+    let same = d ∙ sym e in (
+      ap (λ (x : HostShiftEffect). x .number) same,
+      ap (λ (x : HostShiftEffect). x .run) same,
+      ap (λ (x : HostShiftEffect). x .rows) same,
+      ap (λ (x : HostShiftEffect). x .numbers) same,
+    )
+
+pub some-shift : (plan table run speeds rows numbers : List ℕ)
+    → (r : ℕ) × (words filled told : List ℕ) × HostShifts plan table run speeds rows numbers r words filled told
+some-shift plan table run speeds rows numbers =
+    let c = shiftCall plan table run speeds rows numbers in (c .number, c .run, c .rows, c .numbers, refl)
 
 -- `gateway_outcome`.
 pub one-outcome : (plan run : List ℕ) (position r s : ℕ) → HostEnds plan run position r → HostEnds plan run position s → r ≡ s

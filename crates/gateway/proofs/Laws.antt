@@ -11,15 +11,17 @@ use Rattle.plan.specs.declared.kinds.Outline.{Outline}
 use Rattle.plan.specs.Rules.{counted}
 use Rattle.plan.specs.declared.kinds.Plan.{Plan}
 use Rattle.plan.specs.Report.{Report, isNone, numberOf}
-use Rattle.dispatch.specs.Step.{SlotEffect, started, slotFault, granted, advanced, slotBy, stepped, outcome, toldEnded}
+use Rattle.dispatch.specs.Step.{started, slotFault, granted, advanced, slotBy, stepped, outcome, toldEnded}
+use Rattle.dispatch.specs.Shift.{shifted}
 use Rattle.dispatch.specs.Answers.{runAt}
 use Rattle.dispatch.specs.declared.Moment.{Moment}
 use Rattle.dispatch.specs.declared.Run.{Run}
 use Rattle.dispatch.proofs.RowShares.{added-length}
+use Rattle.dispatch.proofs.ShiftLimits.{shift-keeps}
 use Rattle.base.proofs.Logic.{neither}
 use Rattle.hostmemory.specs.Memory.{shortPlan, shortRun, planOf, marksHold, runOf, slotPut, runPut}
 use Rattle.hostmemory.proofs.RoundTrip.{slot-put, carried-all}
-use Rattle.gateway.specs.Calls.{startWords, stepCall, endingNumber, outcomeCall, endCall}
+use Rattle.gateway.specs.Calls.{startWords, stepCall, shiftCall, endingNumber, outcomeCall, endCall}
 
 -- Neither of two buffers is too short.
 pub both-long : (a b : List ℕ) (m n : ℕ) → (ltb (length a) m || ltb (length b) n) ≡ false → (m ≤ length a) × (n ≤ length b)
@@ -58,6 +60,15 @@ pub step-words : (plan table run : List ℕ) (v : ℕ) (grants : List ℕ) {answ
 unfolding stepCall
 step-words plan table run v grants long marks slot n l = rw (long, marks, ← slot, n, l) refl
 
+-- The same for the shift's call.
+pub shift-words : (plan table run speeds rows numbers : List ℕ) {answer : Report} {next : Run} {filled told : List ℕ} {number : ℕ} {left : List ℕ}
+    → (shortPlan plan || shortRun run) ≡ false → marksHold run ≡ true
+    → record { answer = answer; run = next; rows = filled; numbers = told } ≡ shifted (planOf plan) table (runOf run) speeds rows numbers
+    → number ≡ numberOf answer → left ≡ runPut run next
+    → record { number = number; run = left; rows = filled; numbers = told } ≡ shiftCall plan table run speeds rows numbers
+unfolding shiftCall
+shift-words plan table run speeds rows numbers long marks shift n l = rw (long, marks, ← shift, n, l) refl
+
 -- The same for the outcome's call.
 pub outcome-words : (plan run : List ℕ) (position : ℕ) {number : ℕ} → (shortPlan plan || shortRun run) ≡ false → marksHold run ≡ true
     → number ≡ endingNumber (outcome (planOf plan) (runOf run) position) → number ≡ outcomeCall plan run position
@@ -82,9 +93,13 @@ stepped-long p table run v grants = by (slotFault p table run v grants)
     by [] = added-length (counted p) (run .carried) (granted p table run v grants)
     by (number ∷ rest) = refl
 
--- Putting back what a slot changes puts back its run.
-pub slot-put-back : (p : Plan) (table run : List ℕ) (v : ℕ) (grants : List ℕ) {answer : Report} {at : Moment} {carried row : List ℕ} {left : List ℕ} → marksHold run ≡ true
-    → record { answer = answer; run = runAt at carried (runOf run .ended); grants = row } ≡ stepped p table (runOf run) v grants
+-- So does a shift.
+pub shifted-long : (p : Plan) (table : List ℕ) (run : Run) (speeds rows numbers : List ℕ)
+    → length (shifted p table run speeds rows numbers .run .carried) ≡ length (run .carried)
+shifted-long p table run speeds rows numbers =
+    shift-keeps p table (λ r. length (r .carried) ≡ length (run .carried)) (λ r v grants e. stepped-long p table r v grants ∙ e) run speeds rows numbers refl
+
+-- Putting back what a slot or a shift changes of a run puts back the run.
+pub put-back : (run : List ℕ) (at : Moment) (carried : List ℕ) {left : List ℕ} → marksHold run ≡ true → length carried ≡ length (runOf run .carried)
     → left ≡ slotPut run at carried → left ≡ runPut run (runAt at carried (runOf run .ended))
-slot-put-back p table run v grants {at = at} {carried = carried} marks slot put =
-    put ∙ slot-put run at carried marks (ap (λ (s : SlotEffect). length (s .run .carried)) slot ∙ stepped-long p table (runOf run) v grants ∙ carried-all run)
+put-back run at carried marks long put = put ∙ slot-put run at carried marks (long ∙ carried-all run)

@@ -1,3 +1,3 @@
 pub mod Laws
 pub mod Determined
-pub mod RefusedStep
+pub mod RefusedCalls

@@ -1,11 +1,12 @@
 -- The contract of each call for hosts: its number, and every lent
 -- buffer at exit, are those of its definition.
 use mathlib.Core.Path.{_≡_}
+use mathlib.Core.List.{List}
 use Prim.Native.Nat.{ℕ}
 use lib.IntN.{ℤ}
 use Rattle.plan.specs.Kinds.{Bytes, Offset, Position, Row, Speed, Table, Words}
 use Rattle.planfile.specs.Reader.{nameFound}
-use Rattle.gateway.specs.Calls.{judgeCall, startCall, stepCall, outcomeCall, slackCall, readCall, writeCall, importCall, exportCall, endCall}
+use Rattle.gateway.specs.Calls.{judgeCall, startCall, stepCall, shiftCall, outcomeCall, slackCall, readCall, writeCall, importCall, exportCall, endCall}
 
 -- The contract of `gateway_read`: the number, the lent plan, the table and the offset.
 abbrev pub HostReads : (file : Bytes) (plan : Words) (table : Table) (offset : Offset) (r : ℕ) (plan-left : Words) (table-left : Table) (offset-left : Offset) → Type 0
@@ -40,6 +41,11 @@ HostStarts plan table run location r run-left location-left =
 abbrev pub HostSteps : (plan : Words) (table : Table) (run : Words) (v : Speed) (grants : Row) (r : ℕ) (run-left : Words) (grants-left : Row) → Type 0
 HostSteps plan table run v grants r run-left grants-left =
     record { number = r; run = run-left; grants = grants-left } ≡ stepCall plan table run v grants
+
+-- The contract of `gateway_shift`: the number, the lent run, the rows of grants and the number of each speed.
+abbrev pub HostShifts : (plan : Words) (table : Table) (run : Words) (speeds : List ℕ) (rows : Row) (numbers : List ℕ) (r : ℕ) (run-left : Words) (rows-left : Row) (numbers-left : List ℕ) → Type 0
+HostShifts plan table run speeds rows numbers r run-left rows-left numbers-left =
+    record { number = r; run = run-left; rows = rows-left; numbers = numbers-left } ≡ shiftCall plan table run speeds rows numbers
 
 -- The contract of `gateway_outcome`: the number.
 abbrev pub HostEnds : (plan run : Words) (position : Position) (r : ℕ) → Type 0

@@ -16,6 +16,7 @@ use Rattle.planwriter.specs.Writing as writing
 use Rattle.joblist.specs.Import.{ImportEffect, imported}
 use Rattle.joblist.specs.Export as export
 use Rattle.dispatch.specs.Step.{SlotEffect, WordEffect, Ending, met, endedEarly, discarded, missed, stillOpen, refused, started, stepped, outcome, toldEnded}
+use Rattle.dispatch.specs.Shift.{ShiftEffect, shifted}
 use Rattle.hostmemory.specs.Memory.{locationWords, shortList, shortPlan, shortRun, listHeld, listPut, planOf, planPut, marksHold, runOf, runPut}
 
 -- The number for no HI job. Like those of the outcomes it is above
@@ -117,6 +118,26 @@ stepCall plan table run v grants =
     cond (shortPlan plan || shortRun run) (record { number = bufferTooShort; run = run; grants = grants })
     (cond (not (marksHold run)) (record { number = unsound; run = run; grants = grants })
     (slotWords (stepped (planOf plan) table (runOf run) v grants) run))
+
+-- The effect of the shift's call.
+pub record HostShiftEffect : Type 0 where
+  pub number : ℕ
+  pub run : List ℕ
+  pub rows : List ℕ
+  pub numbers : List ℕ
+
+-- The effect of a shift on a lent run, rows of grants and numbers.
+abbrev pub shiftWords : (shift : ShiftEffect) (run : Words) → HostShiftEffect
+shiftWords shift run =
+    record { number = numberOf (shift .answer); run = runPut run (shift .run); rows = shift .rows; numbers = shift .numbers }
+
+-- The shift's call: 22 if plan or run is too short, 21 for a mark that is neither 0 nor 1, each with nothing changed; otherwise
+-- the shift.
+unfoldable pub shiftCall : (plan : Words) (table : Table) (run : Words) (speeds : List ℕ) (rows : Row) (numbers : List ℕ) → HostShiftEffect
+shiftCall plan table run speeds rows numbers =
+    cond (shortPlan plan || shortRun run) (record { number = bufferTooShort; run = run; rows = rows; numbers = numbers })
+    (cond (not (marksHold run)) (record { number = unsound; run = run; rows = rows; numbers = numbers })
+    (shiftWords (shifted (planOf plan) table (runOf run) speeds rows numbers) run))
 
 -- The number of an outcome.
 abbrev pub endingNumber : Ending → ℕ

@@ -2,6 +2,7 @@
 // and numbers above one byte for the rest.
 use dispatch::answers::Answer;
 use dispatch::answers::Outcome;
+use dispatch::answers::number_of as answered;
 use joblist::export::Exported;
 use joblist::import::Answer as Import;
 use judge::answers::Slack;
@@ -71,10 +72,7 @@ pub(crate) fn second_of(v: Verdict) -> u64
 pub(crate) fn answer_number(a: Answer) -> u32
     ensures { λ r. ⌜ r ≡ numberOf (slots.answerView a) ⌝ }
 {
-    match a {
-        Answer::Done => DONE as u32,
-        Answer::Refused(number) => number as u32,
-    }
+    answered(a) as u32
 }
 
 pub(crate) fn outcome_number(o: Outcome) -> u32

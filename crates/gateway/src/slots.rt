@@ -6,6 +6,7 @@ use crate::answers::second_of;
 use crate::answers::verdict_number;
 use dispatch::early::end_over;
 use dispatch::outcome::outcome_over;
+use dispatch::shift::shift_over;
 use dispatch::start::start;
 use dispatch::step::slot_over;
 use hostmemory::plans::columns_in;
@@ -30,7 +31,7 @@ ghost use mathlib.Core.Path.{_≡_};
 ghost use Rattle.judge.specs.Verdict.{judged};
 ghost use Rattle.judge.specs.Answers.{verdictView};
 ghost use Rattle.gateway.specs.Calls.{startWords};
-ghost use Rattle.gateway.specs.Answers.{HostStarts, HostSteps, HostEnds, HostTells};
+ghost use Rattle.gateway.specs.Answers.{HostStarts, HostSteps, HostShifts, HostEnds, HostTells};
 
 // Judges a plan, and writes its run to the lent words if it is accepted.
 fn start_in(run: &mut [u32], p: Plan, table: &[u32]) -> Verdict
@@ -106,6 +107,60 @@ pub extern "C" fn gateway_step(
         &ended,
         &mut carried,
         grants,
+    );
+    let answer = s.answer;
+    let number = answer_number(answer);
+    if number != DONE as u32 {
+        return number;
+    }
+    let next = s.next;
+    put_slot(run, next, &carried);
+    number
+}
+
+// Carries a slot at each of the speeds: advances the lent run, and writes a row of grants and a number for each. Words
+// that have no room in a column break rule 8 or 9. A refused shift leaves the run, so nothing is put back then.
+#[no_mangle]
+pub extern "C" fn gateway_shift(
+    plan: &[u64],
+    table: &[u32],
+    run: &mut [u32],
+    speeds: &[u16],
+    rows: &mut [u32],
+    numbers: &mut [u8],
+) -> u32
+    ensures { λ r. ⌜ HostShifts (now (plan .entry)) (now (table .entry)) (now (run .entry)) (now (speeds .entry)) (now (rows .entry)) (now (numbers .entry)) r (now (run .exit)) (now (rows .exit)) (now (numbers .exit)) ⌝ }
+{
+    if (plan.len() < Sizes::PLAN) | (run.len() < Sizes::RUN) {
+        return BUFFER_TOO_SHORT as u32;
+    }
+    if !marks_hold(run) {
+        return UNSOUND as u32;
+    }
+    let mut grades = [0u32; Edition::MOST_JOBS];
+    let mut releases = [0u32; Edition::MOST_JOBS];
+    let mut sizes = [0u32; Edition::MOST_JOBS];
+    let mut deadlines = [0u32; Edition::MOST_JOBS];
+    if !columns_in(plan, &mut grades, &mut releases, &mut sizes, &mut deadlines) {
+        return UNSOUND as u32;
+    }
+    let o = outline_in(plan);
+    let at = moment_in(run);
+    let ended = ended_in(run);
+    let mut carried = carried_in(run);
+    let s = shift_over(
+        o,
+        &grades,
+        &releases,
+        &sizes,
+        &deadlines,
+        table,
+        at,
+        speeds,
+        &ended,
+        &mut carried,
+        rows,
+        numbers,
     );
     let answer = s.answer;
     let number = answer_number(answer);

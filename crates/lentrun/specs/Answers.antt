@@ -10,12 +10,19 @@ use Rattle.judge.specs.Answers as verdict
 use Rattle.dispatch.specs.declared.Run.{Run}
 use Rattle.dispatch.specs.declared.answers.Answer.{Answer}
 use Rattle.dispatch.specs.Step.{startIn, stepped, toldEnded}
+use Rattle.dispatch.specs.Shift.{shifted}
 use Rattle.dispatch.specs.Answers.{answerView}
 
 -- The contract of `step_in`: its answer, the run record and the grant row
 -- at exit are the effect of the slot's call.
 abbrev pub StepsIn : (run : Run) (p : Plan) (table : Table) (v : Speed) (grants : Row) (r : Answer) (after : Run) (left : List ℕ) → Type 0
 StepsIn run p table v grants r after left = record { answer = answerView r; run = after; grants = left } ≡ stepped p table run v grants
+
+-- The contract of `shift_in`: its answer, the run record, the rows of grants and the numbers
+-- at exit are the effect of the shift.
+abbrev pub ShiftsIn : (run : Run) (p : Plan) (table : Table) (speeds : List ℕ) (rows : Row) (numbers : List ℕ) (r : Answer) (after : Run) (rows-left numbers-left : List ℕ) → Type 0
+ShiftsIn run p table speeds rows numbers r after rows-left numbers-left =
+    record { answer = answerView r; run = after; rows = rows-left; numbers = numbers-left } ≡ shifted p table run speeds rows numbers
 
 -- The contract of `start_in`: the judge's verdict, and the run record
 -- at exit, which a refusal leaves as it was.

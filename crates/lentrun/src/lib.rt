@@ -3,6 +3,7 @@ use dispatch::Run;
 use dispatch::answers::Answer;
 use dispatch::early::Told;
 use dispatch::early::end_early;
+use dispatch::shift::shift;
 use dispatch::start::Started;
 use dispatch::start::start;
 use dispatch::step::Stepped;
@@ -11,9 +12,9 @@ use judge::answers::Verdict;
 use judge::answers::is_accepted;
 use plan::kinds::Plan;
 ghost use mathlib.Core.Path.{_≡_};
-ghost use Rattle.lentrun.specs.Answers.{StepsIn, StartsIn, TellsIn};
+ghost use Rattle.lentrun.specs.Answers.{StepsIn, ShiftsIn, StartsIn, TellsIn};
 
-// The two parts of the result of a step.
+// The two parts of the result of a step or a shift.
 fn run_of(stepped: Stepped) -> Run
     ensures { λ r. ⌜ r ≡ stepped .run ⌝ }
 {
@@ -32,6 +33,24 @@ pub fn step_in(run: &mut Run, p: Plan, table: &[u32], v: u16, grants: &mut [u32]
 {
     let was = *run;
     let s = step(p, table, was, v, grants);
+    let next = run_of(s);
+    *run = next;
+    answer_of(s)
+}
+
+// Carries a slot at each of the speeds on a lent run record. A refusal changes neither record nor rows nor numbers.
+pub fn shift_in(
+    run: &mut Run,
+    p: Plan,
+    table: &[u32],
+    speeds: &[u16],
+    rows: &mut [u32],
+    numbers: &mut [u8],
+) -> Answer
+    ensures { λ r. ⌜ ShiftsIn (now (run .entry)) p (now (table .entry)) (now (speeds .entry)) (now (rows .entry)) (now (numbers .entry)) r (now (run .exit)) (now (rows .exit)) (now (numbers .exit)) ⌝ }
+{
+    let was = *run;
+    let s = shift(p, table, was, speeds, rows, numbers);
     let next = run_of(s);
     *run = next;
     answer_of(s)

@@ -1,4 +1,4 @@
--- The bounds of the plan edition, by name.
+-- The bounds of the edition, by name.
 use Prim.Native.Nat.{ℕ, _*_, _-_}
 
 -- The greatest number of jobs.
@@ -36,3 +36,7 @@ places = mostJobs * mostIntervals
 -- The number of bytes in a name.
 abbrev pub nameBytes : ℕ
 nameBytes = 8
+
+-- The greatest number of speeds of a shift.
+abbrev pub mostSpeeds : ℕ
+mostSpeeds = 256

@@ -121,3 +121,7 @@ noSuchJob = 25
 -- A job cannot end now: it is not yet released, or its outcome is no longer open.
 abbrev pub cannotEnd : ℕ
 cannotEnd = 26
+
+-- There are more speeds than a shift may have.
+abbrev pub tooManySpeeds : ℕ
+tooManySpeeds = 27

@@ -1,4 +1,4 @@
-// The bounds of the plan edition, by name.
+// The bounds of the edition, by name.
 
 pub struct Edition();
 
@@ -27,4 +27,7 @@ impl Edition {
     pub const PLACES: usize = Self::MOST_JOBS * Self::MOST_INTERVALS;
 
     pub const NAME_BYTES: usize = 8;
+
+    // The bound on the speeds of a shift.
+    pub const MOST_SPEEDS: usize = 256;
 }

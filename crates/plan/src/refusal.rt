@@ -67,3 +67,6 @@ pub const WRONG_HEADER: u8 = 24;
 pub const NO_SUCH_JOB: u8 = 25;
 
 pub const CANNOT_END: u8 = 26;
+
+// A refusal of a list of speeds.
+pub const TOO_MANY_SPEEDS: u8 = 27;

@@ -22,6 +22,7 @@ use Rattle.dispatch.specs.declared.Run.{Run}
 use Rattle.dispatch.specs.Dues
 use Rattle.dispatch.specs.Dues.{carriedOf, endedOf, slowAfter}
 use Rattle.dispatch.specs.inner.Shares
+use Rattle.dispatch.specs.inner.Shares.{settledOf}
 use Rattle.dispatch.specs.Order.{order}
 use Rattle.dispatch.specs.Step.{granted, added, advanced}
 use Rattle.dispatch.proofs.Queues.{serve-length}
@@ -45,10 +46,6 @@ factsOf p table =
       n = p .n .0;
       d = p .d .0;
     }
-
--- What job i counts for in a run: its size once it has ended, otherwise what is carried.
-abbrev pub settledOf : Plan → Run → ℕ → ℕ
-settledOf p run i = cond (endedOf run i) (size p i) (carriedOf run i)
 
 -- The state of a run. An ended job counts for its size: it lacks nothing, so it claims nothing.
 abbrev pub stateOf : Plan → Run → State

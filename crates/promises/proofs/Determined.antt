@@ -10,9 +10,9 @@ use native.Mathlib.Omega.{arith}
 use lib.Dec.{ltb, eqb, lit<}
 use lib.IntN.{ℤ}
 use lib.ListN.{length, getD, drop, replicate}
-use Rattle.plan.specs.Edition.{mostJobs, places}
+use Rattle.plan.specs.Edition.{mostJobs, mostSpeeds, places}
 use Rattle.plan.specs.Versions.{rowsAllowedIn}
-use Rattle.plan.specs.Refusal.{tooManyRows, rowWithoutInterval, rowWithoutUnits, clockAtEnd, speedAboveNormal, unsound, bufferTooShort, noSuchJob, cannotEnd}
+use Rattle.plan.specs.Refusal.{tooManyRows, rowWithoutInterval, rowWithoutUnits, clockAtEnd, speedAboveNormal, unsound, bufferTooShort, noSuchJob, cannotEnd, tooManySpeeds}
 use Rattle.plan.specs.Rules.{release, deadline, counted}
 use Rattle.plan.specs.Boundaries.{insert, boundariesTo, boundaries, come, present, lastSlot, lastDeadline}
 use Rattle.plan.specs.Columns.{sizesFit, PutsColumns, TellsBegun}
@@ -68,9 +68,10 @@ use Rattle.judge.proofs.Injective.{verdictView-injective, slackView-injective}
 use Rattle.judge.proofs.LeastSlack.{first-of-all}
 use Rattle.judge.proofs.FirstLocation.{every-place-is-the-first}
 use Rattle.dispatch.specs.Step as step
-use Rattle.dispatch.specs.Step.{SlotEffect, WordEffect, Ending, isOpen, endFault, endBy, toldEnded, started, noRun, startFrom, startIn, slotSound, slotFault, slotBy, stepped, outcome}
+use Rattle.dispatch.specs.Step.{SlotEffect, WordEffect, Ending, isOpen, endFault, toldEnded, started, noRun, startFrom, startIn, slotSound, slotFault, stepped, outcome}
+use Rattle.dispatch.specs.Shift.{ShiftEffect, rowStart, shiftFault, shifted}
 use Rattle.dispatch.specs.Answers as slot
-use Rattle.dispatch.specs.Answers.{outcomeView, runAt, Starts, Steps, StepsOver, Ends, EndsOver, Tells, TellsOver}
+use Rattle.dispatch.specs.Answers.{outcomeView, runAt, Starts, Steps, StepsOver, Shifts, ShiftsOver, Ends, EndsOver, Tells, TellsOver}
 use Rattle.dispatch.specs.inner.Columns.{planOn}
 use Rattle.dispatch.specs.declared.Run.{Run}
 use Rattle.dispatch.specs.declared.Moment.{Moment}
@@ -83,11 +84,14 @@ use Rattle.dispatch.specs.declared.answers.Outcome.the-variants as ends
 use Rattle.dispatch.specs.declared.start.Started.{Started}
 use Rattle.dispatch.specs.declared.step.Stepped.{Stepped}
 use Rattle.dispatch.proofs.Alike.{alike-slot, alike-outcome, alike-told}
-use Rattle.dispatch.proofs.WordLimits.{slot-keeps-ended}
+use Rattle.dispatch.proofs.SlotLimits.{slot-answer}
+use Rattle.dispatch.proofs.ShiftLimits.{shift-keeps, shift-answer}
+use Rattle.dispatch.proofs.SlotsInTurn.{alike-shift}
+use Rattle.dispatch.proofs.WordLimits.{word-answer, slot-keeps-ended}
 use Rattle.hostmemory.specs.Memory.{momentOf}
 use Rattle.dispatch.proofs.ColumnPlan.{own-columns, columns-alike}
 use Rattle.dispatch.proofs.Injective.{answerView-injective, outcomeView-injective}
-use Rattle.lentrun.specs.Answers.{StepsIn, StartsIn, TellsIn}
+use Rattle.lentrun.specs.Answers.{StepsIn, ShiftsIn, StartsIn, TellsIn}
 use Rattle.lines.specs.Answers as line
 use Rattle.lines.specs.Answers.{Prints, PrintsOutcome, printed, outcomePrinted}
 use Rattle.lines.specs.declared.Printed.{Printed}
@@ -214,10 +218,10 @@ one-step p table run v grants r s left other d e =
 -- The report of a slot's call is the view of an answer.
 one-number : (p : Plan) (table : List ℕ) (run : Run) (v : ℕ) (grants : List ℕ)
     → (a : Answer) × (slot.answerView a ≡ stepped p table run v grants .answer)
-unfolding slotFault stepped
+unfolding slotFault
 one-number p table run v grants =
     let a = by (not (slotSound p run)) (ltb (length table) places || ltb (length grants) (counted p)) (eqb (run .clock .0) (lastDeadline p)) (ltb (p .n .0) v) in
-    (a .0, a .1 ∙ by-answer (slotFault p table run v grants))
+    (a .0, a .1 ∙ sym (slot-answer p table run v grants))
   where
     by : (a b c d : Bool)
         → (r : Answer)
@@ -229,10 +233,6 @@ one-number p table run v grants =
     by false false true d = (slot-answer.Refused clockAtEnd, refl)
     by false false false true = (slot-answer.Refused speedAboveNormal, refl)
     by false false false false = (slot-answer.Done, refl)
-
-    by-answer : (l : Report) → l ≡ slotBy l p table run v grants .answer
-    by-answer [] = refl
-    by-answer (number ∷ rest) = refl
 
 pub some-step : (p : Plan) (table : List ℕ) (run : Run) (v : ℕ) (grants : List ℕ)
     → (r : Stepped) × (left : List ℕ) × Steps p table run v grants r left
@@ -308,12 +308,100 @@ some-slot-over o grades releases sizes deadlines table at v marks carried grants
           ∙ sym (alike-slot q table p table (columns-alike grades releases sizes deadlines o q table cols) run v grants),
     )
 
+-- The report of a shift is the view of an answer.
+one-shift-number : (p : Plan) (table : List ℕ) (run : Run) (speeds rows numbers : List ℕ)
+    → (a : Answer) × (slot.answerView a ≡ shifted p table run speeds rows numbers .answer)
+unfolding shiftFault
+one-shift-number p table run speeds rows numbers =
+    let a = by (not (slotSound p run)) (ltb mostSpeeds (length speeds))
+    (ltb (length table) places || ltb (length rows) (rowStart p (length speeds)) || ltb (length numbers) (length speeds)) in
+    (a .0, a .1 ∙ sym (shift-answer p table run speeds rows numbers))
+  where
+    by : (a b c : Bool)
+        → (r : Answer)
+        × (slot.answerView r ≡ orElse (fault a (unsound ∷ [])) (orElse (fault b (tooManySpeeds ∷ [])) (fault c (bufferTooShort ∷ []))))
+    by true b c = (slot-answer.Refused unsound, refl)
+    by false true c = (slot-answer.Refused tooManySpeeds, refl)
+    by false false true = (slot-answer.Refused bufferTooShort, refl)
+    by false false false = (slot-answer.Done, refl)
+
+-- `dispatch::shift::shift`.
+pub one-shift : (p : Plan) (table : List ℕ) (run : Run) (speeds rows numbers : List ℕ) (r s : Stepped) (filled other told untold : List ℕ)
+    → Shifts p table run speeds rows numbers r filled told → Shifts p table run speeds rows numbers s other untold
+    → (r ≡ s) × (filled ≡ other) × (told ≡ untold)
+one-shift p table run speeds rows numbers r s filled other told untold d e =
+    let same = d ∙ sym e in
+    let answers = answerView-injective (r .answer) (s .answer) (ap (λ (x : ShiftEffect). x .answer) same) in
+    let runs = ap (λ (x : ShiftEffect). x .run) same in
+    (λ i. record { answer = answers i; run = runs i }, ap (λ (x : ShiftEffect). x .rows) same, ap (λ (x : ShiftEffect). x .numbers) same)
+
+pub some-shift : (p : Plan) (table : List ℕ) (run : Run) (speeds rows numbers : List ℕ)
+    → (r : Stepped) × (filled told : List ℕ) × Shifts p table run speeds rows numbers r filled told
+some-shift p table run speeds rows numbers =
+    let s = shifted p table run speeds rows numbers in
+    let a = one-shift-number p table run speeds rows numbers in
+    (record { answer = a .0; run = s .run }, s .rows, s .numbers, λ i. record { answer = a .1 i; run = s .run; rows = s .rows; numbers = s .numbers })
+
+-- `lentrun::shift_in`.
+pub one-shift-in : (run : Run) (p : Plan) (table speeds rows numbers : List ℕ) (r s : Answer) (after later : Run) (filled other told untold : List ℕ)
+    → ShiftsIn run p table speeds rows numbers r after filled told → ShiftsIn run p table speeds rows numbers s later other untold
+    → (r ≡ s) × (after ≡ later) × (filled ≡ other) × (told ≡ untold)
+one-shift-in run p table speeds rows numbers r s after later filled other told untold d e =
+    let same = d ∙ sym e in (
+      answerView-injective r s (ap (λ (x : ShiftEffect). x .answer) same),
+      ap (λ (x : ShiftEffect). x .run) same,
+      ap (λ (x : ShiftEffect). x .rows) same,
+      ap (λ (x : ShiftEffect). x .numbers) same,
+    )
+
+pub some-shift-in : (run : Run) (p : Plan) (table speeds rows numbers : List ℕ)
+    → (r : Answer) × (after : Run) × (filled told : List ℕ) × ShiftsIn run p table speeds rows numbers r after filled told
+some-shift-in run p table speeds rows numbers =
+    let s = shifted p table run speeds rows numbers in
+    let a = one-shift-number p table run speeds rows numbers in
+    (a .0, s .run, s .rows, s .numbers, λ i. record { answer = a .1 i; run = s .run; rows = s .rows; numbers = s .numbers })
+
+-- `dispatch::shift::shift_over`: the promise holds for every plan with the columns, and there is one.
+pub one-shift-over : (o : Outline) (grades releases sizes deadlines table : List ℕ) (at : Moment) (speeds : List ℕ) (marks : List Bool) (carried rows numbers : List ℕ) (r s : Slot)
+    (after later filled other told untold : List ℕ) → ShiftsOver o grades releases sizes deadlines table at speeds marks carried rows numbers r after filled told
+    → ShiftsOver o grades releases sizes deadlines table at speeds marks carried rows numbers s later other untold
+    → (r ≡ s) × (after ≡ later) × (filled ≡ other) × (told ≡ untold)
+one-shift-over o grades releases sizes deadlines table at speeds marks carried rows numbers r s after later filled other told untold d e =
+    let p = planOn o grades releases sizes deadlines in
+    let own = own-columns grades releases sizes deadlines o in
+    let same = d p own ∙ sym (e p own) in
+    let answers = answerView-injective (r .answer) (s .answer) (ap (λ (x : ShiftEffect). x .answer) same) in
+    let runs = ap (λ (x : ShiftEffect). x .run) same in (
+      λ i. record { answer = answers i; next = record { clock = runs i .clock; slow = runs i .slow; below = runs i .below } },
+      ap (λ (x : Run). x .carried) runs,
+      ap (λ (x : ShiftEffect). x .rows) same,
+      ap (λ (x : ShiftEffect). x .numbers) same,
+    )
+
+pub some-shift-over : (o : Outline) (grades releases sizes deadlines table : List ℕ) (at : Moment) (speeds : List ℕ) (marks : List Bool) (carried rows numbers : List ℕ)
+    → (r : Slot) × (after filled told : List ℕ) × ShiftsOver o grades releases sizes deadlines table at speeds marks carried rows numbers r after filled told
+some-shift-over o grades releases sizes deadlines table at speeds marks carried rows numbers =
+    let p = planOn o grades releases sizes deadlines in
+    let run = runAt at carried marks in
+    let s = shifted p table run speeds rows numbers in
+    let a = one-shift-number p table run speeds rows numbers in
+    let kept : s .run .ended ≡ marks
+    = shift-keeps p table (λ r. r .ended ≡ marks) (λ r v grants e. slot-keeps-ended p table r v grants ∙ e) run speeds rows numbers refl in (
+      record { answer = a .0; next = record { clock = s .run .clock; slow = s .run .slow; below = s .run .below } },
+      s .run .carried,
+      s .rows,
+      s .numbers,
+      λ q cols.
+          (λ i. record { answer = a .1 i; run = runAt (momentOf (s .run)) (s .run .carried) (sym kept i); rows = s .rows; numbers = s .numbers })
+          ∙ sym (alike-shift q table p table (columns-alike grades releases sizes deadlines o q table cols) run speeds rows numbers),
+    )
+
 -- The report of the word that a job has ended is the view of an answer.
 one-word-number : (p : Plan) (run : Run) (position : ℕ) → (a : Answer) × (slot.answerView a ≡ toldEnded p run position .answer)
-unfolding endFault toldEnded
+unfolding endFault
 one-word-number p run position =
     let a = by (not (slotSound p run)) (not (ltb position (p .count))) (ltb (run .clock .0) (release p position) || not (isOpen (outcome p run position))) in
-    (a .0, a .1 ∙ by-answer (endFault p run position))
+    (a .0, a .1 ∙ sym (word-answer p run position))
   where
     by : (a b c : Bool)
         → (r : Answer)
@@ -322,10 +410,6 @@ one-word-number p run position =
     by false true c = (slot-answer.Refused noSuchJob, refl)
     by false false true = (slot-answer.Refused cannotEnd, refl)
     by false false false = (slot-answer.Done, refl)
-
-    by-answer : (l : Report) → l ≡ endBy l run position .answer
-    by-answer [] = refl
-    by-answer (number ∷ rest) = refl
 
 -- `dispatch::early::end_early`.
 pub one-end-early : (p : Plan) (run : Run) (position : ℕ) (r s : Told) → Tells p run position r → Tells p run position s → r ≡ s

@@ -13,11 +13,11 @@ use lib.ListN.{length, getD, take}
 use Rattle.base.specs.Below.{every}
 use Rattle.base.proofs.Below.{every-at, every-all}
 use Rattle.base.proofs.Logic.{both, and-left, and-right, if-true, if-less, if-same}
-use Rattle.plan.specs.Edition.{nameBytes, mostJobs, mostIntervals, mostRate, mostDeadline, mostSize, places}
+use Rattle.plan.specs.Edition.{nameBytes, mostJobs, mostIntervals, mostRate, mostDeadline, mostSize, places, mostSpeeds}
 use Rattle.plan.specs.Rules.{jobsOf, lo, hi, byteOf, counted, jobOf, name, release, size, deadline, isHi, nameAllowed, gradeAllowed, windowAllowed, sizeAllowed, sameName, ratesHold, countHolds, namesHold, namesDiffer, gradesHold, boundsHold, rulesHold}
 use Rattle.plan.specs.Boundaries.{intervals, firstRelease, lastDeadline}
 use Rattle.plan.specs.Table.{noStray, sound}
-use Rattle.plan.specs.Refusal.{clockAtEnd, speedAboveNormal, unsound, bufferTooShort, noSuchJob, cannotEnd}
+use Rattle.plan.specs.Refusal.{clockAtEnd, speedAboveNormal, unsound, bufferTooShort, noSuchJob, cannotEnd, tooManySpeeds}
 use Rattle.plan.specs.Report.{Report, orElse, fault}
 use Rattle.plan.specs.declared.kinds.Plan.{Plan}
 use Rattle.plan.proofs.BoundaryOrder.{boundaries-few}
@@ -28,9 +28,13 @@ use Rattle.planwriter.specs.Writing.{wrote, written, writer}
 use Rattle.dispatch.specs.declared.Run.{Run}
 use Rattle.dispatch.specs.Dues.{carriedOf, endedOf}
 use Rattle.dispatch.specs.Step as step
-use Rattle.dispatch.specs.Step.{Ending, slotSound, slotFault, stepped, outcome, isOpen, WordEffect, endFault, endBy, toldEnded}
-use Rattle.promises.specs.Grounds.{Rule4, Rule5, Rule6, Rule7, Rule8, Rule9, NoStray, SoundPlan, SoundRun, writtenLength, WriterDecided, table-short, plan-unsound, output-short, file-written, StepDecided, run-unsound, buffer-short, at-end, too-fast, slot-done, Asked, OutcomeDecided, not-asked, all-carried, told-of, dropped, late, waiting, EndDecided, word-unsound, no-such-job, cannot-end, word-done}
-use Rattle.promises.proofs.Progress.{answer-is-fault, sound-after}
+use Rattle.dispatch.specs.Step.{Ending, slotSound, slotFault, stepped, outcome, isOpen, WordEffect, endFault, toldEnded}
+use Rattle.dispatch.specs.Shift.{rowStart, shiftFault, shifted}
+use Rattle.dispatch.proofs.SlotLimits.{slot-answer}
+use Rattle.dispatch.proofs.ShiftLimits.{shift-answer}
+use Rattle.dispatch.proofs.WordLimits.{word-answer}
+use Rattle.promises.specs.Grounds.{Rule4, Rule5, Rule6, Rule7, Rule8, Rule9, NoStray, SoundPlan, SoundRun, writtenLength, WriterDecided, table-short, plan-unsound, output-short, file-written, StepDecided, run-unsound, buffer-short, at-end, too-fast, slot-done, ShiftDecided, shift-unsound, too-many, shift-short, shift-done, Asked, OutcomeDecided, not-asked, all-carried, told-of, dropped, late, waiting, EndDecided, word-unsound, no-such-job, cannot-end, word-done}
+use Rattle.promises.proofs.Progress.{sound-after}
 use Rattle.promises.proofs.SameSlot.{same-word}
 use Rattle.promises.specs.Night.{EndCall, Call, word, answerOf, runAfter, clockAt, Allowed}
 use Rattle.plan.specs.Same.{Same}
@@ -329,7 +333,7 @@ module _ (p : Plan) (table : List ℕ) (run : Run) (v : ℕ) (grants : List ℕ)
   pub step-exactly : (r : Report) → (stepped p table run v grants .answer ≡ r) ↔ StepDecided p table run v grants r
   step-exactly =
       exactly-decided (StepDecided p table run v grants) (stepped p table run v grants .answer)
-      (λ r d. answer-is-fault p table run v grants ∙ only-fault r d) some-fault
+      (λ r d. slot-answer p table run v grants ∙ only-fault r d) some-fault
 
 -- The outcome.
 module _ (p : Plan) (run : Run) (i : ℕ) where
@@ -387,17 +391,58 @@ module _ (p : Plan) (run : Run) (i : ℕ) where
   pub outcome-exactly : (e : Ending) → (outcome p run i ≡ e) ↔ OutcomeDecided p run i e
   outcome-exactly = exactly-decided (OutcomeDecided p run i) (outcome p run i) only-ending some-ending
 
+-- The shift.
+module _ (p : Plan) (table : List ℕ) (run : Run) (speeds rows numbers : List ℕ) where
+  abbrev lacking : Bool
+  lacking = ltb (length table) places || ltb (length rows) (rowStart p (length speeds)) || ltb (length numbers) (length speeds)
+
+  lacking-exactly : (lacking ≡ true) ↔ ((length table < places) ⊎ (length rows < rowStart p (length speeds)) ⊎ (length numbers < length speeds))
+  lacking-exactly =
+      let first = or-exactly (ltb (length table) places) (ltb (length rows) (rowStart p (length speeds)))
+      (ltb-exactly (length table) places) (ltb-exactly (length rows) (rowStart p (length speeds))) in
+      let all = or-exactly (ltb (length table) places || ltb (length rows) (rowStart p (length speeds))) (ltb (length numbers) (length speeds)) first (ltb-exactly (length numbers) (length speeds)) in (
+        λ e. ⊎-elim (λ w. ⊎-elim inl (λ l. inr (inl l)) w) (λ l. inr (inr l)) (all .0 e),
+        λ w. all .1 (⊎-elim (λ l. inl (inl l)) (λ v. ⊎-elim (λ l. inl (inr l)) inr v) w),
+      )
+
+  only-shift : (r : Report) → ShiftDecided p table run speeds rows numbers r → shiftFault p table run speeds rows numbers ≡ r
+  unfolding shiftFault
+  only-shift r (shift-unsound lack) = rw (fails (slotSound p run) (slot-sound-exactly p run) lack) refl
+  only-shift r (too-many f l) = rw (slot-sound-exactly p run .1 f, lt-ltb mostSpeeds (length speeds) l) refl
+  only-shift r (shift-short f few l) = rw (slot-sound-exactly p run .1 f, le-ltb mostSpeeds (length speeds) few, lacking-exactly .1 l) refl
+  only-shift r (shift-done f few room) =
+      rw (
+        slot-sound-exactly p run .1 f,
+        le-ltb mostSpeeds (length speeds) few,
+        le-ltb (length table) places (room .0),
+        le-ltb (length rows) (rowStart p (length speeds)) (room .1),
+        le-ltb (length numbers) (length speeds) (room .2),
+      ) refl
+
+  some-shift-fault : (r : Report) × ShiftDecided p table run speeds rows numbers r
+  some-shift-fault =
+      if-true (slotSound p run)
+      (λ s.
+      let f = slot-sound-exactly p run .0 s in
+      if-less mostSpeeds (length speeds)
+      (λ l. (tooManySpeeds ∷ [], too-many f l))
+      (λ few. if-less (length table) places
+      (λ l. (bufferTooShort ∷ [], shift-short f few (inl l)))
+      (λ long. if-less (length rows) (rowStart p (length speeds))
+      (λ l. (bufferTooShort ∷ [], shift-short f few (inr (inl l))))
+      (λ wide. if-less (length numbers) (length speeds)
+      (λ l. (bufferTooShort ∷ [], shift-short f few (inr (inr l))))
+      (λ told. ([], shift-done f few (long, wide, told)))))))
+      (λ s. (unsound ∷ [], shift-unsound (lacks (slotSound p run) (slot-sound-exactly p run) s)))
+
+  -- The shift gives each answer exactly when `ShiftDecided` says so.
+  pub shift-exactly : (r : Report) → (shifted p table run speeds rows numbers .answer ≡ r) ↔ ShiftDecided p table run speeds rows numbers r
+  shift-exactly =
+      exactly-decided (ShiftDecided p table run speeds rows numbers) (shifted p table run speeds rows numbers .answer)
+      (λ r d. shift-answer p table run speeds rows numbers ∙ only-shift r d) some-shift-fault
+
 -- The word that a job has ended.
 module _ (p : Plan) (run : Run) (i : ℕ) where
-  -- The answer is the refusal found.
-  word-answer : toldEnded p run i .answer ≡ endFault p run i
-  unfolding toldEnded
-  word-answer = by (endFault p run i)
-    where
-      by : (r : Report) → endBy r run i .answer ≡ r
-      by [] = refl
-      by (number ∷ rest) = refl
-
   open-exactly : (e : Ending) → (isOpen e ≡ true) ↔ (e ≡ step.stillOpen)
   open-exactly step.met = (λ h. absurd (true≢false (sym h)), λ h. absurd (true≢false (sym (ap isOpen h))))
   open-exactly step.endedEarly = (λ h. absurd (true≢false (sym h)), λ h. absurd (true≢false (sym (ap isOpen h))))
@@ -447,7 +492,7 @@ module _ (p : Plan) (run : Run) (i : ℕ) where
 
   -- The word gives each answer exactly when `EndDecided` says so.
   pub end-exactly : (r : Report) → (toldEnded p run i .answer ≡ r) ↔ EndDecided p run i r
-  end-exactly = exactly-decided (EndDecided p run i) (toldEnded p run i .answer) (λ r d. word-answer ∙ only-word r d) some-word
+  end-exactly = exactly-decided (EndDecided p run i) (toldEnded p run i .answer) (λ r d. word-answer p run i ∙ only-word r d) some-word
 
 -- In an allowed night of an accepted plan, a word with that plan, or the same one, is refused exactly by 25, where no job has the
 -- position, and by 26, before the release or if the outcome is not open: never by 21.

@@ -81,8 +81,8 @@ module _ (f : Facts) (good : Good f) where
   before-le i l h e = omega (arith, before-size i l h e)
 
   -- A job whose deadline is at or before the start of an interval has nothing left from there on.
-  pub tail-ended : (i l : ℕ) → i < f .N → l ≤ f .K → f .dl i ≤ f .b l → tail f l i ≡ 0
-  tail-ended i l h e m =
+  pub tail-reached : (i l : ℕ) → i < f .N → l ≤ f .K → f .dl i ≤ f .b l → tail f l i ≡ 0
+  tail-reached i l h e m =
       let none : sum (λ j. f .x i (l + j)) (f .K - l) ≡ 0
       = sum-none (λ j. f .x i (l + j)) (f .K - l)
       (λ j q. good .late i (l + j) h (omega arith) (omega (arith, rises-strictly l (suc (l + j)) (omega arith) (omega arith)))) in
@@ -125,7 +125,7 @@ module _ (f : Facts) (good : Good f) where
       omega (
         arith,
         sum-none (λ i. on (class f 0 i) (tail f l i)) (f .N)
-            (λ i h. on-none (class f 0 i) (tail f l i) (λ c. tail-ended i l h e (omega (arith, in-class 0 i c)))),
+            (λ i h. on-none (class f 0 i) (tail f l i) (λ c. tail-reached i l h e (omega (arith, in-class 0 i c)))),
       )
   floor-tail floor l (suc D) e = ⊎-elim at-deadline (between-deadlines (floor-tail floor l D e)) (due-at (suc D) (f .N))
     where
@@ -146,7 +146,7 @@ module _ (f : Facts) (good : Good f) where
                 arith,
                 sum-none (λ i. on (class f (suc D) i) (tail f l i)) (f .N)
                     (λ i h. on-none (class f (suc D) i) (tail f l i)
-                    (λ c. tail-ended i l h e (omega (arith, in-class (suc D) i c, rises (g .0) l o e)))),
+                    (λ c. tail-reached i l h e (omega (arith, in-class (suc D) i c, rises (g .0) l o e)))),
               ))
 
       between-deadlines : S D ≤ f .d * (D - f .b l) → ((i : ℕ) → i < f .N → f .dl i ≢ suc D) → S (suc D) ≤ f .d * (suc D - f .b l)

@@ -13,7 +13,7 @@ use lib.ListN.{length, drop, replicate}
 use Rattle.plan.specs.Edition.{places}
 use Rattle.base.specs.Below
 use Rattle.plan.specs.Rules.{gradesHold, boundsHold}
-use Rattle.plan.specs.Refusal.{wrongVersion, wrongExtent, wrongRecordLength, wrongRates, wrongJobCount, wrongNameByte, nameTaken, wrongGrade, wrongJobBounds, tooManyRows, rowWithoutJob, rowWithoutInterval, rowWithoutUnits, rowOutOfOrder, outsideWindow, wrongTotal, overCapacity, belowFloorRule, clockAtEnd, speedAboveNormal, unsound, bufferTooShort, noSuchJob, cannotEnd}
+use Rattle.plan.specs.Refusal.{wrongVersion, wrongExtent, wrongRecordLength, wrongRates, wrongJobCount, wrongNameByte, nameTaken, wrongGrade, wrongJobBounds, tooManyRows, rowWithoutJob, rowWithoutInterval, rowWithoutUnits, rowOutOfOrder, outsideWindow, wrongTotal, overCapacity, belowFloorRule, clockAtEnd, speedAboveNormal, unsound, bufferTooShort, noSuchJob, cannotEnd, tooManySpeeds}
 use Rattle.plan.specs.Same.{Same}
 use Rattle.fields.specs.Parsers.{version, opening, field}
 use Rattle.planfields.specs.Records.{head}
@@ -26,17 +26,18 @@ use Rattle.plan.specs.Report.{Report, doneNumber, numberOf}
 use Rattle.judge.specs.Slack as slack
 use Rattle.judge.specs.Slack.{slackFigure}
 use Rattle.dispatch.specs.Step as step
+use Rattle.dispatch.specs.Shift.{ShiftEffect, shifted}
 use Rattle.dispatch.specs.Step.{SlotEffect, WordEffect, Ending, started, slotSound, slotFault, stepped, outcome, toldEnded}
 use Rattle.hostmemory.specs.Memory.{planWords, shortPlan, shortRun, jobsTo, planIn, planOf, jobsOut, planOut, planPut, areMarks, marksHold, runIn, runOf, runOut, runPut}
-use Rattle.gateway.specs.Calls.{HostJudgeEffect, HostStartEffect, HostReadEffect, HostWriteEffect, noneNumber, metNumber, endedNumber, discardedNumber, missedNumber, openNumber, shortLocation, startWords, located, slotWords, endingNumber, figureNumber, slackWords, readWords, writtenNumber, wroteWords, judgeCall, startCall, stepCall, outcomeCall, HostEndEffect, toldWords, endCall, slackCall, readCall, writeCall}
-use Rattle.gateway.proofs.RefusedStep.{refused-step-stays}
+use Rattle.gateway.specs.Calls.{HostJudgeEffect, HostStartEffect, HostReadEffect, HostWriteEffect, noneNumber, metNumber, endedNumber, discardedNumber, missedNumber, openNumber, shortLocation, startWords, located, slotWords, endingNumber, figureNumber, slackWords, readWords, writtenNumber, wroteWords, judgeCall, startCall, stepCall, outcomeCall, HostEndEffect, toldWords, endCall, slackCall, readCall, writeCall, shiftWords, shiftCall}
+use Rattle.gateway.proofs.RefusedCalls.{refused-step-stays}
 use Rattle.dispatch.proofs.WordLimits.{refused-word-changes-nothing}
 use Rattle.hostmemory.proofs.RoundTrip.{run-again}
 use Rattle.promises.proofs.Cases.{tableOf, planE, tableE}
-use Rattle.promises.proofs.RefusalNumbers.{reader-numbers, writer-numbers, judge-numbers, slack-numbers, step-numbers, outcome-numbers, end-numbers}
+use Rattle.promises.proofs.RefusalNumbers.{reader-numbers, writer-numbers, judge-numbers, slack-numbers, step-numbers, outcome-numbers, end-numbers, shift-numbers}
 use Rattle.plan.specs.Report.{isOneOf}
 use Rattle.promises.proofs.RefusalEffects.{reader-22-leaves, reader-other-leaves, writer-refused-leaves}
-use Rattle.promises.proofs.SameSlot.{same-slot, same-word, same-outcome, elseE, elseTable, same-E}
+use Rattle.promises.proofs.SameSlot.{same-slot, same-word, same-outcome, elseE, elseTable, same-E, same-shift}
 use Rattle.promises.proofs.SameVerdict.{same-verdict, same-slack, started-same}
 use Rattle.promises.proofs.SameFile.{same-written}
 
@@ -194,6 +195,27 @@ host-outcome-numbers plan run position = by (shortPlan plan || shortRun run) (no
     by false true = refl
     by false false = by-answer (outcome (planOf plan) (runOf run) position) refl
 
+-- `gateway_shift`: 0, 21, 22, 27.
+pub host-shift-numbers : (plan table run speeds rows numbers : List ℕ)
+    → isOneOf (doneNumber ∷ unsound ∷ tooManySpeeds ∷ bufferTooShort ∷ []) (shiftCall plan table run speeds rows numbers .number) ≡ true
+unfolding shiftCall
+host-shift-numbers plan table run speeds rows numbers = by (shortPlan plan || shortRun run) (not (marksHold run))
+  where
+    three : List ℕ
+    three = unsound ∷ tooManySpeeds ∷ bufferTooShort ∷ []
+
+    shift : ShiftEffect
+    shift = shifted (planOf plan) table (runOf run) speeds rows numbers
+
+    by : (b c : Bool)
+        → isOneOf (doneNumber ∷ three)
+        (cond b (record { number = bufferTooShort; run = run; rows = rows; numbers = numbers })
+        (cond c (record { number = unsound; run = run; rows = rows; numbers = numbers }) (shiftWords shift run)) .number)
+        ≡ true
+    by true c = refl
+    by false true = refl
+    by false false = report-one three (shift .answer) (shift-numbers (planOf plan) table (runOf run) speeds rows numbers)
+
 -- `gateway_end`: 0, 21, 22, 25, 26.
 pub host-end-numbers : (plan run : List ℕ) (position : ℕ)
     → isOneOf (doneNumber ∷ unsound ∷ noSuchJob ∷ cannotEnd ∷ bufferTooShort ∷ []) (endCall plan run position .number) ≡ true
@@ -343,6 +365,10 @@ module _ (plan table other-plan other : List ℕ) (same : Same (planOf plan) tab
   pub same-host-step : (run : List ℕ) (v : ℕ) (grants : List ℕ) → stepCall plan table run v grants ≡ stepCall other-plan other run v grants
   unfolding stepCall
   same-host-step run v grants = rw (both, same-slot (planOf plan) table (planOf other-plan) other same (runOf run) v grants) refl
+
+  pub same-host-shift : (run speeds rows numbers : List ℕ) → shiftCall plan table run speeds rows numbers ≡ shiftCall other-plan other run speeds rows numbers
+  unfolding shiftCall
+  same-host-shift run speeds rows numbers = rw (both, same-shift (planOf plan) table (planOf other-plan) other same (runOf run) speeds rows numbers) refl
 
   pub same-host-outcome : (run : List ℕ) (position : ℕ) → outcomeCall plan run position ≡ outcomeCall other-plan run position
   unfolding outcomeCall

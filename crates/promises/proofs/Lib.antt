@@ -22,6 +22,7 @@ pub mod Determined
 pub mod LargestFile
 pub mod Demand3
 pub mod OutcomesKept
+pub mod NightParts
 pub mod NightsOfE
 pub mod FoldedNames
 pub mod PromiseLimits

@@ -22,6 +22,7 @@ use Rattle.judge.specs.Constraints.{Allotted, FloorRule}
 use Rattle.plan.specs.Report.{Report, orElse, fault}
 use Rattle.dispatch.specs.declared.Run.{Run}
 use Rattle.dispatch.specs.Dues.{carriedOf, endedOf, inItsWindow}
+use Rattle.dispatch.specs.inner.Shares.{settledOf}
 use Rattle.dispatch.specs.Step.{started, slotFault, granted, advanced, slotBy, stepped, slotSound, outcome, isOpen, endFault, endedWith, endBy, toldEnded}
 use Rattle.base.proofs.Logic.{if-true, if-same, neither}
 use Rattle.base.proofs.Choice.{on-zero}
@@ -29,12 +30,12 @@ use Rattle.dispatch.proofs.RowShares.{added-length}
 use Rattle.promises.specs.Night.{SlotCall, EndCall, Call, slot, word, isDone, slotEffect, wordEffect, answerOf, runLeft, given, tells, isSlow, AllowedCall, runAfter, clockAt, had, hadInWindow, told, hadSinceTold, slowed, slowedBefore, hadSinceSlow, Allowed, WithinSpeeds, Kept}
 use Rattle.promises.proofs.FloorTail.{Good}
 use Rattle.promises.proofs.SlotInvariants
-use Rattle.promises.proofs.SlotInvariants.{NoMore, FloorHolds, OnPace, keeps-no-more, keeps-floor, keeps-pace, on-pace-here, on-pace-ended, floor-ended, begins-with-floor, begins-on-pace, more-keeps-floor, more-keeps-pace}
+use Rattle.promises.proofs.SlotInvariants.{NoMore, FloorHolds, OnPace, keeps-no-more, keeps-floor, keeps-pace, on-pace-here, on-pace-reached, floor-reached, begins-with-floor, begins-on-pace, more-keeps-floor, more-keeps-pace}
 use Rattle.plan.proofs.Soundness.{Bounded}
 use Rattle.dispatch.proofs.Alike.{Done, done}
 use Rattle.dispatch.proofs.WordLimits.{refused-word-changes-nothing}
 use Rattle.promises.proofs.SameSlot.{same-slot, same-word}
-use Rattle.promises.proofs.CallAsSlot.{factsOf, settledOf, stateOf, good-plan, slot-of, carried-adds, ended-none}
+use Rattle.promises.proofs.CallAsSlot.{factsOf, stateOf, good-plan, slot-of, carried-adds, ended-none}
 
 -- A job whose end is taken lacks something of its size: its outcome was open.
 open-lacks : (p : Plan) (run : Run) (i : ℕ) → endFault p run i ≡ [] → carriedOf run i ≢ size p i
@@ -225,9 +226,9 @@ module _ (p : Plan) (table : List ℕ) (rules : Bounded p) (allotted : Allotted 
     stays i k e = omega (arith, served .adds i k, after-no-more i k)
 
     -- If no slot was slow, a job whose deadline the clock has reached has its size, or has ended.
-    clear-ended : was .slow ≡ false → (i : ℕ) → i < counted p → deadline p i ≤ was .clock .0 → settledOf p was i ≡ size p i
-    clear-ended e i k o =
-        let w = h .pace e in on-pace-ended (factsOf p table) good (stateOf p was) (w .0) (w .1) (settled-no-more earlier h) i k o
+    clear-reached : was .slow ≡ false → (i : ℕ) → i < counted p → deadline p i ≤ was .clock .0 → settledOf p was i ≡ size p i
+    clear-reached e i k o =
+        let w = h .pace e in on-pace-reached (factsOf p table) good (stateOf p was) (w .0) (w .1) (settled-no-more earlier h) i k o
 
     still-in-time : (i : ℕ) → i < counted p → next .slow ≡ true → slowedBefore p (deadline p i) earlier ≡ false
         → (ltb (c .speed) (p .n .0) && ltb (was .clock .0) (deadline p i)) ≡ false → settledOf p next i ≡ size p i
@@ -236,7 +237,7 @@ module _ (p : Plan) (table : List ℕ) (rules : Bounded p) (allotted : Allotted 
         if-true (was .slow)
         (λ e. stays i k (h .in-time i k e before))
         (λ e. let slow-now : ltb (c .speed) (p .n .0) ≡ true = rw e at s in
-        stays i k (clear-ended e i k (ltb-false (was .clock .0) (deadline p i) (rw slow-now at now))))
+        stays i k (clear-reached e i k (ltb-false (was .clock .0) (deadline p i) (rw slow-now at now))))
 
     holds-done : Holds (slot c ∷ earlier)
     unfolding runAfter advanced had hadInWindow told hadSinceTold slowed slowedBefore hadSinceSlow WithinSpeeds
@@ -422,7 +423,7 @@ module _ (p : Plan) (table : List ℕ) (rules : Bounded p) (allotted : Allotted 
   in-time night h i k o b =
       if-true (runAfter p night .slow)
       (λ s. h .in-time i k s b)
-      (λ s. let w = h .pace s in on-pace-ended (factsOf p table) good (stateOf p (runAfter p night)) (w .0) (w .1) (settled-no-more night h) i k o)
+      (λ s. let w = h .pace s in on-pace-reached (factsOf p table) good (stateOf p (runAfter p night)) (w .0) (w .1) (settled-no-more night h) i k o)
 
   module _ (floor-rule : FloorRule p table) where
     -- The floor guarantee of a run.
@@ -471,7 +472,7 @@ module _ (p : Plan) (table : List ℕ) (rules : Bounded p) (allotted : Allotted 
         (λ t. let carried : carriedOf run i ≡ size p i = rw (h .ends i k ∙ t) at e in
         inr (omega (arith, h .counts i k), omega (arith, h .counts i k, h .in-window i k))) in
         record {
-          essential = λ i k hi o. whole i k (floor-ended (factsOf p table) (stateOf p run) (floor-holds night a) (settled-no-more night h) i k hi o);
+          essential = λ i k hi o. whole i k (floor-reached (factsOf p table) (stateOf p run) (floor-holds night a) (settled-no-more night h) i k hi o);
           others = λ i k o b. whole i k (in-time night h i k o b);
           discarded = h .discards;
           ended = h .told-none;

@@ -26,18 +26,10 @@ use Rattle.plan.proofs.Soundness.{Bounded, rules-parts, sound-parts, sound-boun
 use Rattle.dispatch.proofs.Alike.{done}
 use Rattle.promises.proofs.SameSlot.{same-slot, last-same}
 use Rattle.promises.proofs.NightInvariant.{refused-keeps, refused-tells-none, carried-is-had, kept}
+use Rattle.dispatch.proofs.SlotLimits.{slot-answer}
 use Rattle.dispatch.proofs.WordLimits.{word-leaves}
 use Rattle.promises.proofs.Demand2.{judge-is-exact}
 use Rattle.promises.proofs.Strategy.{same-self}
-
--- The answer of a slot's call is its refusal.
-pub answer-is-fault : (p : Plan) (table : List ℕ) (run : Run) (v : ℕ) (row : List ℕ) → stepped p table run v row .answer ≡ slotFault p table run v row
-unfolding stepped
-answer-is-fault p table run v row = go (slotFault p table run v row)
-  where
-    go : (r : Report) → slotBy r p table run v row .answer ≡ r
-    go [] = refl
-    go (number ∷ rest) = refl
 
 -- What holds unless a job was told ended holds if it was not.
 pub unless-told : {A : Type 0} {b : Bool} → b ≡ false → (b ≡ true) ⊎ A → A
@@ -90,7 +82,7 @@ module _ (p : Plan) (table : List ℕ) (accepted : judged p table ≡ []) where
       let moves = clock-moves (slot c) run in
       if-true (isDone (slotEffect c run .answer))
       (λ e.
-      let fault-free = sym (answer-is-fault (c .plan) (c .table) run (c .speed) (c .row)) ∙ done-empty _ e in
+      let fault-free = sym (slot-answer (c .plan) (c .table) run (c .speed) (c .row)) ∙ done-empty _ e in
       omega (arith, done (c .plan) (c .table) run (c .speed) (c .row) fault-free .before-end, rw e at moves, last-same p table (c .plan) (c .table) (w .0)))
       (λ e. omega (arith, rw e at moves, before))
   call-not-past (word w) run same before = omega (arith, clock-moves (word w) run, before)
@@ -140,7 +132,7 @@ module _ (p : Plan) (table : List ℕ) (accepted : judged p table ≡ []) where
       → c .speed ≤ p .n .0 → counted p ≤ length (c .row) → clockAt p night < lastDeadline p → answerOf (slot c) (runAfter p night) ≡ []
   never-refused night a c same normal room early =
       ap (λ s. s .answer) (sym (same-slot p table (c .plan) (c .table) same (runAfter p night) (c .speed) (c .row)))
-      ∙ answer-is-fault p table (runAfter p night) (c .speed) (c .row)
+      ∙ slot-answer p table (runAfter p night) (c .speed) (c .row)
       ∙ no-fault night a (c .speed) (c .row) normal room early
 
   -- A night of refused and regular calls is allowed.

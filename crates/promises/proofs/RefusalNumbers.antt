@@ -4,13 +4,14 @@ use mathlib.Core.Bool.{Bool, true, false, not, cond, _&&_, _||_, false≢true}
 use mathlib.Core.List.{List, [], _∷_, _++_}
 use Prim.Native.Nat.{ℕ, zero, suc, _+_, _*_}
 use native.Mathlib.Omega.{arith}
+use borrow.Author.Tests.{ne-eqb}
 use lib.Dec.{leb, ltb, eqb}
 use lib.ListN.{length, take, drop, set, replicate}
 use Rattle.base.specs.Sum.{sum}
-use Rattle.plan.specs.Edition.{mostIntervals, places}
+use Rattle.plan.specs.Edition.{mostIntervals, places, mostSpeeds}
 use Rattle.plan.specs.Versions.{newestVersion, countAllowedIn, rowsAllowedIn}
 use Rattle.planfields.specs.Layout.{jobLength, rowLength}
-use Rattle.plan.specs.Refusal.{wrongVersion, wrongExtent, wrongRecordLength, wrongRates, wrongJobCount, wrongNameByte, nameTaken, wrongGrade, wrongJobBounds, tooManyRows, rowWithoutJob, rowWithoutInterval, rowWithoutUnits, rowOutOfOrder, outsideWindow, wrongTotal, overCapacity, belowFloorRule, clockAtEnd, speedAboveNormal, unsound, bufferTooShort, noSuchJob, cannotEnd}
+use Rattle.plan.specs.Refusal.{wrongVersion, wrongExtent, wrongRecordLength, wrongRates, wrongJobCount, wrongNameByte, nameTaken, wrongGrade, wrongJobBounds, tooManyRows, rowWithoutJob, rowWithoutInterval, rowWithoutUnits, rowOutOfOrder, outsideWindow, wrongTotal, overCapacity, belowFloorRule, clockAtEnd, speedAboveNormal, unsound, bufferTooShort, noSuchJob, cannotEnd, tooManySpeeds}
 use Rattle.base.specs.Below
 use Rattle.plan.specs.Rules.{counted, release, size, deadline, isHi, ratesAllowed, nameAllowed, isAbsent, gradeAllowed, windowAllowed, sizeAllowed, namesHold, namesDiffer, gradesHold, boundsHold, rulesHold}
 use Rattle.plan.specs.Boundaries.{insert, boundariesTo, boundary, intervals, lastDeadline}
@@ -27,18 +28,22 @@ use Rattle.planwriter.specs.Writing as writing
 use Rattle.planwriter.specs.Writing.{wrote, withheld, written, writer}
 use Rattle.judge.specs.Constraints.{intervalLength, total, load}
 use Rattle.judge.specs.Verdict.{isOutside, isPair, isHiDeadline, fallsShort, outsideFault, totalFault, capacityFault, floorFault, handFault, constraintFault, judged}
-use Rattle.plan.specs.Report.{Report, orElse, fault, first}
+use Rattle.plan.specs.Report.{Report, orElse, fault, first, doneNumber, numberOf, isOneOf}
 use Rattle.judge.specs.Slack.{refused, leastSlack, unless, slackFigure}
 use Rattle.judge.proofs.LeastSlack.{first-of-all}
 use Rattle.dispatch.specs.Dues.{carriedOf, endedOf}
 use Rattle.dispatch.specs.Step as step
-use Rattle.dispatch.specs.Step.{started, slotSound, slotFault, slotBy, stepped, outcome, isOpen, endFault, endBy, toldEnded}
+use Rattle.promises.specs.Night.{isDone}
+use Rattle.dispatch.specs.Step.{started, slotSound, slotFault, stepped, outcome, isOpen, endFault, toldEnded}
+use Rattle.dispatch.specs.Shift.{rowStart, shiftFault, shifted}
+use Rattle.dispatch.proofs.SlotLimits.{slot-answer}
+use Rattle.dispatch.proofs.ShiftLimits.{shift-answer}
+use Rattle.dispatch.proofs.WordLimits.{word-answer}
 use Rattle.dispatch.specs.declared.Run.{Run}
 use Rattle.lines.specs.Answers as line
 use Rattle.lines.specs.Answers.{refusal, printed}
 use Rattle.lines.specs.Lines.{strayLine}
 use Rattle.promises.proofs.Cases.{planWith, tableOf, planE, tableE, P3, P4}
-use Rattle.plan.specs.Report.{isOneOf}
 use Rattle.fields.proofs.Only.{Only, only-onward, only-cond, only-test}
 
 -- Equal reports have equal numbers.
@@ -298,11 +303,18 @@ slack-numbers p table report e =
     by [] h e = absurd (rw e at (first-of-all p table .reached))
     by (number ∷ place) h e = (number, place, sym (same e), h)
 
+-- A call whose refusals have some numbers, none of which is that of no refusal, has that number exactly if it is done.
+pub number-tells : (numbers : List ℕ) (answer : Report) → isOneOf numbers doneNumber ≡ false
+    → ((number : ℕ) (rest : Report) → answer ≡ number ∷ rest → isOneOf numbers number ≡ true) → eqb (numberOf answer) doneNumber ≡ isDone answer
+number-tells numbers [] none only = refl
+number-tells numbers (number ∷ rest) none only =
+    ne-eqb number doneNumber (λ e. absurd (false≢true (sym none ∙ ap (isOneOf numbers) (sym e) ∙ only number rest refl)))
+
 -- A slot's call is refused only by 19 to 22.
 pub step-numbers : (p : Plan) (table : List ℕ) (run : Run) (v : ℕ) (grants : List ℕ) (number : ℕ) (rest : Report)
     → stepped p table run v grants .answer ≡ number ∷ rest
     → isOneOf (clockAtEnd ∷ speedAboveNormal ∷ unsound ∷ bufferTooShort ∷ []) number ≡ true
-unfolding slotFault stepped
+unfolding slotFault
 step-numbers p table run v grants number rest e =
     is-within numbers
     (within-or numbers (fault (not (slotSound p run)) (unsound ∷ []))
@@ -312,7 +324,7 @@ step-numbers p table run v grants number rest e =
     (within-fault numbers short bufferTooShort [] refl)
     (within-or numbers (fault ends (clockAtEnd ∷ [])) (fault fast (speedAboveNormal ∷ [])) (within-fault numbers ends clockAtEnd [] refl)
     (within-fault numbers fast speedAboveNormal [] refl))))
-    (by-answer (slotFault p table run v grants) ∙ e)
+    (sym (slot-answer p table run v grants) ∙ e)
   where
     numbers : List ℕ
     numbers = clockAtEnd ∷ speedAboveNormal ∷ unsound ∷ bufferTooShort ∷ []
@@ -326,21 +338,41 @@ step-numbers p table run v grants number rest e =
     fast : Bool
     fast = ltb (p .n .0) v
 
-    by-answer : (l : Report) → l ≡ slotBy l p table run v grants .answer
-    by-answer [] = refl
-    by-answer (number ∷ rest) = refl
+-- A shift is refused only by 21, 22 and 27.
+pub shift-numbers : (p : Plan) (table : List ℕ) (run : Run) (speeds rows numbers : List ℕ) (number : ℕ) (rest : Report)
+    → shifted p table run speeds rows numbers .answer ≡ number ∷ rest → isOneOf (unsound ∷ tooManySpeeds ∷ bufferTooShort ∷ []) number ≡ true
+unfolding shiftFault
+shift-numbers p table run speeds rows numbers number rest e =
+    is-within three
+    (within-or three (fault bad (unsound ∷ [])) (orElse (fault many (tooManySpeeds ∷ [])) (fault short (bufferTooShort ∷ [])))
+    (within-fault three bad unsound [] refl)
+    (within-or three (fault many (tooManySpeeds ∷ [])) (fault short (bufferTooShort ∷ [])) (within-fault three many tooManySpeeds [] refl)
+    (within-fault three short bufferTooShort [] refl)))
+    (sym (shift-answer p table run speeds rows numbers) ∙ e)
+  where
+    three : List ℕ
+    three = unsound ∷ tooManySpeeds ∷ bufferTooShort ∷ []
+
+    bad : Bool
+    bad = not (slotSound p run)
+
+    many : Bool
+    many = ltb mostSpeeds (length speeds)
+
+    short : Bool
+    short = ltb (length table) places || ltb (length rows) (rowStart p (length speeds)) || ltb (length numbers) (length speeds)
 
 -- The word that a job has ended is refused only by 21, 25 and 26.
 pub end-numbers : (p : Plan) (run : Run) (position number : ℕ) (rest : Report) → toldEnded p run position .answer ≡ number ∷ rest
     → isOneOf (unsound ∷ noSuchJob ∷ cannotEnd ∷ []) number ≡ true
-unfolding endFault toldEnded
+unfolding endFault
 end-numbers p run i number rest e =
     is-within numbers
     (within-or numbers (fault bad (unsound ∷ [])) (orElse (fault none (noSuchJob ∷ [])) (fault over (cannotEnd ∷ [])))
     (within-fault numbers bad unsound [] refl)
     (within-or numbers (fault none (noSuchJob ∷ [])) (fault over (cannotEnd ∷ [])) (within-fault numbers none noSuchJob [] refl)
     (within-fault numbers over cannotEnd [] refl)))
-    (by-answer (endFault p run i) ∙ e)
+    (sym (word-answer p run i) ∙ e)
   where
     numbers : List ℕ
     numbers = unsound ∷ noSuchJob ∷ cannotEnd ∷ []
@@ -353,10 +385,6 @@ end-numbers p run i number rest e =
 
     over : Bool
     over = ltb (run .clock .0) (release p i) || not (isOpen (outcome p run i))
-
-    by-answer : (l : Report) → l ≡ endBy l run i .answer
-    by-answer [] = refl
-    by-answer (number ∷ rest) = refl
 
 -- An outcome is refused only by 21.
 pub outcome-numbers : (p : Plan) (run : Run) (position number : ℕ) → outcome p run position ≡ step.refused number → number ≡ unsound

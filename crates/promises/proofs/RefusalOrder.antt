@@ -11,10 +11,10 @@ use Rattle.base.specs.Sum.{sum}
 use Rattle.base.specs.Below
 use Rattle.plan.specs.Edition.{mostJobs, mostRows, mostRate, places}
 use Rattle.plan.specs.Versions.{newestVersion}
-use Rattle.plan.specs.Refusal.{wrongVersion, wrongExtent, wrongRecordLength, wrongRates, wrongJobCount, wrongNameByte, nameTaken, wrongGrade, wrongJobBounds, tooManyRows, rowWithoutJob, rowWithoutInterval, rowWithoutUnits, rowOutOfOrder, outsideWindow, wrongTotal, overCapacity, belowFloorRule, clockAtEnd, speedAboveNormal, unsound, bufferTooShort, noSuchJob, cannotEnd}
+use Rattle.plan.specs.Refusal.{wrongVersion, wrongExtent, wrongRecordLength, wrongRates, wrongJobCount, wrongNameByte, nameTaken, wrongGrade, wrongJobBounds, tooManyRows, rowWithoutJob, rowWithoutInterval, rowWithoutUnits, rowOutOfOrder, outsideWindow, wrongTotal, overCapacity, belowFloorRule, clockAtEnd, speedAboveNormal, unsound, bufferTooShort, noSuchJob, cannotEnd, tooManySpeeds}
 use Rattle.plan.specs.Report.{Report, doneNumber, first}
 use Rattle.plan.specs.Rules.{lo, hi, noPlan, nameAllowed, isAbsent, namesHold, namesDiffer, gradesHold, boundsHold, rulesHold}
-use Rattle.plan.specs.Boundaries.{insert, boundariesTo}
+use Rattle.plan.specs.Boundaries.{insert, boundariesTo, come}
 use Rattle.plan.specs.Table.{noStray, sound}
 use Rattle.plan.specs.declared.kinds.Plan.{Plan}
 use Rattle.planfields.specs.Layout.{jobLength, rowLength}
@@ -29,9 +29,11 @@ use Rattle.judge.specs.Verdict.{outsideFault, totalFault, capacityFault, isHiDe
 use Rattle.judge.specs.Slack.{Figure, refused, slackOf, slackFigure}
 use Rattle.dispatch.specs.declared.Run.{Run}
 use Rattle.dispatch.specs.Step as step
-use Rattle.dispatch.specs.Step.{started, noRun, startFrom, startIn, slotSound, slotFault, stepped, outcome, endFault, endedWith, toldEnded}
+use Rattle.dispatch.specs.Step.{started, noRun, startFrom, startIn, slotSound, slotFault, stepped, outcome, endFault, endedWith, toldEnded, granted, added, advanced}
+use Rattle.dispatch.specs.Order.{enqueue, queue, order, serve}
+use Rattle.dispatch.specs.Shift.{slotsFrom, shiftFault, shifted}
 use Rattle.hostmemory.specs.Memory.{planWords, runWords, jobsTo, planIn, planOf, jobsOut, planOut, areMarks, marksHold, runIn, runOf}
-use Rattle.gateway.specs.Calls.{openNumber, judgeCall, startCall, stepCall, outcomeCall, endCall, readCall, writeCall}
+use Rattle.gateway.specs.Calls.{openNumber, judgeCall, startCall, stepCall, outcomeCall, endCall, readCall, writeCall, shiftCall}
 use Rattle.promises.proofs.Cases.{job, padded, planWith, tableOf, capitalMirror, smallMirror, planE, tableE}
 
 -- A file with the version and the right length before its body.
@@ -244,6 +246,25 @@ pub step-order : (stepped planE [] (runE 10 false 7 8) 3 [] .answer ≡ unsound 
 unfolding tableOf Below.every Below.least Below.greatest gradesHold boundsHold slotSound slotFault stepped
 step-order = (refl, refl, refl, refl, refl)
 
+-- The shift: 21 (more is carried than the size) although there are too many speeds; 27 although the table is too short; 22
+-- for the table, even without a speed, for the rows, and for the numbers; then it is done, with 256 speeds and with none.
+pub shift-order : (shifted planE [] (runE 10 false 7 8) (replicate 257 3) [] [] .answer ≡ unsound ∷ [])
+    × (shifted planE [] (runE 10 false 6 8) (replicate 257 3) [] [] .answer ≡ tooManySpeeds ∷ [])
+    × (shifted planE [] (runE 10 false 6 8) [] [] [] .answer ≡ bufferTooShort ∷ [])
+    × (shifted planE tableE (runE 10 false 6 8) (3 ∷ []) (7 ∷ []) (7 ∷ []) .answer ≡ bufferTooShort ∷ [])
+    × (shifted planE tableE (runE 10 false 6 8) (3 ∷ []) (7 ∷ 7 ∷ []) [] .answer ≡ bufferTooShort ∷ [])
+    × (shiftFault planE tableE (runE 10 false 6 8) (replicate 256 3) (replicate 512 7) (replicate 256 7) ≡ [])
+    × (shifted planE tableE (runE 10 false 6 8) [] [] [] .answer ≡ [])
+unfolding tableOf Below.every Below.least Below.greatest gradesHold boundsHold slotSound slotsFrom shiftFault shifted
+shift-order = (refl, refl, refl, refl, refl, refl, refl)
+
+-- A shift of plan E from its start at speeds 2, 3 and 1, with one place of rows and numbers too many: the first slot carries
+-- 2 units for the LO job; 3 is above n, so its row stays; the third is slow, and the HI job has its one unit.
+pub shift-of-E : shifted planE tableE (runE 0 false 0 0) (2 ∷ 3 ∷ 1 ∷ []) (replicate 7 9) (replicate 4 5)
+    ≡ record { answer = []; run = runE 2 true 2 1; rows = 2 ∷ 0 ∷ 9 ∷ 9 ∷ 0 ∷ 1 ∷ 9 ∷ []; numbers = 0 ∷ 20 ∷ 0 ∷ 5 ∷ [] }
+unfolding tableOf sum Below.every Below.least Below.greatest gradesHold boundsHold insert boundariesTo come enqueue queue order serve added granted advanced slotSound slotFault stepped slotsFrom shiftFault shifted
+shift-of-E = refl
+
 -- The outcome: 21 although the job has its size (more is carried for another than its size), or
 -- where no job is; met although the job would be discarded and its deadline is reached; discarded
 -- although the deadline is reached; missed at the deadline; and open before it.
@@ -314,6 +335,17 @@ pub host-step-order : (stepCall [] tableE (runWordsOf 4 2 0) 3 [] .number ≡ bu
     × (stepCall wordsOfE [] (runWordsOf 4 0 0) 3 [] .number ≡ bufferTooShort)
 unfolding tableOf Below.every Below.least Below.greatest gradesHold boundsHold slotSound slotFault stepped jobsTo planIn planOf areMarks marksHold runIn runOf stepCall
 host-step-order = (refl, refl, refl, refl, refl, refl)
+
+-- The shift: the same, and 27 before 22 for the table.
+pub host-shift-order : (shiftCall [] tableE (runWordsOf 4 2 0) (replicate 257 3) [] [] .number ≡ bufferTooShort)
+    × (shiftCall wordsOfE tableE (4 ∷ 2 ∷ []) (replicate 257 3) [] [] .number ≡ bufferTooShort)
+    × (shiftCall wordsOfE [] (runWordsOf 4 2 0) (replicate 257 3) [] [] .number ≡ unsound)
+    × (shiftCall wordsOfE [] (runWordsOf 11 0 0) (replicate 257 3) [] [] .number ≡ unsound)
+    × (shiftCall wordsOfE [] (runWordsOf 4 0 0) (replicate 257 3) [] [] .number ≡ tooManySpeeds)
+    × (shiftCall wordsOfE [] (runWordsOf 4 0 0) [] [] [] .number ≡ bufferTooShort)
+    × (shiftCall wordsOfE tableE (runWordsOf 4 0 0) [] [] [] .number ≡ doneNumber)
+unfolding tableOf Below.every Below.least Below.greatest gradesHold boundsHold slotSound slotsFrom shiftFault shifted jobsTo planIn planOf areMarks marksHold runIn runOf shiftCall
+host-shift-order = (refl, refl, refl, refl, refl, refl, refl)
 
 -- The outcome: the same, and 21 for a position without a job.
 pub host-outcome-order : (outcomeCall [] (runWordsOf 4 2 0) 2 ≡ bufferTooShort)

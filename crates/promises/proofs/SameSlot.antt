@@ -16,6 +16,8 @@ use Rattle.plan.specs.declared.kinds.Job.{Job}
 use Rattle.plan.specs.declared.kinds.Plan.{Plan}
 use Rattle.dispatch.specs.declared.Run.{Run}
 use Rattle.dispatch.specs.Step.{started, stepped, outcome, toldEnded}
+use Rattle.dispatch.specs.Shift.{shifted}
+use Rattle.dispatch.proofs.SlotsInTurn.{alike-shift}
 use Rattle.dispatch.proofs.Alike as alike
 use Rattle.dispatch.proofs.Alike.{Alike}
 use Rattle.promises.proofs.Cases.{padded, job, tableOf, capitalMirror, jobsOfE, planE, tableE}
@@ -82,6 +84,10 @@ module _ (p : Plan) (table : List ℕ) (q : Plan) (other : List ℕ) (same : Sam
   -- They get the same answer, run and grants from a slot's call.
   pub same-slot : (run : Run) (v : ℕ) (grants : List ℕ) → stepped p table run v grants ≡ stepped q other run v grants
   same-slot = alike.alike-slot p table q other are-alike
+
+  -- They get the same answer, run, rows and numbers from a shift.
+  pub same-shift : (run : Run) (speeds rows numbers : List ℕ) → shifted p table run speeds rows numbers ≡ shifted q other run speeds rows numbers
+  same-shift = alike-shift p table q other are-alike
 
   -- They get the same answer and run from the word that a job has ended.
   pub same-word : (run : Run) (i : ℕ) → toldEnded p run i ≡ toldEnded q run i

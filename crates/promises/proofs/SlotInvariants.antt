@@ -11,7 +11,7 @@ use Rattle.base.proofs.Choice.{on-parts, on-mono}
 use Rattle.base.specs.Sum.{sum, on}
 use Rattle.base.proofs.SumLaws.{sum-ext, sum-mono, sum-none, sum-add, term-le}
 use Rattle.base.proofs.Logic.{both, if-less, neither}
-use Rattle.promises.proofs.FloorTail.{Facts, Good, GoodFloor, class, before, tail, rises, rises-strictly, before-le, tail-ended, floor-tail}
+use Rattle.promises.proofs.FloorTail.{Facts, Good, GoodFloor, class, before, tail, rises, rises-strictly, before-le, tail-reached, floor-tail}
 
 -- The state of a run: the clock, the slow mark, and the units carried for each job.
 pub record State : Type 0 where
@@ -23,10 +23,6 @@ pub record State : Type 0 where
 abbrev pub inItsWindow : Facts → ℕ → ℕ → Bool
 inItsWindow f t i = leb (f .rel i) t && ltb t (f .dl i)
 
--- Job i is in its window at the clock.
-abbrev pub alive : Facts → State → ℕ → Bool
-alive f s i = inItsWindow f (s .t) i
-
 -- The goal of job i in interval l: its size under the slow mark, otherwise its allotments up
 -- to and including l but at most its size.
 abbrev pub goal : Facts → ℕ → Bool → ℕ → ℕ
@@ -35,7 +31,7 @@ goal f l false i = min (f .size i) (before f i (suc l))
 
 -- The claim of job i on a slot in interval l, by the slow mark.
 abbrev pub claim : Facts → State → ℕ → Bool → ℕ → ℕ
-claim f s l slow i = on (alive f s i && (f .hi i || not slow)) (goal f l slow i - s .carried i)
+claim f s l slow i = on (inItsWindow f (s .t) i && (f .hi i || not slow)) (goal f l slow i - s .carried i)
 
 -- A slot in interval l at speed v: the next state, and the grants, which are at most the claims and
 -- serve the HI jobs with earlier deadlines first.
@@ -73,7 +69,7 @@ one-less d D t =
 
 -- A claim is at most what is left of the size.
 claim-left : (f : Facts) (s : State) (l : ℕ) (slow : Bool) (i : ℕ) → claim f s l slow i ≤ f .size i - s .carried i
-claim-left f s l slow i = go (alive f s i && (f .hi i || not slow)) slow
+claim-left f s l slow i = go (inItsWindow f (s .t) i && (f .hi i || not slow)) slow
   where
     go : (a b : Bool) → on a (goal f l b i - s .carried i) ≤ f .size i - s .carried i
     go true true = omega arith
@@ -100,14 +96,14 @@ module _ (f : Facts) (good : Good f) (s s′ : State) (l v : ℕ) (g : ℕ → �
       (λ m. omega (arith, not-begun i e m))
       (λ m. if-less (s .t) (f .dl i)
       (λ o. rw (le-leb (f .rel i) (s .t) m, lt-ltb (s .t) (f .dl i) o, h) (served (s′ .slow)))
-      (λ o. omega (arith, ended o)))
+      (λ o. omega (arith, reached o)))
     where
       served : (slow : Bool) → f .size i - s .carried i - (goal f l slow i - s .carried i) ≤ tail f (suc l) i
       served true = omega (arith, no-more i e)
       served false = omega (arith, before-le f good i (suc l) e (slot .inside .0))
 
-      ended : f .dl i ≤ s .t → f .size i - s .carried i ≡ 0
-      ended o =
+      reached : f .dl i ≤ s .t → f .size i - s .carried i ≡ 0
+      reached o =
           let term = term-le (λ k. on (class f (s .t) k) (f .size k - s .carried k)) (f .N) i e in
           let no-time : s .t - s .t ≡ 0 = omega arith in
           let nothing : f .d * (s .t - s .t) ≡ 0 = ap (λ m. f .d * m) no-time ∙ mul-zero (f .d) in
@@ -210,8 +206,8 @@ module _ (f : Facts) (s s′ : State) (clock : s′ .t ≡ s .t) (more : (i : �
       }
 
 -- By the floor guarantee, every HI job whose deadline the clock has reached has its size.
-pub floor-ended : (f : Facts) (s : State) → FloorHolds f s → NoMore f s → (i : ℕ) → i < f .N → f .hi i ≡ true → f .dl i ≤ s .t → s .carried i ≡ f .size i
-floor-ended f s floor no-more i h is-hi o =
+pub floor-reached : (f : Facts) (s : State) → FloorHolds f s → NoMore f s → (i : ℕ) → i < f .N → f .hi i ≡ true → f .dl i ≤ s .t → s .carried i ≡ f .size i
+floor-reached f s floor no-more i h is-hi o =
     let no-time : f .dl i - s .t ≡ 0 = omega arith in
     let nothing : f .d * (f .dl i - s .t) ≡ 0 = ap (λ m. f .d * m) no-time ∙ mul-zero (f .d) in
     let term = term-le (λ k. on (class f (f .dl i) k) (f .size k - s .carried k)) (f .N) i h in
@@ -267,17 +263,17 @@ module _ (f : Facts) (good : Good f) (s : State) where
       not-far at = if-less (suc l) here (λ o. absurd (omega (arith, rises-strictly f good (suc l) here o (omega arith)))) (λ o. o)
 
   -- On pace, every job whose deadline the clock has reached has its size.
-  pub on-pace-ended : (l : ℕ) → OnPace f s l → NoMore f s → (i : ℕ) → i < f .N → f .dl i ≤ s .t → s .carried i ≡ f .size i
-  on-pace-ended l pace no-more i h o =
+  pub on-pace-reached : (l : ℕ) → OnPace f s l → NoMore f s → (i : ℕ) → i < f .N → f .dl i ≤ s .t → s .carried i ≡ f .size i
+  on-pace-reached l pace no-more i h o =
       if-less l (good .ends i h .0)
       (λ m.
       let late : f .b (suc l) ≤ f .dl i = omega (arith, rises f good (suc l) (good .ends i h .0) m (good .ends i h .1), good .ends i h .2) in
       let at : s .t ≡ f .b (suc l) = omega (arith, pace .inside .2) in
-      omega (arith, all-there l pace at i h, tail-ended f good i (suc l) h (pace .inside .0) (omega arith), no-more i h))
+      omega (arith, all-there l pace at i h, tail-reached f good i (suc l) h (pace .inside .0) (omega arith), no-more i h))
       (λ m.
       let early : f .dl i ≤ f .b l
       = omega (arith, rises f good (good .ends i h .0) l m (omega (arith, pace .inside .0)), good .ends i h .2) in
-      omega (arith, pace .least i h, tail-ended f good i l h (omega (arith, pace .inside .0)) early, no-more i h))
+      omega (arith, pace .least i h, tail-reached f good i l h (omega (arith, pace .inside .0)) early, no-more i h))
 
   -- A run begins with the floor guarantee, and on pace.
   pub begins-with-floor : GoodFloor f → s .t ≡ f .b 0 → ((i : ℕ) → i < f .N → s .carried i ≡ 0) → FloorHolds f s

@@ -2,7 +2,7 @@
 --
 -- What they rest on: `reader` (planfile/specs/Reader), `writer` (planwriter/specs/Writing),
 -- `judged` and `Figure2` (judge/specs), `stepped`, `order`, `serve` and `due` (dispatch/specs),
--- `Allowed` and `Kept` (Night, beside this file).
+-- `Kept` (Night, beside this file), `callsOf` and `AllowedParts` (NightParts).
 use mathlib.Core.Path.{_≡_}
 use mathlib.Core.Bool.{true}
 use mathlib.Core.List.{List, [], _++_}
@@ -30,10 +30,11 @@ use Rattle.judge.specs.Answers.{Judges, Measures}
 use Rattle.dispatch.specs.Dues.{slowAfter, due}
 use Rattle.dispatch.specs.Order.{order, serve}
 use Rattle.dispatch.specs.Step.{stepped}
-use Rattle.dispatch.specs.Answers.{Starts, Steps, Ends, Tells}
+use Rattle.dispatch.specs.Answers.{Starts, Steps, Shifts, Ends, Tells}
 use Rattle.dispatch.specs.declared.Run.{Run}
 use Rattle.dispatch.specs.declared.step.Stepped.{Stepped}
-use Rattle.promises.specs.Night.{Call, Allowed, Kept}
+use Rattle.promises.specs.Night.{runAfter, Kept}
+use Rattle.promises.specs.NightParts.{Part, AllowedParts, callsOf, runAfterParts}
 
 -- Exactly one result meets a promise.
 abbrev pub ExactlyOne : {A : Type 0} → (A → Type 0) → Type 0
@@ -51,6 +52,8 @@ pub record EveryCallIsDetermined : Type 0 where
   pub start : (p : Plan) (table : Table) → ExactlyOne (Starts p table)
   pub step : (p : Plan) (table : Table) (run : Run) (v : Speed) (grants : Row)
       → ExactlyOne {A = Stepped × Row} (λ r. Steps p table run v grants (r .0) (r .1))
+  pub shift : (p : Plan) (table : Table) (run : Run) (speeds : List ℕ) (rows : Row) (numbers : List ℕ)
+      → ExactlyOne {A = Stepped × Row × List ℕ} (λ r. Shifts p table run speeds rows numbers (r .0) (r .1) (r .2))
   pub outcome : (p : Plan) (run : Run) (position : Position) → ExactlyOne (Ends p run position)
   pub telling : (p : Plan) (run : Run) (position : Position) → ExactlyOne (Tells p run position)
   pub importing : (text : Bytes) → ExactlyOne (Imports text)
@@ -85,11 +88,13 @@ pub record VerdictFileAndSlotAreExact : Type 0 where
       ≡ serve (due p table run (slowAfter p run v)) v (order p run (slowAfter p run v))
       (replicate (counted p) 0 ++ drop (counted p) row)
 
--- Demand 3. Whatever an accepted plan's night brings at speeds from floor to normal, refused
--- calls included, what was promised to depositors is kept.
+-- Demand 3. Whatever an accepted plan's night brings at speeds from floor to normal, in slots, shifts and words of
+-- the host, refused ones included, what was promised to depositors is kept in its calls; and these leave the run that its
+-- parts leave.
 abbrev pub WhatIsPromisedIsKept : Type 0
 WhatIsPromisedIsKept =
-    (p : Plan) (table : Table) → judged p table ≡ [] → (night : List Call) → Allowed p table night → Kept p night
+    (p : Plan) (table : Table) → judged p table ≡ [] → (night : List Part) → AllowedParts p table night
+    → Kept p (callsOf p night) × (runAfter p (callsOf p night) ≡ runAfterParts p night)
 
 -- All three.
 pub record AllDemands : Type 0 where

@@ -7,8 +7,8 @@ use mathlib.Core.List.{List, [], _∷_}
 use Prim.Native.Nat.{ℕ, _≤_, _<_}
 use lib.ListN.{length, take}
 use Rattle.plan.specs.Kinds.{Bytes, Row, Table}
-use Rattle.plan.specs.Edition.{nameBytes, mostJobs, mostIntervals, mostRate, mostDeadline, mostSize, places}
-use Rattle.plan.specs.Refusal.{clockAtEnd, speedAboveNormal, unsound, bufferTooShort, noSuchJob, cannotEnd}
+use Rattle.plan.specs.Edition.{nameBytes, mostJobs, mostIntervals, mostRate, mostDeadline, mostSize, places, mostSpeeds}
+use Rattle.plan.specs.Refusal.{clockAtEnd, speedAboveNormal, unsound, bufferTooShort, noSuchJob, cannotEnd, tooManySpeeds}
 use Rattle.plan.specs.Report.{Report}
 use Rattle.plan.specs.Rules.{lo, hi, byteOf, counted, jobOf, name, release, size, deadline}
 use Rattle.plan.specs.Boundaries.{intervals, firstRelease, lastDeadline}
@@ -17,6 +17,7 @@ use Rattle.plan.specs.declared.kinds.Plan.{Plan}
 use Rattle.planwriter.specs.Writing as writing
 use Rattle.planwriter.specs.Writing.{written}
 use Rattle.dispatch.specs.declared.Run.{Run}
+use Rattle.dispatch.specs.Shift.{rowStart}
 use Rattle.dispatch.specs.Dues.{carriedOf, endedOf}
 use Rattle.dispatch.specs.Step as step
 use Rattle.dispatch.specs.Step.{Ending}
@@ -93,6 +94,19 @@ pub data StepDecided (p : Plan) (table : List ℕ) (run : Run) (v : ℕ) (grants
   at-end : SoundRun p run → Room p table grants → run .clock .0 ≡ lastDeadline p → StepDecided p table run v grants (clockAtEnd ∷ [])
   too-fast : SoundRun p run → Room p table grants → run .clock .0 ≢ lastDeadline p → p .n .0 < v → StepDecided p table run v grants (speedAboveNormal ∷ [])
   slot-done : SoundRun p run → Room p table grants → run .clock .0 ≢ lastDeadline p → v ≤ p .n .0 → StepDecided p table run v grants []
+
+-- Table, rows and numbers have all the places that a shift needs.
+abbrev pub ShiftRoom : (p : Plan) (table : Table) (speeds : List ℕ) (rows : Row) (numbers : List ℕ) → Type 0
+ShiftRoom p table speeds rows numbers = (places ≤ length table) × (rowStart p (length speeds) ≤ length rows) × (length speeds ≤ length numbers)
+
+-- What an answer of the shift says, by case in its order.
+pub data ShiftDecided (p : Plan) (table : List ℕ) (run : Run) (speeds rows numbers : List ℕ) : Report → Type 0 where
+  shift-unsound : (SoundRun p run → ⊥) → ShiftDecided p table run speeds rows numbers (unsound ∷ [])
+  too-many : SoundRun p run → mostSpeeds < length speeds → ShiftDecided p table run speeds rows numbers (tooManySpeeds ∷ [])
+  shift-short : SoundRun p run → length speeds ≤ mostSpeeds
+      → (length table < places) ⊎ (length rows < rowStart p (length speeds)) ⊎ (length numbers < length speeds)
+      → ShiftDecided p table run speeds rows numbers (bufferTooShort ∷ [])
+  shift-done : SoundRun p run → length speeds ≤ mostSpeeds → ShiftRoom p table speeds rows numbers → ShiftDecided p table run speeds rows numbers []
 
 -- Plan and run are sound, and a job has the position: an outcome is not refused.
 abbrev pub Asked : (p : Plan) (run : Run) (i : ℕ) → Type 0

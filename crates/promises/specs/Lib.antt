@@ -1,4 +1,5 @@
 pub mod Night
+pub mod NightParts
 pub mod Demands
 pub mod HostNight
 pub mod Grounds

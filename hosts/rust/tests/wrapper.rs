@@ -1,7 +1,7 @@
 //! The wrapper as a project of one's own sees it: what goes in comes out, and what no plan, run or job list can be is refused in words.
 
 use gateway::{export_jobs, import_jobs, index, refusal, Grade, Job, Outcome, Plan, Refusal, Run};
-use gateway::{LONGEST_LIST, MOST_JOBS, PLAN_WORDS, RUN_WORDS, TABLE_PLACES};
+use gateway::{LONGEST_LIST, MOST_JOBS, MOST_SPEEDS, PLAN_WORDS, RUN_WORDS, TABLE_PLACES};
 
 const OTHER: usize = 0;
 const ESSENTIAL: usize = 1;
@@ -179,6 +179,105 @@ fn units_that_did_not_go_are_granted_again() {
     while run.step(&plan, 1).is_ok() {}
     assert_eq!(run.outcome(&plan, ESSENTIAL), Ok(Outcome::Met));
     assert!(run.is_below_floor());
+}
+
+/// What stands in rows and numbers before a shift.
+const ROW_MARK: u32 = 77_777;
+const NUMBER_MARK: u8 = 99;
+
+/// A shift into rows and numbers with this many places more than it needs, and what it leaves there.
+fn shift_with_spare(run: &mut Run, plan: &Plan, speeds: &[u16], spare: usize) -> (Result<(), Refusal>, Vec<u32>, Vec<u8>) {
+    let mut rows = vec![ROW_MARK; speeds.len() * plan.job_count() + spare];
+    let mut numbers = vec![NUMBER_MARK; speeds.len() + spare];
+    (run.shift(plan, speeds, &mut rows, &mut numbers), rows, numbers)
+}
+
+/// Refused speeds at the beginning, in the middle, and after the last deadline.
+#[test]
+fn a_shift_is_its_slots_one_after_the_other() {
+    let plan = plan_e();
+    let (mut run, mut single) = (plan.start().unwrap(), plan.start().unwrap());
+    let speeds = [3, 2, 2, u16::MAX, 2, 1, 1, 0, 2, 3, 1, 1, 1, 2, 3];
+    let (shifted, rows, numbers) = shift_with_spare(&mut run, &plan, &speeds, 0);
+    assert_eq!(shifted, Ok(()));
+    for (k, &speed) in speeds.iter().enumerate() {
+        let granted = if numbers[k] == refusal::DONE { Ok(rows[plan.row(k)].to_vec()) } else { Err(numbers[k]) };
+        assert_eq!(single.step(&plan, speed).map_err(|refusal| refusal.number()), granted, "speed {k}");
+        assert!(granted.is_ok() || rows[plan.row(k)] == [ROW_MARK; 2], "speed {k}");
+    }
+    assert_eq!(run, single);
+    assert_eq!((numbers[3], numbers[13], numbers[14]), (refusal::SPEED_ABOVE_NORMAL, refusal::CLOCK_AT_END, refusal::CLOCK_AT_END));
+}
+
+#[test]
+fn a_shift_writes_its_rows_and_numbers_and_nothing_beyond() {
+    let plan = plan_e();
+    let mut run = plan.start().unwrap();
+    let (shifted, rows, numbers) = shift_with_spare(&mut run, &plan, &[2, 3, 2], 2);
+    assert_eq!(shifted, Ok(()));
+    assert_eq!(rows, [2, 0, ROW_MARK, ROW_MARK, 0, 2, ROW_MARK, ROW_MARK]);
+    assert_eq!(numbers, [refusal::DONE, refusal::SPEED_ABOVE_NORMAL, refusal::DONE, NUMBER_MARK, NUMBER_MARK]);
+    assert_eq!((run.clock(), run.carried(OTHER), run.carried(ESSENTIAL)), (2, Some(2), Some(2)));
+    assert_eq!(refusal::words(numbers[0]), "done");
+}
+
+#[test]
+fn a_shift_without_speeds_is_done() {
+    let plan = plan_e();
+    let mut run = plan.start().unwrap();
+    assert_eq!(run.shift(&plan, &[], &mut [], &mut []), Ok(()));
+    assert_eq!(run, plan.start().unwrap());
+}
+
+#[test]
+fn a_shift_has_no_more_speeds_than_it_may() {
+    let plan = plan_e();
+    let mut run = plan.start().unwrap();
+    let (refused, rows, numbers) = shift_with_spare(&mut run, &plan, &[2; MOST_SPEEDS + 1], 0);
+    assert_eq!(refused.unwrap_err().to_string(), "refused 27: a shift has too many speeds");
+    assert_eq!(run, plan.start().unwrap());
+    assert!(rows.iter().all(|&units| units == ROW_MARK) && numbers.iter().all(|&number| number == NUMBER_MARK));
+    let (shifted, _, numbers) = shift_with_spare(&mut run, &plan, &[2; MOST_SPEEDS], 0);
+    assert_eq!(shifted, Ok(()));
+    assert_eq!((run.clock(), numbers[MOST_SPEEDS - 1]), (10, refusal::CLOCK_AT_END));
+}
+
+#[test]
+fn a_shift_with_too_little_room_changes_nothing() {
+    let plan = plan_e();
+    let before = plan.start().unwrap();
+    for (places, count) in [(5, 3), (6, 2), (0, 3), (6, 0)] {
+        let (mut run, mut rows, mut numbers) = (before.clone(), vec![ROW_MARK; places], vec![NUMBER_MARK; count]);
+        let refused = run.shift(&plan, &[2; 3], &mut rows, &mut numbers).unwrap_err();
+        assert_eq!((refused.number(), refused.offset()), (refusal::BUFFER_TOO_SHORT, None));
+        assert_eq!((run, rows, numbers), (before.clone(), vec![ROW_MARK; places], vec![NUMBER_MARK; count]));
+    }
+}
+
+/// 21 comes before 27, and 27 before 22.
+#[test]
+fn a_shift_is_refused_for_the_first_of_its_grounds() {
+    let plan = plan_e();
+    let run = plan.start().unwrap();
+    let refused = |run: &Run| run.clone().shift(&plan, &[2; MOST_SPEEDS + 1], &mut [], &mut []).unwrap_err().number();
+    assert_eq!(refused(&run), refusal::TOO_MANY_SPEEDS);
+    let mut words = *run.words();
+    words[index::CARRIED] = 7;
+    let unsound = Run::from_words(&words).unwrap();
+    assert_eq!(refused(&unsound), refusal::UNSOUND);
+    assert_eq!(unsound.clone().shift(&plan, &[], &mut [], &mut []).unwrap_err().number(), refusal::UNSOUND);
+}
+
+/// The same night as in the slots of `what_an_ended_job_leaves_goes_to_the_others`: up to the word, the word, and the rest.
+#[test]
+fn a_word_stands_between_two_shifts() {
+    let plan = plan_e();
+    let mut run = plan.start().unwrap();
+    assert_eq!(shift_with_spare(&mut run, &plan, &[2, 2], 0).1, [2, 0, 0, 2]);
+    assert_eq!(run.end(&plan, ESSENTIAL), Ok(()));
+    run = Run::from_words(run.words()).unwrap();
+    assert_eq!(shift_with_spare(&mut run, &plan, &[2, 2, 2], 0).1, [2, 0, 2, 0, 0, 0]);
+    assert_eq!([OTHER, ESSENTIAL].map(|job| run.outcome(&plan, job)), [Ok(Outcome::Met), Ok(Outcome::Ended)]);
 }
 
 #[test]

@@ -39,6 +39,16 @@ pub struct Word {
     pub position: u64,
 }
 
+/// The speeds of a shift, and how long the outputs are that are lent with it.
+#[derive(Clone, Debug, PartialEq, Eq)]
+pub struct ShiftInput {
+    pub speeds: Vec<u16>,
+    /// Places for the grant rows of all speeds.
+    pub rows: usize,
+    /// Places for the numbers of all speeds.
+    pub numbers: usize,
+}
+
 /// A job list in hand, and how many bytes are lent for its text.
 #[derive(Clone, Debug, PartialEq, Eq)]
 pub struct ListInput {

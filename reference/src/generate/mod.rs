@@ -19,6 +19,7 @@ mod prng;
 mod refused;
 mod sheet;
 mod sheet_damage;
+mod shifts;
 mod speeds;
 mod words;
 
@@ -36,7 +37,7 @@ pub use fixed_files::fixed_files;
 pub use fixed_hands::fixed_hands;
 pub use fixed_lists::fixed_lists;
 pub use fixed_texts::fixed_texts;
-pub use input::{FileInput, HandInput, Lent, ListInput, Word};
+pub use input::{FileInput, HandInput, Lent, ListInput, ShiftInput, Word};
 pub use nights::night;
 pub use prng::{Prng, Purpose};
 
@@ -96,6 +97,13 @@ pub fn hand(seed: u64, number: u64) -> HandInput {
 pub fn words(seed: u64, number: u64, plan: &Plan, run: &Run, speeds: &[u16]) -> Vec<Word> {
     let prng = &mut Prng::new(seed, Purpose::Words, number);
     words::words(prng, plan, run.clock, speeds.len())
+}
+
+/// A shift that goes on from a run, drawn from the seed and the number of the input that the run
+/// comes from. Plan and run may be ones that no call takes.
+pub fn shift_input(seed: u64, number: u64, plan: &Plan, run: &Run) -> ShiftInput {
+    let prng = &mut Prng::new(seed, Purpose::Shift, number);
+    shifts::shift(prng, plan, run.clock)
 }
 
 /// A text for import, right or wrong, drawn from the seed and its own number alone.

@@ -14,6 +14,7 @@ pub enum Purpose {
     QuotedList,
     Ended,
     Words,
+    Shift,
 }
 
 /// The state of one source.

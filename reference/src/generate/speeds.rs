@@ -18,6 +18,11 @@ pub fn speeds(prng: &mut Prng, plan: &Plan) -> Vec<u16> {
         _ if span + 3 > MOST_SPEEDS => prng.between(1, LONG_RUN),
         _ => span + prng.below(4),
     };
+    speeds_of(prng, plan, count)
+}
+
+/// So many speeds of one style; in most styles they change somewhere. The rates in hand may be any.
+pub fn speeds_of(prng: &mut Prng, plan: &Plan, count: u64) -> Vec<u16> {
     let change = prng.between(0, count);
     let style = prng.below(10);
     (0..count)
@@ -31,10 +36,10 @@ fn speed(prng: &mut Prng, plan: &Plan, style: u64, changed: bool) -> u16 {
     let speed = match (style, changed) {
         (0 | 1, _) => n,
         (2, true) => d,
-        (3, true) => prng.between(d, n),
+        (3, true) => prng.between(d.min(n), n),
         (4, true) => prng.between(0, n),
-        (5, true) => prng.between(0, d - 1),
-        (6, _) => prng.between(d, n),
+        (5, true) => prng.between(0, d.saturating_sub(1)),
+        (6, _) => prng.between(d.min(n), n),
         (7, _) => prng.between(0, n + 1),
         (8, true) => prng.pick(&[n, n, d, n + 1, u64::from(u16::MAX)]),
         (9, true) => 0,

@@ -1,24 +1,11 @@
--- `dispatch::claims::due_at` meets its contract: its goal is its size or what its row sums to, less what is carried.
-use mathlib.Core.Path.{_≡_, refl, ap}
-use mathlib.Core.List.{List}
-use Prim.Native.Nat.{ℕ, _+_, _*_}
-use native.Mathlib.Nat.{one-mul}
+-- `dispatch::claims::due_at` meets its contract: its goal is the column's entry, or the lesser of it and what its row sums to, less what is carried.
+use mathlib.Core.Path.{refl, ap}
 use native.Mathlib.Omega.{arith}
 use borrow.Author.Needs.{needs}
-use lib.ListN.{getD}
-use Rattle.base.specs.Sum.{sum, strided}
-use Rattle.base.proofs.SumLaws.{sum-ext}
-use Rattle.plan.specs.Edition.{mostIntervals}
-use Rattle.plan.specs.Table.{allotment}
 use Rattle.plan.specs.declared.kinds.Units.{Units}
+use Rattle.dispatch.proofs.Sharing.{allotted}
 use Rattle.dispatch.proofs.claims.due_at.Statement.{statement}
 use Rattle.dispatch.proofs.claims.due_at.Tie as tie
-
--- The sum of the first numbers of a row is the sum of the allotments in as many intervals.
-allotted : (table : List ℕ) (i spans : ℕ) → sum (strided table (mostIntervals * i) 1) spans ≡ sum (allotment mostIntervals table i) spans
-allotted table i spans =
-    sum-ext (strided table (mostIntervals * i) 1) (allotment mostIntervals table i) spans
-    (λ k l. ap (λ x. getD table (mostIntervals * i + x) 0) (one-mul k))
 
 mul-bounded : tie.Need-mul-bounded
 mul-bounded c = search needs
@@ -44,10 +31,10 @@ left-of-requires c κs = search needs
 returns : tie.Need-returns
 returns c =
     let had = c .before .before in
-    let size = had .before .before in
+    let most = had .before .before in
     let is = ap (λ (u : Units). u .0) (c .left-of .ensures) in
-    let by-size = ap (λ (u : Units). u .0) (size .bounded .ensures .0) in
-    (rw (is, had .as-units .ensures, by-size, c .before .if1 .taken) refl, omega (arith, is, size .bounded .ensures .1))
+    let by-most = ap (λ (u : Units). u .0) (most .bounded .ensures .0) in
+    (rw (is, had .as-units .ensures, by-most, c .before .if1 .taken) refl, omega (arith, is, most .bounded .ensures .1))
 
 mul-sum-of : tie.Need-mul-sum-of
 mul-sum-of c = search needs
@@ -65,15 +52,15 @@ returns-2 : tie.Need-returns-2
 returns-2 c =
     let at-lesser-of = c .before in
     let at-sum-of = at-lesser-of .before in
-    let slow = at-sum-of .before in
-    let had = slow .before in
-    let size = had .before .before in
-    let entry = size .before .before .before .args in
+    let added = at-sum-of .before in
+    let had = added .before in
+    let most = had .before .before in
+    let entry = most .before .before .before .args in
     let is = ap (λ (u : Units). u .0) (c .left-of2 .ensures) in
     let least = ap (λ (u : Units). u .0) (at-lesser-of .lesser-of .ensures) in
-    let by-size = ap (λ (u : Units). u .0) (size .bounded .ensures .0) in (
-      rw (is, least, had .as-units .ensures, by-size, slow .if1 .left, at-sum-of .sum-of .ensures, allotted (entry .table .now) (entry .i) (entry .spans)) refl,
-      omega (arith, is, least, size .bounded .ensures .1),
+    let by-most = ap (λ (u : Units). u .0) (most .bounded .ensures .0) in (
+      rw (is, least, had .as-units .ensures, by-most, added .if1 .left, at-sum-of .sum-of .ensures, allotted (entry .table .now) (entry .i) (entry .spans)) refl,
+      omega (arith, is, least, most .bounded .ensures .1),
     )
 
 pub due-at-spec : {M : Type 1} → statement M

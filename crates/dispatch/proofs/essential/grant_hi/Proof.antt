@@ -22,15 +22,15 @@ use Rattle.dispatch.proofs.essential.grant_hi.Statement.{statement}
 use Rattle.dispatch.proofs.essential.grant_hi.Tie as tie
 
 abbrev Inv-loop : tie.InvT-loop
-Inv-loop claims₀ jobs v clock spans grades releases sizes deadlines carried table grants₀ total₀ i₀ claims grants total i =
+Inv-loop claims₀ jobs v clock whole spans grades releases goals deadlines carried table grants₀ total₀ i₀ claims grants total i =
     (i ≤ jobs)
-    × (grants ≡ filled (λ k. on (classIn true (clock .0) grades releases deadlines k) (dueIn false spans sizes carried table k)) i grants₀)
-    × (total .0 ≡ sum (λ k. on (classIn true (clock .0) grades releases deadlines k) (dueIn false spans sizes carried table k)) i)
+    × (grants ≡ filled (λ k. on (classIn true (clock .0) grades releases deadlines k) (dueIn whole spans goals carried table k)) i grants₀)
+    × (total .0 ≡ sum (λ k. on (classIn true (clock .0) grades releases deadlines k) (dueIn whole spans goals carried table k)) i)
     × (total .0 ≤ i * unknown)
-    × ((k : ℕ) → KnownDue claims₀ (dueIn false spans sizes carried table) k → KnownDue claims (dueIn false spans sizes carried table) k)
+    × ((k : ℕ) → KnownDue claims₀ (dueIn whole spans goals carried table) k → KnownDue claims (dueIn whole spans goals carried table) k)
 
 abbrev μ-loop : tie.MeasureT-loop
-μ-loop claims₀ jobs v clock spans grades releases sizes deadlines carried table grants₀ total₀ i₀ claims grants total i =
+μ-loop claims₀ jobs v clock whole spans grades releases goals deadlines carried table grants₀ total₀ i₀ claims grants total i =
     jobs - i
 
 loop-holds : tie.Need-loop-holds Inv-loop μ-loop
@@ -68,7 +68,7 @@ module _ (c : tie.After-is-of Inv-loop μ-loop) where
   class = classIn true (entry .args .clock .0) (entry .args .grades .now) (entry .args .releases .now) (entry .args .deadlines .now)
 
   abbrev dues : ℕ → ℕ
-  dues = dueIn false (entry .args .spans) (entry .args .sizes .now) (entry .args .carried .now) (entry .args .table .now)
+  dues = dueIn (entry .args .whole) (entry .args .spans) (entry .args .goals .now) (entry .args .carried .now) (entry .args .table .now)
 
 claim-at-requires : tie.Need-claim-at-requires Inv-loop μ-loop
 claim-at-requires c κs =
@@ -130,8 +130,8 @@ slice-write-grants c =
       filled-length (λ k. on (class here k) (dues here k)) (at-loop here .loop .i) (entry here .args .grants .now),
     )
 
-add-t28 : tie.Need-add-t28 Inv-loop μ-loop
-add-t28 c =
+add-t29 : tie.Need-add-t29 Inv-loop μ-loop
+add-t29 c =
     let joined = c .before .before .before in
     omega (arith, granted joined .1, at-loop (hand joined) .loop .inv .3, below (turn (hand joined)))
 
@@ -188,7 +188,7 @@ grant-hi-spec =
     cast-grants
     mul-grants
     slice-write-grants
-    add-t28
+    add-t29
     add-i
     loop-less
     loop-again

@@ -1,7 +1,7 @@
 -- `dispatch::essential::serve_hi` meets its contract: what is due to the HI jobs, if it fits, is what they are served; if
 -- it does not, or was not looked at, they are served in turns.
 use mathlib.Core.Path.{_≡_, refl, sym, _∙_, ap}
-use mathlib.Core.Bool.{Bool, true, false, true≢false, not, _&&_}
+use mathlib.Core.Bool.{Bool, true}
 use mathlib.Core.List.{List}
 use mathlib.Core.Logic.{⊎-elim}
 use Prim.Native.Nat.{ℕ, _-_, _%_, _≤_, _<_}
@@ -13,19 +13,11 @@ use Rattle.base.specs.Sum.{sum, on}
 use Rattle.base.proofs.FillLaws.{filled-at, filled-length}
 use Rattle.plan.specs.Edition.{mostJobs}
 use Rattle.dispatch.specs.Order.{queue, serve}
-use Rattle.dispatch.specs.inner.Turns.{classIn, rankIn, dueIn, KnownDue, Granted}
+use Rattle.dispatch.specs.inner.Turns.{classIn, rankIn, dueIn, KnownDue}
 use Rattle.dispatch.proofs.Queues.{serve-length}
 use Rattle.dispatch.proofs.TurnLaws.{granted-served, granted-cleared, same-known}
 use Rattle.dispatch.proofs.essential.serve_hi.Statement.{statement}
 use Rattle.dispatch.proofs.essential.serve_hi.Tie as tie
-
--- Where the look is taken the slow mark is clear, and what holds for a clear mark holds for it.
-mark-clear : (slow b : Bool) → (not slow && b) ≡ true → slow ≡ false
-mark-clear true b e = absurd (true≢false (sym e))
-mark-clear false b e = refl
-
-with-mark : (P : Bool → Type 0) {slow : Bool} → slow ≡ false → P false → P slow
-with-mark P e h = rw e h
 
 module _ (entry : tie.Start) where
   abbrev class : ℕ → Bool
@@ -34,8 +26,8 @@ module _ (entry : tie.Start) where
   abbrev rank : ℕ → ℕ
   rank = rankIn (entry .args .grades .now) (entry .args .deadlines .now)
 
-  abbrev dues : Bool → ℕ → ℕ
-  dues slow = dueIn slow (entry .args .spans) (entry .args .sizes .now) (entry .args .carried .now) (entry .args .table .now)
+  abbrev dues : ℕ → ℕ
+  dues = dueIn (entry .args .whole) (entry .args .spans) (entry .args .goals .now) (entry .args .carried .now) (entry .args .table .now)
 
   -- The grant row with its zeros.
   abbrev blank : List ℕ
@@ -50,12 +42,7 @@ element-copy-out-if1 c = search needs
 grant-hi-requires : tie.Need-grant-hi-requires
 grant-hi-requires c κs =
     let entry = c .before .before .before .before .before .before in
-    let clear = mark-clear (entry .args .slow) _ (c .before .before .if1 .taken) in (
-      entry .pre .0,
-      entry .pre .2,
-      λ k below passes. with-mark (λ s. KnownDue (entry .args .claims .now) (dues entry s) k → KnownDue (entry .args .claims .now) (dues entry false) k)
-          clear (λ known. known) (entry .pre .4 k below passes),
-    )
+    (entry .pre .0, entry .pre .2, entry .pre .4)
 
 same-length : tie.Need-same-length
 same-length c = search needs
@@ -65,19 +52,10 @@ returns c =
     let at-grant-hi = c .before .before .before .before .before .before .before in
     let entry = at-grant-hi .before .before .before .before .before .before .before in
     let a = entry .args in
-    let clear = mark-clear (a .slow) _ (at-grant-hi .before .before .before .if1 .taken) in
-    let told =
-    with-mark (λ s. Granted (λ k. on (class entry k) (dues entry s k)) (a .v .0) (a .jobs) (a .grants .now)
-    (at-grant-hi .grant-hi .last .1 .1 .1 .1 .1 .1 .1 .1 .1 .1 .1 .0) (at-grant-hi .grant-hi .result .0)) clear (at-grant-hi .grant-hi .ensures .0) in
     let served =
-    granted-served (class entry) (rank entry) (dues entry (a .slow)) (a .v .0) (a .jobs) (a .grants .now) (entry .pre .2) told
-    (c .before .before .if2 .taken) in (
-      served .0,
-      ap (λ s. a .v .0 - s) (served .1),
-      refl,
-      λ k. with-mark (λ s. KnownDue (a .claims .now) (dues entry s) k → KnownDue (at-grant-hi .grant-hi .last .0) (dues entry s) k) clear
-          (at-grant-hi .grant-hi .ensures .1 k),
-    )
+    granted-served (class entry) (rank entry) (dues entry) (a .v .0) (a .jobs) (a .grants .now) (entry .pre .2) (at-grant-hi .grant-hi .ensures .0)
+    (c .before .before .if2 .taken) in
+    (served .0, ap (λ s. a .v .0 - s) (served .1), refl, at-grant-hi .grant-hi .ensures .1)
 
 -- Where the turns begin: clearing the grant row makes it as if nothing had been written, and the claims are still right.
 module _ (c : tie.Joined1) where
@@ -89,19 +67,16 @@ module _ (c : tie.Joined1) where
       ⊎-elim
       (λ w.
       let cleared =
-      granted-cleared (λ k. on (class entry k) (dues entry false k)) (entry .args .v .0) (entry .args .jobs) (entry .args .grants .now) (w .3 .ensures .0) in
+      granted-cleared (λ k. on (class entry k) (dues entry k)) (entry .args .v .0) (entry .args .jobs) (entry .args .grants .now) (w .3 .ensures .0) in
       (ap (filled (λ k. 0) (entry .args .jobs)) (w .10) ∙ cleared .0, ap length (w .10) ∙ cleared .1))
       (λ w. (ap (filled (λ k. 0) (entry .args .jobs)) (w .2), ap length (w .2)))
       (c .if1 .came)
 
-  right : (k : ℕ) → KnownDue (entry .args .claims .now) (dues entry (entry .args .slow)) k → KnownDue (c .if1 .claims) (dues entry (entry .args .slow)) k
+  right : (k : ℕ) → KnownDue (entry .args .claims .now) (dues entry) k → KnownDue (c .if1 .claims) (dues entry) k
   right k =
       ⊎-elim
-      (λ w.
-      let clear = mark-clear (entry .args .slow) _ (w .0 .taken) in
-      λ known. same-known (dues entry (entry .args .slow)) k (w .9)
-      (with-mark (λ s. KnownDue (entry .args .claims .now) (dues entry s) k → KnownDue (w .3 .last .0) (dues entry s) k) clear (w .3 .ensures .1 k) known))
-      (λ w known. same-known (dues entry (entry .args .slow)) k (w .1) known)
+      (λ w known. same-known (dues entry) k (w .9) (w .3 .ensures .1 k known))
+      (λ w known. same-known (dues entry) k (w .1) known)
       (c .if1 .came)
 
 clear-grants-requires : tie.Need-clear-grants-requires
@@ -139,7 +114,7 @@ serve-gathered-requires c κs =
 -- What the HI jobs had in their turns.
 had : (c : tie.After-serve-gathered)
     → (c .serve-gathered .last .1 .1 .1 .1 .1 .1 .1 .1 .1 .0
-    ≡ serve (dues (entry (joined (c .before .before .before .before))) (entry (joined (c .before .before .before .before)) .args .slow))
+    ≡ serve (dues (entry (joined (c .before .before .before .before))))
     (entry (joined (c .before .before .before .before)) .args .v .0)
     (queue (class (entry (joined (c .before .before .before .before)))) (rank (entry (joined (c .before .before .before .before))))
     (entry (joined (c .before .before .before .before)) .args .jobs))
@@ -147,7 +122,7 @@ had : (c : tie.After-serve-gathered)
     × (c .serve-gathered .result .0
     ≡ entry (joined (c .before .before .before .before)) .args .v .0
     - sum (λ k. on (class (entry (joined (c .before .before .before .before))) k)
-    (dues (entry (joined (c .before .before .before .before))) (entry (joined (c .before .before .before .before)) .args .slow) k))
+    (dues (entry (joined (c .before .before .before .before))) k))
     (entry (joined (c .before .before .before .before)) .args .jobs))
 had c =
     let at-gather = c .before .before .before .before in
@@ -156,7 +131,7 @@ had c =
     let told =
     c .serve-gathered .ensures .1 (class start) (rank start) (a .jobs) (at-gather .gather .ensures .1)
     (λ k h e. ap (λ row. getD row k 0) (cleared at-gather) ∙ none at-gather k h) in
-    (told .0 ∙ ap (serve (dues start (a .slow)) (a .v .0) (queue (class start) (rank start) (a .jobs))) (cleared at-gather), told .1)
+    (told .0 ∙ ap (serve (dues start) (a .v .0) (queue (class start) (rank start) (a .jobs))) (cleared at-gather), told .1)
 
 same-length-2 : tie.Need-same-length-2
 same-length-2 c = ap length (had (c .before .before) .0) ∙ serve-length _ _ _ _ ∙ filled-length _ _ _

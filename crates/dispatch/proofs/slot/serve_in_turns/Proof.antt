@@ -13,7 +13,7 @@ use Rattle.base.proofs.Logic.{neither}
 use Rattle.plan.specs.Edition.{mostJobs}
 use Rattle.plan.specs.Rules.{hi}
 use Rattle.dispatch.specs.Order.{queue, serve}
-use Rattle.dispatch.specs.inner.Turns.{liveIn, classIn, rankIn, dueIn}
+use Rattle.dispatch.specs.inner.Turns.{inWindowIn, classIn, rankIn, dueIn}
 use Rattle.dispatch.proofs.Queues.{serve-length}
 use Rattle.dispatch.proofs.TurnLaws.{hi-served, other-served, others-wait, hi-alone, then-others}
 use Rattle.dispatch.proofs.slot.serve_in_turns.Statement.{statement}
@@ -28,7 +28,7 @@ module _ (entry : tie.Start) where
   none k h = filled-at (λ k. 0) (entry .args .jobs) (entry .args .grants .now) k (omega (arith, entry .pre .1)) h
 
   abbrev live : ℕ → Bool
-  live = liveIn (entry .args .clock .0) (entry .args .releases .now) (entry .args .deadlines .now)
+  live = inWindowIn (entry .args .clock .0) (entry .args .releases .now) (entry .args .deadlines .now)
 
   abbrev isHi : ℕ → Bool
   isHi k = eqb (getD (entry .args .grades .now) k 0) hi
@@ -40,7 +40,7 @@ module _ (entry : tie.Start) where
   rank = rankIn (entry .args .grades .now) (entry .args .deadlines .now)
 
   abbrev dues : ℕ → ℕ
-  dues = dueIn (entry .args .slow) (entry .args .spans) (entry .args .sizes .now) (entry .args .carried .now) (entry .args .table .now)
+  dues = dueIn (entry .args .whole) (entry .args .spans) (entry .args .goals .now) (entry .args .carried .now) (entry .args .table .now)
 
 serve-hi-requires : tie.Need-serve-hi-requires
 serve-hi-requires c κs =
@@ -57,7 +57,7 @@ module _ (c : tie.After-serve-hi) where
   abbrev entry : tie.Start
   entry = c .before .before .before .before .before .before
 
-  as-long : length (c .serve-hi .last .1 .1 .1 .1 .1 .1 .1 .1 .1 .1 .1 .1 .1 .0) ≡ length (entry .args .grants .now)
+  as-long : length (c .serve-hi .last .1 .1 .1 .1 .1 .1 .1 .1 .1 .1 .1 .1 .1 .1 .0) ≡ length (entry .args .grants .now)
   as-long = ap length (c .serve-hi .ensures .0) ∙ serve-length _ _ _ _ ∙ filled-length _ _ _
 
 same-length : tie.Need-same-length

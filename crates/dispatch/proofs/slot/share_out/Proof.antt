@@ -3,7 +3,7 @@
 use mathlib.Core.Path.{_≡_, refl, sym, _∙_, ap, ap₂}
 use mathlib.Core.Bool.{Bool, true, false, _||_}
 use mathlib.Core.List.{List, []}
-use Prim.Native.Nat.{ℕ, suc, min}
+use Prim.Native.Nat.{ℕ, min}
 use native.Mathlib.Nat.{mul-one}
 use native.Mathlib.Omega.{arith}
 use borrow.Author.Needs.{needs}
@@ -12,32 +12,23 @@ use lib.ListN.{getD}
 use Rattle.base.specs.Fill.{filled}
 use Rattle.base.proofs.FillLaws.{filled-ext}
 use Rattle.plan.specs.Edition.{mostJobs}
-use Rattle.plan.specs.Boundaries.{present}
 use Rattle.plan.specs.declared.kinds.Outline.{Outline}
-use Rattle.plan.specs.declared.kinds.Plan.{Plan}
 use Rattle.plan.specs.declared.kinds.Units.{Units}
 use Rattle.dispatch.specs.declared.Run.{Run}
 use Rattle.dispatch.specs.Dues.{slowAfter}
 use Rattle.dispatch.specs.inner.Columns.{planOn}
-use Rattle.dispatch.specs.inner.Turns.{servedIn, dueIn, claimIn, Claimed, inTurns}
-use Rattle.dispatch.proofs.SoundColumns.{release-on, deadline-on}
-use Rattle.dispatch.proofs.Sharing.{claims-granted, turns-granted, claims-known, claims-all}
+use Rattle.dispatch.specs.inner.Turns.{servedIn, goalIn, dueIn, claimIn, Claimed, inTurns}
+use Rattle.dispatch.proofs.Sharing.{absorbs, claims-granted, turns-granted, claims-known, claims-all}
 use Rattle.dispatch.proofs.slot.share_out.Statement.{statement}
 use Rattle.dispatch.proofs.slot.share_out.Tie as tie
-
--- A mark that is set whenever the speed is below the rate is the mark after the slot.
-absorbs : (s x : Bool) → (x ≡ true → s ≡ true) → (s || x) ≡ s
-absorbs true x h = refl
-absorbs false true h = sym (h refl)
-absorbs false false h = refl
 
 -- The same claims, for an equal speed and an equal number of jobs.
 same-claims : {claim : ℕ → ℕ} {v w m n : ℕ} {row : List ℕ} {fit : Bool} → v ≡ w → m ≡ n → Claimed claim v m row fit → Claimed claim w n row fit
 same-claims e q told = rw (← e, ← q) told
 
-module _ (c : tie.After-spans-of) where
+module _ (c : tie.After-over) where
   abbrev entry : tie.Start
-  entry = c .before .before .before .before .before
+  entry = c .before .before .before .before
 
   abbrev o : Outline
   o = entry .args .o
@@ -48,8 +39,8 @@ module _ (c : tie.After-spans-of) where
   abbrev releases : List ℕ
   releases = entry .args .releases .now
 
-  abbrev sizes : List ℕ
-  sizes = entry .args .sizes .now
+  abbrev goals : List ℕ
+  goals = entry .args .goals .now
 
   abbrev deadlines : List ℕ
   deadlines = entry .args .deadlines .now
@@ -66,38 +57,30 @@ module _ (c : tie.After-spans-of) where
   abbrev v : ℕ
   v = entry .args .v .0
 
+  abbrev whole : Bool
+  whole = entry .args .whole
+
   abbrev spans : ℕ
-  spans = c .spans-of .result
+  spans = entry .args .spans
 
-  abbrev q : Plan
-  q = planOn o grades releases sizes deadlines
+  jobs : c .before .counted-within .result ≡ min (o .count) mostJobs
+  jobs = c .before .counted-within .ensures
 
-  jobs : c .before .before .counted-within .result ≡ min (o .count) mostJobs
-  jobs = c .before .before .counted-within .ensures
+  most : c .over .result .0 ≡ v
+  most = ap (λ (u : Units). u .0) (c .over .ensures) ∙ mul-one v
 
-  most : c .before .over .result .0 ≡ v
-  most = ap (λ (u : Units). u .0) (c .before .over .ensures) ∙ mul-one v
-
-  marked : slowAfter q run v ≡ run .slow
-  marked = absorbs (run .slow) (ltb v (o .n .0)) (entry .pre .3)
-
-  begun : run .slow ≡ false → spans ≡ suc (present q (run .clock .0))
-  begun e =
-      c .spans-of .ensures q e refl
-      (λ i h. sym (release-on o grades releases sizes deadlines i h)) (λ i h. sym (deadline-on o grades releases sizes deadlines i h))
+  marked : (sizes : List ℕ) → slowAfter (planOn o grades releases sizes deadlines) run v ≡ run .slow
+  marked sizes = absorbs (run .slow) (ltb v (o .n .0)) (entry .pre .3)
 
   -- The claims as `all_fit` writes them.
   abbrev claim : ℕ → ℕ
-  claim = claimIn (run .clock .0) (run .slow) spans grades releases sizes deadlines carried table
+  claim = claimIn (run .clock .0) (run .slow) whole spans grades releases goals deadlines carried table
 
 counted-within-requires : tie.Need-counted-within-requires
 counted-within-requires c κs = search needs
 
 over-requires : tie.Need-over-requires
 over-requires c κs = search needs
-
-spans-of-requires : tie.Need-spans-of-requires
-spans-of-requires c κs = search needs
 
 all-fit-requires : tie.Need-all-fit-requires
 all-fit-requires c κs =
@@ -106,7 +89,7 @@ all-fit-requires c κs =
 
 -- What `all_fit` tells, of the counted jobs and the speed.
 module _ (c : tie.After-all-fit) where
-  abbrev at : tie.After-spans-of
+  abbrev at : tie.After-over
   at = c .before .before
 
   told : Claimed (claim at) (v at) (min (o at .count) mostJobs) (c .all-fit .last .0) (c .all-fit .result)
@@ -119,7 +102,7 @@ same-length : tie.Need-same-length
 same-length c = search needs
 
 returns : tie.Need-returns
-returns c =
+returns c sizes rows right =
     let at-grant-claims = c .before .before in
     let at-if1 = at-grant-claims .before .before .before in
     let fit = at-if1 .before in
@@ -129,8 +112,8 @@ returns c =
     ∙ ap (λ m. filled (λ k. getD (fit .all-fit .last .0) k 0) m (entry here .args .grants .now)) (jobs here)
     ∙ filled-ext (λ k. getD (fit .all-fit .last .0) k 0) (claim here) n (entry here .args .grants .now)
     (claims-all (claim here) (v here) n (omega arith) (told fit) (at-if1 .if1 .taken))
-    ∙ claims-granted (o here) (grades here) (releases here) (sizes here) (deadlines here) (table here) (carried here) (run here) (v here) (spans here) refl refl (marked here) (begun here)
-    (entry here .args .grants .now) (entry here .pre .0) (told fit .sums (at-if1 .if1 .taken) .1)
+    ∙ claims-granted (o here) (grades here) (releases here) sizes (deadlines here) rows (run here) (v here) refl (marked here sizes)
+    (goalIn (whole here) (spans here) (goals here) (table here)) right (entry here .args .grants .now) (entry here .pre .0) (told fit .sums (at-if1 .if1 .taken) .1)
 
 serve-in-turns-requires : tie.Need-serve-in-turns-requires
 serve-in-turns-requires c κs =
@@ -140,7 +123,7 @@ serve-in-turns-requires c κs =
       omega (arith, jobs here),
       rw (jobs here) (entry here .pre .0),
       λ k l. entry here .pre .1 k (omega (arith, jobs here)),
-      λ k l. claims-known (claim here) (dueIn (run here .slow) (spans here) (sizes here) (carried here) (table here))
+      λ k l. claims-known (claim here) (dueIn (whole here) (spans here) (goals here) (carried here) (table here))
           (servedIn (run here .clock .0) (run here .slow) (grades here) (releases here) (deadlines here)) (v here) n (λ i. refl) (omega arith) (told fit) k
           (omega (arith, jobs here)),
     )
@@ -149,16 +132,16 @@ same-length-2 : tie.Need-same-length-2
 same-length-2 c = search needs
 
 returns-2 : tie.Need-returns-2
-returns-2 c =
+returns-2 c sizes rows right =
     let at-serve-in-turns = c .before .before in
     let fit = at-serve-in-turns .before .before .before .before in
     let here = at fit in
     let n = min (o here .count) mostJobs in
     at-serve-in-turns .serve-in-turns .ensures
     ∙ ap₂ (λ x m. inTurns (run here .clock .0) (run here .slow) (grades here) (releases here) (deadlines here)
-    (dueIn (run here .slow) (spans here) (sizes here) (carried here) (table here)) x m (filled (λ k. 0) m (entry here .args .grants .now))) (most here) (jobs here)
-    ∙ turns-granted (o here) (grades here) (releases here) (sizes here) (deadlines here) (table here) (carried here) (run here) (v here) (spans here) refl refl (marked here) (begun here)
-    (entry here .args .grants .now) (entry here .pre .0)
+    (dueIn (whole here) (spans here) (goals here) (carried here) (table here)) x m (filled (λ k. 0) m (entry here .args .grants .now))) (most here) (jobs here)
+    ∙ turns-granted (o here) (grades here) (releases here) sizes (deadlines here) rows (run here) (v here) refl (marked here sizes)
+    (goalIn (whole here) (spans here) (goals here) (table here)) right (entry here .args .grants .now) (entry here .pre .0)
 
 pub share-out-spec : {M : Type 1} → statement M
 share-out-spec =
@@ -166,7 +149,6 @@ share-out-spec =
     (tie.spec
     counted-within-requires
     over-requires
-    spans-of-requires
     all-fit-requires
     grant-claims-requires
     same-length

@@ -1,19 +1,16 @@
 -- `dispatch::step::slot_over` meets its contract: for the plan made from the columns, by readiness,
 -- shares and carried units; and so for every plan whose columns they are.
 use mathlib.Core.Path.{_≡_, refl, sym, _∙_, ap, ap₂}
-use mathlib.Core.Bool.{Bool, true, false, cond, _||_, or-true}
+use mathlib.Core.Bool.{true, false, _||_}
 use mathlib.Core.List.{List}
-use Prim.Native.Nat.{ℕ, _+_, _≤_, _<_, _^_}
-use native.Mathlib.Omega.{arith}
+use Prim.Native.Nat.{ℕ, _≤_}
 use borrow.Author.Needs.{needs}
 use borrow.Author.Tests.{not-true, not-false, ltb-false}
 use lib.Dec.{ltb, eqb}
-use lib.ListN.{length, getD, replicate, length-replicate}
-use Rattle.base.specs.Fill.{filled}
-use Rattle.base.proofs.FillLaws.{filled-at}
+use lib.ListN.{length}
 use Rattle.base.proofs.Logic.{neither}
-use Rattle.plan.specs.Edition.{mostJobs, places}
-use Rattle.plan.specs.Rules.{counted, size}
+use Rattle.plan.specs.Edition.{places}
+use Rattle.plan.specs.Rules.{counted}
 use Rattle.plan.specs.Boundaries.{lastDeadline}
 use Rattle.plan.specs.Columns.{Columns}
 use Rattle.plan.specs.Report.{isNone}
@@ -22,18 +19,15 @@ use Rattle.plan.specs.declared.kinds.Plan.{Plan}
 use Rattle.plan.proofs.Reports.{none-empty}
 use Rattle.dispatch.specs.declared.Run.{Run}
 use Rattle.dispatch.specs.Answers.{answerView, runAt}
-use Rattle.dispatch.specs.Dues.{carriedOf, endedOf}
-use Rattle.dispatch.specs.Step.{soundAt, slotSound, slotFault, granted, stepped}
+use Rattle.dispatch.specs.Step.{soundAt, slotSound, slotFault, stepped}
 use Rattle.dispatch.specs.inner.Columns.{planOn}
 use Rattle.dispatch.specs.inner.Readiness.{readiness, faultBy}
-use Rattle.dispatch.specs.inner.Turns.{settledIn}
 use Rattle.dispatch.proofs.Alike.{alike-slot}
 use Rattle.dispatch.proofs.ColumnPlan.{columns-alike}
 use Rattle.dispatch.proofs.Readiness.{readiness-fault, readiness-clear}
-use Rattle.dispatch.proofs.RowShares.{granted-length}
-use Rattle.dispatch.proofs.SlotOver.{slot-refused, carried-fits, settled-granted, slot-done}
-use Rattle.dispatch.proofs.SlotSoundness.{SlotSound, slot-sound}
-use Rattle.dispatch.proofs.SoundColumns.{size-on, deadline-on}
+use Rattle.dispatch.proofs.SlotOver.{slot-refused, slot-done}
+use Rattle.dispatch.proofs.Sharing.{sizes-are-goals}
+use Rattle.dispatch.proofs.SoundColumns.{release-on, deadline-on}
 use Rattle.dispatch.proofs.step.slot_over.Statement.{statement}
 use Rattle.dispatch.proofs.step.slot_over.Tie as tie
 
@@ -90,9 +84,6 @@ module _ (c : tie.Else1) where
   abbrev here : tie.After-answer-to
   here = c .before .before
 
-  jobs : here .before .before .before .counted-within .result ≡ counted (q here)
-  jobs = here .before .before .before .counted-within .ensures
-
   none : isNone (answerView (here .answer-to .result)) ≡ true
   none = sym (c .before .is-done .ensures) ∙ not-false _ (c .if1 .left)
 
@@ -104,60 +95,15 @@ module _ (c : tie.Else1) where
       readiness-clear (q here) (run here .clock .0) (run here .carried) (ltb (length (table here)) places || ltb (length (grants here)) (counted (q here))) (ltb (o here .n .0) (v here))
       (ap isNone (sym (by-readiness here)) ∙ none)
 
-  parts : SlotSound (q here) (run here)
+  is-sound : slotSound (q here) (run here) ≡ true
   unfolding slotSound
-  parts = slot-sound (q here) (run here) (going .0)
+  is-sound = going .0
 
   room : counted (q here) ≤ length (grants here)
   room = ltb-false (length (grants here)) (counted (q here)) (neither (ltb (length (table here)) places) _ (going .1) .1)
 
-  long : counted (q here) ≤ length (granted (q here) (table here) (run here) (v here) (grants here))
-  long = rw (granted-length (q here) (table here) (run here) (v here) (grants here) room) room
-
   normal : v here ≤ o here .n .0
   normal = ltb-false (o here .n .0) (v here) (going .3)
-
--- The grants are those of the run with its marks of before.
-again : (was x : Bool) {slow : Bool} → slow ≡ (was || x) → (slow || x) ≡ (was || x)
-again true x e = rw e refl
-again false true e = rw e refl
-again false false e = rw e refl
-
-module _ (c : tie.After-share-out) where
-  abbrev settling : tie.After-settle
-  settling = c .before .before .before
-
-  abbrev going-on : tie.Else1
-  going-on = settling .before .before .before .before .before
-
-  abbrev at : tie.After-answer-to
-  at = here going-on
-
-  slow-is : settling .before .before .before .before .mark-after .result ≡ (run at .slow || ltb (v at) (o at .n .0))
-  slow-is = settling .before .before .before .before .mark-after .ensures
-
-  -- The grant row that `share_out` leaves.
-  abbrev left : List ℕ
-  left = c .share-out .last .1 .1 .1 .1 .1 .1 .1 .1 .1 .1 .0
-
-  -- What the jobs count as carried.
-  settled-is : (k : ℕ) → k < counted (q at) → getD (settling .settle .last .1 .1 .1 .0) k 0 ≡ cond (endedOf (run at) k) (size (q at) k) (carriedOf (run at) k)
-  settled-is k l =
-      ap (λ r. getD r k 0) (settling .settle .ensures)
-      ∙ filled-at (settledIn (run at .ended) (sizes at) (run at .carried)) mostJobs (replicate mostJobs 0) k (rw (length-replicate {A = ℕ} mostJobs 0) (omega arith)) (omega arith)
-      ∙ ap (λ s. cond (endedOf (run at) k) s (carriedOf (run at) k)) (sym (size-on (o at) (grades at) (releases at) (sizes at) (deadlines at) k l))
-
-  grants-are : left ≡ granted (q at) (table at) (run at) (v at) (grants at)
-  grants-are =
-      c .share-out .ensures
-      ∙ settled-granted (q at) (table at) (run at) _ false _ (v at) (again (run at .slow) (ltb (v at) (o at .n .0)) slow-is) settled-is (grants at) (room going-on)
-
--- The room and the sums for an equal row.
-same-room : {m n : ℕ} {l g : List ℕ} → m ≡ n → l ≡ g → n ≤ length g → m ≤ length l
-same-room e q h = rw (e, q) h
-
-same-sums : (x k : ℕ) {l g : List ℕ} → l ≡ g → x + getD g k 0 < 2 ^ 32 → x + getD l k 0 < 2 ^ 32
-same-sums x k q h = rw q h
 
 counted-within-requires : tie.Need-counted-within-requires
 counted-within-requires c κs = search needs
@@ -181,50 +127,36 @@ returns c p cols =
 mark-after-requires : tie.Need-mark-after-requires
 mark-after-requires c κs = search needs
 
-mark-after-requires-2 : tie.Need-mark-after-requires-2
-mark-after-requires-2 c κs = search needs
+spans-of-requires : tie.Need-spans-of-requires
+spans-of-requires c κs = search needs
 
-settle-requires : tie.Need-settle-requires
-settle-requires c κs = search needs
-
-share-out-requires : tie.Need-share-out-requires
-share-out-requires c κs =
-    let at-mark-after = c .before .before .before .before .before .before in
+carry-slot-requires : tie.Need-carry-slot-requires
+carry-slot-requires c κs =
+    let at-spans-of = c .before .before in
+    let at-mark-after = at-spans-of .before in
     let was = at-mark-after .before in
-    let at = here was in (
+    let at = here was in
+    let slow-is = at-mark-after .mark-after .ensures in (
+      is-sound was,
       room was,
-      λ k l. rw (← (deadline-on (o at) (grades at) (releases at) (sizes at) (deadlines at) k l)) (parts was .rules .deadlines k l),
-      omega (arith, normal was, parts was .rules .rate),
-      λ e. at-mark-after .mark-after .ensures ∙ ap (λ x. run at .slow || x) e ∙ or-true (run at .slow),
+      normal was,
+      rw (← slow-is)
+          (sizes-are-goals (o at) (grades at) (releases at) (sizes at) (deadlines at) (table at) (run at .clock) _ _
+          (λ e. at-spans-of .spans-of .ensures .1 (q at) e refl
+          (λ i h. sym (release-on (o at) (grades at) (releases at) (sizes at) (deadlines at) i h))
+          (λ i h. sym (deadline-on (o at) (grades at) (releases at) (sizes at) (deadlines at) i h)))),
     )
-
-carry-grants-requires : tie.Need-carry-grants-requires
-carry-grants-requires c κs =
-    let at-share-out = c .before .before .before .before in
-    let was = going-on at-share-out in
-    let at = here was in (
-      omega (arith, jobs was),
-      same-room (jobs was) (grants-are at-share-out) (long was),
-      λ k l. same-sums (carriedOf (run at) k) k (grants-are at-share-out) (carried-fits (q at) (table at) (run at) (v at) (grants at) (parts was) k (omega (arith, jobs was))),
-    )
-
-add-t37 : tie.Need-add-t37
-add-t37 c =
-    let was = going-on (c .before .before .before .before .before .before) in
-    omega (arith, parts was .not-over, parts was .rules .last)
 
 same-length : tie.Need-same-length
 same-length c = search needs
 
 returns-2 : tie.Need-returns-2
 returns-2 c p cols =
-    let at-carry-grants = c .before in
-    let at-share-out = at-carry-grants .before .before .before .before .before in
-    let was = going-on at-share-out in
+    let at-carry-slot = c .before .before in
+    let was = at-carry-slot .before .before .before .before .before in
     let at = here was in
-    slot-done (q at) (table at) (run at) (v at) (grants at) (told at) (none-empty _ (none was)) (room was) refl (slow-is at-share-out)
-    (settling at-share-out .before .before .before .mark-after2 .ensures) (grants-are at-share-out)
-    (at-carry-grants .carry-grants .ensures ∙ ap (λ m. filled (λ k. carriedOf (run at) k + getD (left at-share-out) k 0) m (run at .carried)) (jobs was))
+    slot-done (q at) (table at) (run at) (v at) (grants at) (told at) (none-empty _ (none was)) (at-carry-slot .carry-slot .ensures .0)
+    (at-carry-slot .carry-slot .ensures .1)
     ∙ sym (carried-over at p cols)
 
 pub slot-over-spec : {M : Type 1} → statement M
@@ -237,10 +169,7 @@ slot-over-spec =
     is-done-requires
     returns
     mark-after-requires
-    mark-after-requires-2
-    settle-requires
-    share-out-requires
-    carry-grants-requires
-    add-t37
+    spans-of-requires
+    carry-slot-requires
     same-length
     returns-2)

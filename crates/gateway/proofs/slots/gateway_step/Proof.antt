@@ -9,14 +9,14 @@ use lib.ListN.{length, replicate, length-replicate}
 use Rattle.plan.specs.Edition.{mostJobs}
 use Rattle.dispatch.specs.Answers.{runAt, answerView}
 use Rattle.dispatch.specs.declared.Moment.{Moment}
-use Rattle.dispatch.specs.Step.{stepped}
+use Rattle.dispatch.specs.Step.{SlotEffect, stepped}
 use Rattle.dispatch.proofs.SlotOver.{unsound-refused}
 use Rattle.hostmemory.specs.Memory.{planOf, marksHold, runOf, runPut}
 use Rattle.hostmemory.proofs.ColumnLaws.{columns-read, too-large-unsound}
 use Rattle.hostmemory.proofs.RoundTrip.{run-again}
 use Rattle.gateway.specs.Calls.{stepCall}
-use Rattle.gateway.proofs.Laws.{outlined, step-words, slot-put-back}
-use Rattle.gateway.proofs.RefusedStep.{refused-words}
+use Rattle.gateway.proofs.Laws.{outlined, step-words, stepped-long, put-back}
+use Rattle.gateway.proofs.RefusedCalls.{refused-words}
 use Rattle.gateway.proofs.slots.gateway_step.Statement.{statement}
 use Rattle.gateway.proofs.slots.gateway_step.Tie as tie
 
@@ -168,7 +168,9 @@ returns-5 c =
     let at-number = at-put-slot .before .before .before .before .before in
     let a = at-start at-number .args in
     slot-words at-number
-    (slot-put-back (planOf (a .plan .now)) (a .table .now) (a .run .now) (a .v) (a .grants .now) (marks at-number) (slot-effect at-number) (at-put-slot .put-slot .ensures))
+    (put-back (a .run .now) (at-slot-over at-number .slot-over .result .next) (at-slot-over at-number .slot-over .last .1 .1 .1 .1 .1 .1 .1 .1 .1 .0) (marks at-number)
+    (ap (λ (s : SlotEffect). length (s .run .carried)) (slot-effect at-number) ∙ stepped-long (planOf (a .plan .now)) (a .table .now) (runOf (a .run .now)) (a .v) (a .grants .now))
+    (at-put-slot .put-slot .ensures))
 
 pub gateway-step-spec : {M : Type 1} → statement M
 gateway-step-spec =

@@ -1,4 +1,4 @@
--- A refused step leaves the lent buffers as they were.
+-- A refused step or shift leaves the lent buffers as they were.
 use mathlib.Core.Path.{_≡_, refl, sym, _∙_, ap}
 use mathlib.Core.Bool.{Bool, true, false, not, cond, _||_}
 use mathlib.Core.List.{List, [], _∷_}
@@ -7,10 +7,12 @@ use borrow.Author.Tests.{not-false}
 use Rattle.plan.specs.Refusal.{unsound, bufferTooShort}
 use Rattle.plan.specs.Report.{Report, numberOf}
 use Rattle.dispatch.specs.Step.{SlotEffect, stepped}
+use Rattle.dispatch.specs.Shift.{ShiftEffect, shifted}
 use Rattle.dispatch.proofs.SlotLimits.{refused-changes-nothing}
+use Rattle.dispatch.proofs.ShiftLimits.{refused-shift-changes-nothing}
 use Rattle.hostmemory.specs.Memory.{shortPlan, shortRun, planOf, marksHold, runOf, runPut}
 use Rattle.hostmemory.proofs.RoundTrip.{run-again}
-use Rattle.gateway.specs.Calls.{HostStepEffect, slotWords, stepCall}
+use Rattle.gateway.specs.Calls.{HostStepEffect, slotWords, stepCall, HostShiftEffect, shiftWords, shiftCall}
 
 -- A step's call, by the results of its two tests.
 abbrev stepBy : Bool → Bool → SlotEffect → List ℕ → List ℕ → HostStepEffect
@@ -47,3 +49,44 @@ pub refused-words : (plan table run : List ℕ) (v : ℕ) (grants : List ℕ) {n
 refused-words plan table run v grants {number} {left} {row} so busy =
     let stays = refused-step-stays plan table run v grants (λ e. busy (ap (λ (r : HostStepEffect). r .number) so ∙ e)) in
     ap (λ r. record { number = number; run = r; grants = row }) (sym (ap (λ (r : HostStepEffect). r .run) so ∙ stays .0)) ∙ so
+
+-- A refused shift leaves the lent run, the rows and the numbers as they were, word for word.
+pub refused-shift-stays : (plan table run speeds rows numbers : List ℕ) → (shiftCall plan table run speeds rows numbers .number ≡ 0 → ⊥)
+    → shiftCall plan table run speeds rows numbers
+    ≡ record { number = shiftCall plan table run speeds rows numbers .number; run = run; rows = rows; numbers = numbers }
+unfolding shiftCall
+refused-shift-stays plan table run speeds rows numbers = by (shortPlan plan || shortRun run) (marksHold run) refl
+  where
+    shift : ShiftEffect
+    shift = shifted (planOf plan) table (runOf run) speeds rows numbers
+
+    left : Bool → Bool → HostShiftEffect
+    left short marks =
+        cond short (record { number = bufferTooShort; run = run; rows = rows; numbers = numbers })
+        (cond (not marks) (record { number = unsound; run = run; rows = rows; numbers = numbers }) (shiftWords shift run))
+
+    by-answer : (r : Report) → shift .answer ≡ r → marksHold run ≡ true → (numberOf r ≡ 0 → ⊥)
+        → shiftWords shift run ≡ record { number = numberOf (shift .answer); run = run; rows = rows; numbers = numbers }
+    by-answer [] e marks busy = absurd (busy refl)
+    by-answer (number ∷ rest) e marks busy =
+        let so = refused-shift-changes-nothing (planOf plan) table (runOf run) speeds rows numbers number rest e in
+        λ i. record {
+          number = numberOf (shift .answer);
+          run = (ap (λ (s : ShiftEffect). runPut run (s .run)) so ∙ run-again run marks) i;
+          rows = so i .rows;
+          numbers = so i .numbers;
+        }
+
+    by : (short marks : Bool) → marksHold run ≡ marks → (left short marks .number ≡ 0 → ⊥)
+        → left short marks ≡ record { number = left short marks .number; run = run; rows = rows; numbers = numbers }
+    by true marks e busy = refl
+    by false true e busy = by-answer (shift .answer) refl e busy
+    by false false e busy = refl
+
+-- So a shift that is refused need not put its run back.
+pub refused-shift-words : (plan table run speeds rows numbers : List ℕ) {number : ℕ} {left filled told : List ℕ}
+    → record { number = number; run = left; rows = filled; numbers = told } ≡ shiftCall plan table run speeds rows numbers → (number ≡ 0 → ⊥)
+    → record { number = number; run = run; rows = filled; numbers = told } ≡ shiftCall plan table run speeds rows numbers
+refused-shift-words plan table run speeds rows numbers {number} {left} {filled} {told} so busy =
+    let stays = refused-shift-stays plan table run speeds rows numbers (λ e. busy (ap (λ (r : HostShiftEffect). r .number) so ∙ e)) in
+    ap (λ r. record { number = number; run = r; rows = filled; numbers = told }) (sym (ap (λ (r : HostShiftEffect). r .run) (so ∙ stays))) ∙ so
