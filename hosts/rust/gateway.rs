@@ -556,7 +556,7 @@ impl Run {
         self.words[index::CLOCK]
     }
 
-    /// Whether some slot was slower than the normal rate. LO jobs get nothing from then on.
+    /// Whether some slot was slow: slower than the normal rate, and than what was due in it. LO jobs get nothing from then on.
     pub fn is_slow(&self) -> bool {
         self.words[index::SLOW] == 1
     }

@@ -8,9 +8,9 @@ use Prim.Native.Nat.{ℕ, suc, _+_, _*_, _-_, _≤_, _<_, min}
 use native.Mathlib.Omega.{arith}
 use borrow.Author.Tests.{ltb-true, ltb-false, eqb-false, not-false, lt-ltb, le-ltb}
 use lib.Dec.{leb, ltb, eqb}
-use lib.ListN.{length, getD, take, length-take}
+use lib.ListN.{length, getD, take, drop, replicate, length-take}
 use lib.Seq.{getD-take}
-use Rattle.base.specs.Sum.{sum}
+use Rattle.base.specs.Sum.{sum, on}
 use Rattle.base.specs.Below.{every, least, greatest}
 use Rattle.base.proofs.SumLaws.{sum-ext}
 use Rattle.base.proofs.Below.{every-ext, least-ext, greatest-ext}
@@ -25,8 +25,8 @@ use Rattle.plan.specs.declared.kinds.Plan.{Plan}
 use Rattle.plan.proofs.BoundaryOrder.{boundaries-ext}
 use Rattle.plan.proofs.PresentInterval.{present-inside}
 use Rattle.dispatch.specs.declared.Run.{Run}
-use Rattle.dispatch.specs.Dues.{carriedOf, endedOf, live, slowAfter, goal, due}
-use Rattle.dispatch.specs.Order.{queue, order}
+use Rattle.dispatch.specs.Dues.{carriedOf, endedOf, live, slowAt, slowAfter, goal, due}
+use Rattle.dispatch.specs.Order.{queue, order, serve}
 use Rattle.dispatch.specs.Step.{Ending, isOpen, WordEffect, endBy, slotSound, refusedBy, slotFault, granted, advanced, slotBy, stepped, outcome, endFault, toldEnded}
 use Rattle.dispatch.proofs.Queues.{queued, queue-ext, serve-ext, queued-both, queued-below}
 use Rattle.dispatch.proofs.SlotSoundness.{SlotSound, slot-sound}
@@ -140,9 +140,6 @@ module _ (p : Plan) (table : List ℕ) (q : Plan) (other : List ℕ) (same : Ali
   unfolding slotFault
   fault-same run v grants = rw (slot-sound-same run, long-same, last-same, counted-same, same .n) refl
 
-  slow-same : (run : Run) (v : ℕ) → slowAfter p run v ≡ slowAfter q run v
-  slow-same run v = ap (λ r. run .slow || ltb v (r .0)) (same .n)
-
   live-same : (run : Run) (i : ℕ) → i < counted p → live p run i ≡ live q run i
   live-same run i h = ap₂ (λ a b. not (endedOf run i) && (leb a (run .clock .0) && ltb (run .clock .0) b)) (same .release i h) (same .deadline i h)
 
@@ -179,17 +176,28 @@ module _ (p : Plan) (table : List ℕ) (q : Plan) (other : List ℕ) (same : Ali
       goal-same true = same .size i h
       goal-same false = ap₂ min (same .size i h) allotted-same
 
+  -- So a done call is a slow slot for both, or for neither.
+  pub slow-same : (run : Run) (v : ℕ) (grants : List ℕ) → Done p table run v grants → slowAt p table run v ≡ slowAt q other run v
+  slow-same run v grants d =
+      ap₂ (λ r s. ltb v (min (r .0) s)) (same .n)
+      (sum-ext _ _ (counted p) (λ k h. ap₂ on (live-same run k h) (due-same run v grants d false k h)) ∙ ap (sum _) counted-same)
+
+  mark-same : (run : Run) (v : ℕ) (grants : List ℕ) → Done p table run v grants → slowAfter p table run v ≡ slowAfter q other run v
+  mark-same run v grants d = ap (λ x. run .slow || x) (slow-same run v grants d)
+
   granted-same : (run : Run) (v : ℕ) (grants : List ℕ) → Done p table run v grants → granted p table run v grants ≡ granted q other run v grants
   unfolding granted
   granted-same run v grants d =
-      serve-ext _ (due q other run (slowAfter p run v)) v _ _
-      (λ k s. due-same run v grants d (slowAfter p run v) k (order-below run (slowAfter p run v) k s))
-      ∙ rw (order-same run (slowAfter p run v), counted-same, slow-same run v) refl
+      let slow = slowAfter p table run v in
+      serve-ext _ (due q other run slow) v _ _
+      (λ k s. due-same run v grants d slow k (order-below run slow k s))
+      ∙ ap (λ s. serve (due q other run s) v (order p run s) (replicate (counted p) 0 ++ drop (counted p) grants)) (mark-same run v grants d)
+      ∙ rw (order-same run (slowAfter q other run v), counted-same) refl
 
-  advanced-same : (run : Run) (v : ℕ) (grants : List ℕ) → granted p table run v grants ≡ granted q other run v grants
+  advanced-same : (run : Run) (v : ℕ) (grants : List ℕ) → Done p table run v grants → granted p table run v grants ≡ granted q other run v grants
       → advanced p table run v grants ≡ advanced q other run v grants
   unfolding advanced
-  advanced-same run v grants g = rw (g, counted-same, same .n, same .d) refl
+  advanced-same run v grants d g = rw (g, mark-same run v grants d, counted-same, same .d) refl
 
   -- The answer, run and grants of a slot's call are the same.
   pub alike-slot : (run : Run) (v : ℕ) (grants : List ℕ) → stepped p table run v grants ≡ stepped q other run v grants
@@ -199,8 +207,9 @@ module _ (p : Plan) (table : List ℕ) (q : Plan) (other : List ℕ) (same : Ali
     where
       go : (r : Report) → slotFault p table run v grants ≡ r → slotBy r p table run v grants ≡ slotBy r q other run v grants
       go [] e =
-          let g = granted-same run v grants (done p table run v grants e) in
-          rw (advanced-same run v grants g, g) refl
+          let d = done p table run v grants e in
+          let g = granted-same run v grants d in
+          rw (advanced-same run v grants d g, g) refl
       go (number ∷ rest) e = refl
 
   -- So is the outcome of every job.

@@ -1,7 +1,7 @@
 -- The closed form of a slot is its rule, for all plans, tables, runs and
 -- speeds; and the totals that follow from it.
 use mathlib.Core.Path.{_≡_, refl, sym, _∙_, ap, ap₂}
-use mathlib.Core.Bool.{Bool, true, false, not, cond, _&&_, _||_}
+use mathlib.Core.Bool.{Bool, true, false, not, cond, _&&_, _||_, or-true, and-true}
 use mathlib.Core.List.{List, _++_}
 use Prim.Native.Nat.{ℕ, _+_, _-_, _≤_, _<_, min}
 use native.Mathlib.Omega.{arith}
@@ -14,7 +14,7 @@ use Rattle.base.proofs.SumLaws.{sum-ext, sum-add}
 use Rattle.plan.specs.Rules.{counted, deadline, isHi}
 use Rattle.plan.specs.declared.kinds.Plan.{Plan}
 use Rattle.dispatch.specs.declared.Run.{Run}
-use Rattle.dispatch.specs.Dues.{live, slowAfter, due}
+use Rattle.dispatch.specs.Dues.{live, allDues, slowAfter, due}
 use Rattle.dispatch.specs.Order.{queue, order, ahead, serve}
 use Rattle.dispatch.specs.inner.Shares.{served, claim, share}
 use Rattle.dispatch.specs.Step.{granted}
@@ -55,12 +55,17 @@ queue-claim true false true x = refl
 queue-claim true false false x = omega arith
 queue-claim false h slow x = refl
 
+-- The sum of the live jobs' dues is that of the claims under the clear mark.
+pub dues-are-claims : (p : Plan) (table : List ℕ) (run : Run) → allDues p table run ≡ sum (claim p table run false) (counted p)
+dues-are-claims p table run =
+    sum-ext _ _ (counted p) (λ k l. ap (λ b. on b (due p table run false k)) (sym (ap (_&&_ (live p run k)) (or-true (isHi p k)) ∙ and-true (live p run k))))
+
 module _ (p : Plan) (table : List ℕ) (run : Run) (v : ℕ) (grants : List ℕ) where
   abbrev n : ℕ
   n = counted p
 
   abbrev slow : Bool
-  slow = slowAfter p run v
+  slow = slowAfter p table run v
 
   abbrev dues : ℕ → ℕ
   dues = due p table run slow

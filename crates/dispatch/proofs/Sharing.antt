@@ -1,11 +1,12 @@
 -- The grants of a slot from the columns: the claims if all of them fit into the speed, otherwise what the
 -- jobs get in turns.
 use mathlib.Core.Path.{_≡_, refl, sym, _∙_, ap, ap₂}
-use mathlib.Core.Bool.{Bool, true, false, not, cond, _&&_, _||_, and-false}
+use mathlib.Core.Bool.{Bool, true, false, true≢false, not, cond, _&&_, _||_, or-true, and-true, and-false}
 use mathlib.Core.List.{List, [], _++_}
 use Prim.Native.Nat.{ℕ, zero, suc, _+_, _*_, _-_, _≤_, _<_, min}
 use native.Mathlib.Nat.{one-mul}
 use native.Mathlib.Omega.{arith}
+use borrow.Author.Tests.{ltb-true, ltb-false, lt-ltb, le-ltb}
 use lib.Dec.{leb, ltb, eqb}
 use lib.ListN.{length, getD, drop, replicate, length-replicate, getD-replicate}
 use Rattle.base.specs.Fill.{filled}
@@ -21,11 +22,11 @@ use Rattle.plan.specs.declared.kinds.Outline.{Outline}
 use Rattle.plan.specs.declared.kinds.Plan.{Plan}
 use Rattle.plan.specs.declared.kinds.Slots.{Slots}
 use Rattle.dispatch.specs.declared.Run.{Run}
-use Rattle.dispatch.specs.Dues.{carriedOf, inItsWindow, live, slowAfter, goal, due}
+use Rattle.dispatch.specs.Dues.{carriedOf, inItsWindow, live, allDues, slowAfter, goal, due}
 use Rattle.dispatch.specs.Order.{rankAt, rank, queue, serve}
 use Rattle.dispatch.specs.Step.{granted}
 use Rattle.dispatch.specs.inner.Columns.{planOn}
-use Rattle.dispatch.specs.inner.Shares.{served, claim}
+use Rattle.dispatch.specs.inner.Shares.{served, claim, Shared}
 use Rattle.dispatch.specs.inner.Turns.{inWindowIn, classIn, rankIn, servedIn, goalIn, Goals, unknown, KnownDue, Claimed, inTurns}
 use Rattle.dispatch.proofs.Queues.{over, queue-ext, serve-ext, over-queue, queued-below}
 use Rattle.dispatch.proofs.Shares.{two-lines, within-claim, all-served}
@@ -35,10 +36,10 @@ use Rattle.dispatch.proofs.TurnLaws.{by-rank}
 
 -- If all claims fit into the speed, the grants are the claims.
 pub fitting-claims : (p : Plan) (table : List ℕ) (run : Run) (v : ℕ) (grants : List ℕ) → counted p ≤ length grants
-    → sum (claim p table run (slowAfter p run v)) (counted p) ≤ v
-    → filled (claim p table run (slowAfter p run v)) (counted p) grants ≡ granted p table run v grants
+    → sum (claim p table run (slowAfter p table run v)) (counted p) ≤ v
+    → filled (claim p table run (slowAfter p table run v)) (counted p) grants ≡ granted p table run v grants
 fitting-claims p table run v grants room fits =
-    let claims = claim p table run (slowAfter p run v) in
+    let claims = claim p table run (slowAfter p table run v) in
     is-filled claims (counted p) grants (granted p table run v grants) (granted-length p table run v grants room)
     (λ k inside below.
     same-terms (λ i. getD (granted p table run v grants) i 0) claims (counted p) (within-claim p table run v grants)
@@ -59,6 +60,21 @@ blank-filled n grants room =
     (λ k inside below. blank-none n grants k below)
     (λ k after. blank-rest n grants k after)
 
+-- The test for a speed below n under a clear mark: if it holds, and if it does not.
+pub slow-test : (s : Bool) (v n : ℕ) → (not s && ltb v n) ≡ true → (s ≡ false) × (v < n)
+slow-test true v n e = absurd (true≢false (sym e))
+slow-test false v n e = (refl, ltb-true v n e)
+
+pub normal-test : (s : Bool) (v n : ℕ) → (not s && ltb v n) ≡ false → s ≡ false → n ≤ v
+normal-test true v n e f = absurd (true≢false f)
+normal-test false v n e f = ltb-false v n e
+
+-- A slot that leaves the mark as it was is shared out under it.
+stays-shared : (s x : Bool) → (s || x) ≡ s → true ≡ (s || not x)
+stays-shared true x e = refl
+stays-shared false true e = e
+stays-shared false false e = refl
+
 module _ (o : Outline) (grades releases sizes deadlines table : List ℕ) (run : Run) (v : ℕ) where
   abbrev q : Plan
   q = planOn o grades releases sizes deadlines
@@ -69,7 +85,7 @@ module _ (o : Outline) (grades releases sizes deadlines table : List ℕ) (run :
   abbrev t : ℕ
   t = run .clock .0
 
-  module _ (unended : run .ended ≡ []) (marked : slowAfter q run v ≡ run .slow) where
+  module _ (unended : run .ended ≡ []) where
     live-on : (k : ℕ) → k < n → live q run k ≡ inWindowIn t releases deadlines k
     live-on k l =
         ap (λ e. not (getD e k false) && inItsWindow q t k) unended
@@ -80,11 +96,6 @@ module _ (o : Outline) (grades releases sizes deadlines table : List ℕ) (run :
 
     rank-on : (k : ℕ) → k < n → rank q k ≡ rankIn grades deadlines k
     rank-on k l = ap₂ (λ h d. rankAt h d k) (hi-on k l) (deadline-on o grades releases sizes deadlines k l)
-
-    served-on : (k : ℕ) → k < n → served q run (slowAfter q run v) k ≡ servedIn t (run .slow) grades releases deadlines k
-    served-on k l =
-        ap (λ s. served q run s k) marked
-        ∙ ap₂ (λ a h. a && (h || not (run .slow))) (live-on k l) (hi-on k l)
 
     -- The queues of the columns are those of the rules.
     hi-queue : queue (classIn true t grades releases deadlines) (rankIn grades deadlines) n
@@ -100,109 +111,155 @@ module _ (o : Outline) (grades releases sizes deadlines table : List ℕ) (run :
         and-second false true e = refl
         and-second false false e = e
 
-    lo-queue : run .slow ≡ false → queue (classIn false t grades releases deadlines) (rankIn grades deadlines) n
-        ≡ queue (λ k. live q run k && not (isHi q k) && not (slowAfter q run v)) (deadline q) n
-    lo-queue e =
-        sym
-        (by-rank q (λ k. live q run k && not (isHi q k) && not (slowAfter q run v)) false
-        (λ k l passes. lower (live q run k) (isHi q k) (not (slowAfter q run v)) passes)
-        ∙ queue-ext _ (classIn false t grades releases deadlines) _ (rankIn grades deadlines) n
-        (λ k l. rw (marked, e) (last (live q run k) (isHi q k) ∙ ap₂ (λ a h. a && not h) (live-on k l) (hi-on k l))) rank-on)
-      where
-        lower : (a h b : Bool) → (a && not h && b) ≡ true → h ≡ false
-        lower a false b e = refl
-        lower true true b e = sym e
-        lower false true b e = sym e
-
-        last : (a h : Bool) → (a && not h && true) ≡ (a && not h)
-        last true true = refl
-        last true false = refl
-        last false h = refl
-
     -- With goals that are those of the rules, what is due is the goal less what is carried.
-    module _ (goals : ℕ → ℕ) (right : Goals o grades releases sizes deadlines table (run .clock) (run .slow) goals)
-        (grants : List ℕ) (room : n ≤ length grants) where
-      abbrev dues : ℕ → ℕ
-      dues = due q table run (slowAfter q run v)
-
+    module _ (goals : ℕ → ℕ) (right : Goals o grades releases sizes deadlines table (run .clock) (run .slow) goals) where
       abbrev duesIn : ℕ → ℕ
       duesIn k = goals k - carriedOf run k
-
-      due-on : (k : ℕ) → k < n → dues k ≡ duesIn k
-      due-on k l =
-          ap (λ s. due q table run s k) marked
-          ∙ ap (λ e. cond (getD e k false) 0 (goal q table t (run .slow) k - carriedOf run k)) unended
-          ∙ ap (λ g. g - carriedOf run k) (sym (right k l))
 
       abbrev claimsIn : ℕ → ℕ
       claimsIn k = on (servedIn t (run .slow) grades releases deadlines k) (duesIn k)
 
-      claim-on : (k : ℕ) → k < n → claimsIn k ≡ claim q table run (slowAfter q run v) k
-      claim-on k l = sym (ap₂ on (served-on k l) (due-on k l))
+      due-of : (k : ℕ) → k < n → due q table run (run .slow) k ≡ duesIn k
+      due-of k l =
+          ap (λ e. cond (getD e k false) 0 (goal q table t (run .slow) k - carriedOf run k)) unended
+          ∙ ap (λ g. g - carriedOf run k) (sym (right k l))
 
-      -- The claims of the columns, if they fit, are the grants.
-      pub claims-granted : sum claimsIn n ≤ v → filled claimsIn n grants ≡ granted q table run v grants
-      claims-granted fits =
-          filled-ext _ (claim q table run (slowAfter q run v)) n grants claim-on
-          ∙ fitting-claims q table run v grants room
-          (rw (sym (sum-ext _ (claim q table run (slowAfter q run v)) n claim-on)) fits)
+      -- Under the clear mark the claims sum to the dues of the live jobs.
+      claims-are-dues : run .slow ≡ false → sum claimsIn n ≡ allDues q table run
+      claims-are-dues clear = sum-ext _ _ n each
+        where
+          each : (k : ℕ) → k < n → claimsIn k ≡ on (live q run k) (due q table run false k)
+          each k l =
+              ap (λ s. on (servedIn t s grades releases deadlines k) (duesIn k)) clear
+              ∙ ap₂ on
+              (ap (_&&_ (inWindowIn t releases deadlines k)) (or-true (eqb (getD grades k 0) hi)) ∙ and-true (inWindowIn t releases deadlines k) ∙ sym (live-on k l))
+              (sym (due-of k l) ∙ ap (λ s. due q table run s k) clear)
 
-      abbrev hiTest : ℕ → Bool
-      hiTest k = live q run k && isHi q k
-
-      abbrev loTest : ℕ → Bool
-      loTest k = live q run k && not (isHi q k) && not (slowAfter q run v)
-
-      abbrev essential : List ℕ
-      essential = queue hiTest (deadline q) n
-
-      abbrev others : List ℕ
-      others = queue loTest (deadline q) n
-
-      abbrev blank : List ℕ
-      blank = replicate n 0 ++ drop n grants
-
-      -- What the code writes for the HI jobs, and then for the others.
-      abbrev firstIn : List ℕ
-      firstIn = serve duesIn v (queue (classIn true t grades releases deadlines) (rankIn grades deadlines) n) (filled (λ k. 0) n grants)
-
-      abbrev claimedIn : ℕ
-      claimedIn = sum (λ k. on (classIn true t grades releases deadlines k) (duesIn k)) n
-
-      abbrev secondIn : List ℕ
-      secondIn = serve duesIn (v - claimedIn) (queue (classIn false t grades releases deadlines) (rankIn grades deadlines) n) firstIn
-
-      first-row : firstIn ≡ serve dues v essential blank
-      first-row =
-          ap₂ (λ l g. serve duesIn v l g) hi-queue (blank-filled n grants room)
-          ∙ serve-ext duesIn dues v essential blank (λ k e. sym (due-on k (queued-below hiTest (deadline q) k n e)))
-
-      claimed : claimedIn ≡ over dues essential
-      claimed =
-          sum-ext _ (λ k. on (hiTest k) (dues k)) n
-          (λ k l. sym (ap₂ on (ap₂ _&&_ (live-on k l) (hi-on k l)) (due-on k l)))
-          ∙ sym (over-queue hiTest (deadline q) dues n)
-
-      second-row : run .slow ≡ false → secondIn ≡ serve dues (v - over dues essential) others (serve dues v essential blank)
-      second-row e =
-          ap₂ (λ l g. serve duesIn (v - claimedIn) l g) (lo-queue e) first-row
-          ∙ serve-ext duesIn dues (v - claimedIn) others (serve dues v essential blank) (λ k m. sym (due-on k (queued-below loTest (deadline q) k n m)))
-          ∙ ap (λ x. serve dues (v - x) others (serve dues v essential blank)) claimed
-
-      -- Under the slow mark the others get nothing.
-      no-others : run .slow ≡ true → serve dues (v - over dues essential) others (serve dues v essential blank) ≡ serve dues v essential blank
-      unfolding serve
-      no-others e =
-          ap (λ l. serve dues (v - over dues essential) l (serve dues v essential blank))
-          (queue-none loTest (deadline q) n (λ k l. rw (marked, e) (and-false (live q run k && not (isHi q k)))))
-
-      -- What the jobs get in turns is what the rules grant.
-      pub turns-granted : inTurns t (run .slow) grades releases deadlines duesIn v n (filled (λ k. 0) n grants) ≡ granted q table run v grants
-      turns-granted =
+      -- What fits leaves the mark as it was, and so does the normal rate; claims that do not fit into less set it.
+      fits-stays : sum claimsIn n ≤ v → slowAfter q table run v ≡ run .slow
+      fits-stays fits =
           if-true (run .slow)
-          (λ e. ap (λ s. cond s firstIn secondIn) e ∙ first-row ∙ sym (no-others e))
-          (λ e. ap (λ s. cond s firstIn secondIn) e ∙ second-row e)
-          ∙ sym (two-lines q table run v grants)
+          (λ e. rw e refl)
+          (λ e. rw e (le-ltb v (min (o .n .0) (allDues q table run)) (omega (arith, claims-are-dues e))))
+
+      normal-stays : (run .slow ≡ false → o .n .0 ≤ v) → slowAfter q table run v ≡ run .slow
+      normal-stays normal =
+          if-true (run .slow)
+          (λ e. rw e refl)
+          (λ e. rw e (le-ltb v (min (o .n .0) (allDues q table run)) (omega (arith, normal e))))
+
+      module _ (grants : List ℕ) where
+        -- A slot that is slow under a clear mark is not shared out under it.
+        pub shared-not : run .slow ≡ false → v < o .n .0 → v < sum claimsIn n → Shared q table run v grants false grants
+        shared-not clear below over =
+            (rw (clear, lt-ltb v (min (o .n .0) (allDues q table run)) (omega (arith, claims-are-dues clear))) refl, refl)
+
+        module _ (room : n ≤ length grants) where
+          module _ (marked : slowAfter q table run v ≡ run .slow) where
+            abbrev dues : ℕ → ℕ
+            dues = due q table run (slowAfter q table run v)
+
+            due-on : (k : ℕ) → k < n → dues k ≡ duesIn k
+            due-on k l = ap (λ s. due q table run s k) marked ∙ due-of k l
+
+            served-on : (k : ℕ) → k < n → served q run (slowAfter q table run v) k ≡ servedIn t (run .slow) grades releases deadlines k
+            served-on k l =
+                ap (λ s. served q run s k) marked
+                ∙ ap₂ (λ a h. a && (h || not (run .slow))) (live-on k l) (hi-on k l)
+
+            claim-on : (k : ℕ) → k < n → claimsIn k ≡ claim q table run (slowAfter q table run v) k
+            claim-on k l = sym (ap₂ on (served-on k l) (due-on k l))
+
+            -- The claims of the columns, if they fit, are the grants.
+            claims-granted : sum claimsIn n ≤ v → filled claimsIn n grants ≡ granted q table run v grants
+            claims-granted fits =
+                filled-ext _ (claim q table run (slowAfter q table run v)) n grants claim-on
+                ∙ fitting-claims q table run v grants room
+                (rw (sym (sum-ext _ (claim q table run (slowAfter q table run v)) n claim-on)) fits)
+
+            lo-queue : run .slow ≡ false → queue (classIn false t grades releases deadlines) (rankIn grades deadlines) n
+                ≡ queue (λ k. live q run k && not (isHi q k) && not (slowAfter q table run v)) (deadline q) n
+            lo-queue e =
+                sym
+                (by-rank q (λ k. live q run k && not (isHi q k) && not (slowAfter q table run v)) false
+                (λ k l passes. lower (live q run k) (isHi q k) (not (slowAfter q table run v)) passes)
+                ∙ queue-ext _ (classIn false t grades releases deadlines) _ (rankIn grades deadlines) n
+                (λ k l. rw (marked, e) (last (live q run k) (isHi q k) ∙ ap₂ (λ a h. a && not h) (live-on k l) (hi-on k l))) rank-on)
+              where
+                lower : (a h b : Bool) → (a && not h && b) ≡ true → h ≡ false
+                lower a false b e = refl
+                lower true true b e = sym e
+                lower false true b e = sym e
+
+                last : (a h : Bool) → (a && not h && true) ≡ (a && not h)
+                last true true = refl
+                last true false = refl
+                last false h = refl
+
+            abbrev hiTest : ℕ → Bool
+            hiTest k = live q run k && isHi q k
+
+            abbrev loTest : ℕ → Bool
+            loTest k = live q run k && not (isHi q k) && not (slowAfter q table run v)
+
+            abbrev essential : List ℕ
+            essential = queue hiTest (deadline q) n
+
+            abbrev others : List ℕ
+            others = queue loTest (deadline q) n
+
+            abbrev blank : List ℕ
+            blank = replicate n 0 ++ drop n grants
+
+            -- What the code writes for the HI jobs, and then for the others.
+            abbrev firstIn : List ℕ
+            firstIn = serve duesIn v (queue (classIn true t grades releases deadlines) (rankIn grades deadlines) n) (filled (λ k. 0) n grants)
+
+            abbrev claimedIn : ℕ
+            claimedIn = sum (λ k. on (classIn true t grades releases deadlines k) (duesIn k)) n
+
+            abbrev secondIn : List ℕ
+            secondIn = serve duesIn (v - claimedIn) (queue (classIn false t grades releases deadlines) (rankIn grades deadlines) n) firstIn
+
+            first-row : firstIn ≡ serve dues v essential blank
+            first-row =
+                ap₂ (λ l g. serve duesIn v l g) hi-queue (blank-filled n grants room)
+                ∙ serve-ext duesIn dues v essential blank (λ k e. sym (due-on k (queued-below hiTest (deadline q) k n e)))
+
+            claimed : claimedIn ≡ over dues essential
+            claimed =
+                sum-ext _ (λ k. on (hiTest k) (dues k)) n
+                (λ k l. sym (ap₂ on (ap₂ _&&_ (live-on k l) (hi-on k l)) (due-on k l)))
+                ∙ sym (over-queue hiTest (deadline q) dues n)
+
+            second-row : run .slow ≡ false → secondIn ≡ serve dues (v - over dues essential) others (serve dues v essential blank)
+            second-row e =
+                ap₂ (λ l g. serve duesIn (v - claimedIn) l g) (lo-queue e) first-row
+                ∙ serve-ext duesIn dues (v - claimedIn) others (serve dues v essential blank) (λ k m. sym (due-on k (queued-below loTest (deadline q) k n m)))
+                ∙ ap (λ x. serve dues (v - x) others (serve dues v essential blank)) claimed
+
+            -- Under the slow mark the others get nothing.
+            no-others : run .slow ≡ true → serve dues (v - over dues essential) others (serve dues v essential blank) ≡ serve dues v essential blank
+            unfolding serve
+            no-others e =
+                ap (λ l. serve dues (v - over dues essential) l (serve dues v essential blank))
+                (queue-none loTest (deadline q) n (λ k l. rw (marked, e) (and-false (live q run k && not (isHi q k)))))
+
+            -- What the jobs get in turns is what the rules grant.
+            turns-granted : inTurns t (run .slow) grades releases deadlines duesIn v n (filled (λ k. 0) n grants) ≡ granted q table run v grants
+            turns-granted =
+                if-true (run .slow)
+                (λ e. ap (λ s. cond s firstIn secondIn) e ∙ first-row ∙ sym (no-others e))
+                (λ e. ap (λ s. cond s firstIn secondIn) e ∙ second-row e)
+                ∙ sym (two-lines q table run v grants)
+
+          -- A slot is shared out under the mark of its run: by the claims if they fit, otherwise in turns.
+          pub shared-claims : sum claimsIn n ≤ v → Shared q table run v grants true (filled claimsIn n grants)
+          shared-claims fits = (stays-shared (run .slow) _ (fits-stays fits), claims-granted (fits-stays fits) fits)
+
+          pub shared-turns : (run .slow ≡ false → o .n .0 ≤ v)
+              → Shared q table run v grants true (inTurns t (run .slow) grades releases deadlines duesIn v n (filled (λ k. 0) n grants))
+          shared-turns normal = (stays-shared (run .slow) _ (normal-stays normal), turns-granted (normal-stays normal))
 
 -- The sum of the first numbers of a row is the sum of the allotments in as many intervals.
 pub allotted : (table : List ℕ) (i spans : ℕ) → sum (strided table (mostIntervals * i) 1) spans ≡ sum (allotment mostIntervals table i) spans
@@ -224,12 +281,6 @@ sizes-are-goals o grades releases sizes deadlines table clock slow spans begun k
         → goalIn s spans sizes table k ≡ goal (planOn o grades releases sizes deadlines) table (clock .0) s k
     by true b = size-is
     by false b = ap₂ (λ s m. min s (sum (allotment mostIntervals table k) m)) size-is (b refl)
-
--- A mark that is set whenever the speed is below the rate is the mark after the slot.
-pub absorbs : (s x : Bool) → (x ≡ true → s ≡ true) → (s || x) ≡ s
-absorbs true x h = refl
-absorbs false true h = sym (h refl)
-absorbs false false h = refl
 
 -- What a row of claims holds: a known claim is right.
 pub claims-known : (claim dues : ℕ → ℕ) (served : ℕ → Bool) (v n : ℕ) {row : List ℕ} {fit : Bool} → ((k : ℕ) → claim k ≡ on (served k) (dues k))

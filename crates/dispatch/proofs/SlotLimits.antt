@@ -36,18 +36,18 @@ module _ (p : Plan) (table : List ℕ) (run : Run) (v : ℕ) (grants : List ℕ)
   never-above-speed = rw (all-served p table run v grants) (omega arith)
 
   -- No job is granted more than its due.
-  pub never-above-due : (i : ℕ) → i < counted p → grant i ≤ due p table run (slowAfter p run v) i
+  pub never-above-due : (i : ℕ) → i < counted p → grant i ≤ due p table run (slowAfter p table run v) i
   never-above-due i l =
       omega (
         arith,
         within-claim p table run v grants i l,
-        on-less (served p run (slowAfter p run v) i) (due p table run (slowAfter p run v) i),
+        on-less (served p run (slowAfter p table run v) i) (due p table run (slowAfter p table run v) i),
       )
 
   -- A job that is not live is granted nothing.
   pub never-unless-live : (i : ℕ) → i < counted p → live p run i ≡ false → grant i ≡ 0
   never-unless-live i l dead =
-      let nothing : claim p table run (slowAfter p run v) i ≡ 0 = rw dead refl in
+      let nothing : claim p table run (slowAfter p table run v) i ≡ 0 = rw dead refl in
       omega (arith, within-claim p table run v grants i l)
 
   -- A call that is done leaves the advanced run and the slot's grants.
@@ -67,7 +67,7 @@ module _ (p : Plan) (table : List ℕ) (run : Run) (v : ℕ) (grants : List ℕ)
   done-within-speed e = rw (done-leaves e .1) never-above-speed
 
   pub done-within-due : stepped p table run v grants .answer ≡ [] → (i : ℕ) → i < counted p
-      → getD (stepped p table run v grants .grants) i 0 ≤ due p table run (slowAfter p run v) i
+      → getD (stepped p table run v grants .grants) i 0 ≤ due p table run (slowAfter p table run v) i
   done-within-due e i l = rw (done-leaves e .1) (never-above-due i l)
 
   pub done-live-only : stepped p table run v grants .answer ≡ [] → (i : ℕ) → i < counted p → live p run i ≡ false

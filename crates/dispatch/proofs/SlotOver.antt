@@ -1,27 +1,26 @@
 -- The effect of a slot's call from what the code finds: a refusal, or marks, grants and carried units.
 use mathlib.Core.Path.{_≡_, refl, sym, _∙_, ap, ap₂}
-use mathlib.Core.Bool.{Bool, true, false, cond, _||_}
-use mathlib.Core.List.{List, [], _∷_}
+use mathlib.Core.Bool.{Bool, true, false, not, cond, _&&_, _||_, and-true}
+use mathlib.Core.List.{List, [], _∷_, _++_}
 use Prim.Native.Nat.{ℕ, _+_, _-_, _≤_, _<_, _^_, min}
 use native.Mathlib.Omega.{arith}
-use lib.ListN.{length, getD}
+use lib.Dec.{ltb}
+use lib.ListN.{length, getD, drop, replicate}
 use Rattle.base.specs.Fill.{filled}
 use Rattle.base.specs.Sum.{on}
 use Rattle.base.proofs.Choice.{on-less, on-zero}
 use Rattle.base.proofs.FillLaws.{filled-ext, is-filled}
 use Rattle.base.proofs.SumLaws.{sum-ext}
-use Rattle.plan.specs.Rules.{counted, size}
+use Rattle.plan.specs.Rules.{counted, size, isHi}
 use Rattle.plan.specs.Refusal.{unsound}
 use Rattle.plan.specs.Report.{Report, isNone}
-use Rattle.plan.specs.declared.kinds.Outline.{Outline}
 use Rattle.plan.specs.declared.kinds.Plan.{Plan}
 use Rattle.plan.specs.declared.kinds.Slots.{Slots}
 use Rattle.dispatch.specs.declared.Run.{Run}
-use Rattle.dispatch.specs.Dues.{carriedOf, endedOf, slowAfter, belowAfter, goal, due}
-use Rattle.dispatch.specs.Order.{before}
+use Rattle.dispatch.specs.Dues.{carriedOf, endedOf, live, slowAt, slowAfter, belowAfter, goal, due}
+use Rattle.dispatch.specs.Order.{before, order, serve}
 use Rattle.dispatch.specs.Step.{slotSound, slotFault, granted, added, advanced, slotBy, stepped}
-use Rattle.dispatch.specs.inner.Shares.{settledOf, served, claim, share}
-use Rattle.dispatch.specs.inner.Turns.{Goals}
+use Rattle.dispatch.specs.inner.Shares.{settledOf, settledRun, served, claim, share, Shared}
 use Rattle.dispatch.proofs.Readiness.{left-by}
 use Rattle.dispatch.proofs.RowShares.{filled-is-added, granted-rest, granted-length}
 use Rattle.dispatch.proofs.Shares.{granted-is-share, within-claim}
@@ -50,7 +49,7 @@ carried-fits p table run v grants sound k h =
     omega (
       arith,
       within-claim p table run v grants k h,
-      claim-small p table run (slowAfter p run v) k,
+      claim-small p table run (slowAfter p table run v) k,
       sound .carried k h,
       sound .rules .sizes k h,
     )
@@ -62,50 +61,94 @@ shares-granted p table run v grants room =
     is-filled (share p table run v) (counted p) grants (granted p table run v grants) (granted-length p table run v grants room)
     (λ k inside below. granted-is-share p table run v grants k below) (granted-rest p table run v grants)
 
--- A run in which no job has ended, but each that has counts as carried in whole, and with the slow mark of after the slot, gets
--- the same grants: nothing is due to a job that has ended, or that has its size.
-module _ (p : Plan) (table : List ℕ) (run : Run) (slow below : Bool) (settled : List ℕ) (v : ℕ) where
-  abbrev settledRun : Run
-  settledRun = record { clock = run .clock; slow = slow; below = below; carried = settled; ended = [] }
+-- A run in which no job has ended, but each that has counts as carried in whole, has the same slow mark after the slot and
+-- gets the same grants: nothing is due to a job that has ended, or that has its size.
+module _ (p : Plan) (table : List ℕ) (run : Run) (settled : List ℕ) (v : ℕ)
+    (held : (k : ℕ) → k < counted p → getD settled k 0 ≡ settledOf p run k) where
+  abbrev asSettled : Run
+  asSettled = settledRun (run .clock) (run .slow) settled
 
-  module _ (mark : slowAfter p settledRun v ≡ slowAfter p run v)
-      (held : (k : ℕ) → k < counted p → getD settled k 0 ≡ settledOf p run k) where
-    settled-claim : (k : ℕ) → k < counted p → claim p table settledRun (slowAfter p settledRun v) k ≡ claim p table run (slowAfter p run v) k
-    settled-claim k l = ap (λ s. claim p table settledRun s k) mark ∙ by (endedOf run k) refl (slowAfter p run v)
-      where
-        by : (ended : Bool) → endedOf run k ≡ ended → (s : Bool) → claim p table settledRun s k ≡ claim p table run s k
-        by true e s =
-            let whole : getD settled k 0 ≡ size p k = held k l ∙ ap (λ b. cond b (size p k) (carriedOf run k)) e in
-            ap (on (served p settledRun s k)) (none s whole) ∙ on-zero (served p settledRun s k) ∙ sym (rw e refl)
-          where
-            none : (s : Bool) → getD settled k 0 ≡ size p k → goal p table (run .clock .0) s k - getD settled k 0 ≡ 0
-            none true w = omega (arith, w)
-            none false w = omega (arith, w)
-        by false e s =
-            let same : getD settled k 0 ≡ carriedOf run k = held k l ∙ ap (λ b. cond b (size p k) (carriedOf run k)) e in
-            ap (λ c. on (served p settledRun s k) (goal p table (run .clock .0) s k - c)) same ∙ sym (rw e refl)
+  settled-part : (b s : Bool) (k : ℕ) → k < counted p → on (live p asSettled k && b) (due p table asSettled s k) ≡ on (live p run k && b) (due p table run s k)
+  settled-part b s k l = by (endedOf run k) refl
+    where
+      none : (s : Bool) → getD settled k 0 ≡ size p k → goal p table (run .clock .0) s k - getD settled k 0 ≡ 0
+      none true w = omega (arith, w)
+      none false w = omega (arith, w)
 
-    settled-share : (k : ℕ) → k < counted p → share p table settledRun v k ≡ share p table run v k
-    unfolding share
-    settled-share k l =
-        ap₂ (λ c s. min c (v - s)) (settled-claim k l) (sum-ext _ _ (counted p) (λ i h. ap (on (before p i k)) (settled-claim i h)))
+      by : (ended : Bool) → endedOf run k ≡ ended → on (live p asSettled k && b) (due p table asSettled s k) ≡ on (live p run k && b) (due p table run s k)
+      by true e =
+          let whole : getD settled k 0 ≡ size p k = held k l ∙ ap (λ b. cond b (size p k) (carriedOf run k)) e in
+          ap (on (live p asSettled k && b)) (none s whole) ∙ on-zero (live p asSettled k && b) ∙ sym (rw e refl)
+      by false e =
+          let same : getD settled k 0 ≡ carriedOf run k = held k l ∙ ap (λ b. cond b (size p k) (carriedOf run k)) e in
+          ap (λ c. on (live p asSettled k && b) (goal p table (run .clock .0) s k - c)) same ∙ sym (rw e refl)
 
-    pub settled-granted : (grants : List ℕ) → counted p ≤ length grants → granted p table settledRun v grants ≡ granted p table run v grants
-    settled-granted grants room =
-        sym (shares-granted p table settledRun v grants room) ∙ filled-ext _ _ (counted p) grants settled-share
-        ∙ shares-granted p table run v grants room
+  pub settled-mark : slowAfter p table asSettled v ≡ slowAfter p table run v
+  settled-mark = ap (λ d. run .slow || ltb v (min (p .n .0) d)) (sum-ext _ _ (counted p) each)
+    where
+      each : (k : ℕ) → k < counted p → on (live p asSettled k) (due p table asSettled false k) ≡ on (live p run k) (due p table run false k)
+      each k l = rw (and-true (live p asSettled k), and-true (live p run k)) at (settled-part true false k l)
 
--- Laws for the functions that carry a slot, in a single call and in a shift.
--- The slow mark of after the slot is that of the slot for a run that has it.
-pub again : (was x : Bool) {slow : Bool} → slow ≡ (was || x) → (slow || x) ≡ (was || x)
-again true x e = rw e refl
-again false true e = rw e refl
-again false false e = rw e refl
+  settled-claim : (k : ℕ) → k < counted p → claim p table asSettled (slowAfter p table asSettled v) k ≡ claim p table run (slowAfter p table run v) k
+  settled-claim k l =
+      ap (λ s. claim p table asSettled s k) settled-mark
+      ∙ settled-part (isHi p k || not (slowAfter p table run v)) (slowAfter p table run v) k l
 
--- The goals of the slot are those under the slow mark of after it.
-pub same-mark : (o : Outline) (grades releases sizes deadlines table : List ℕ) (t : Slots) {slow mark : Bool} (f : ℕ → ℕ) → slow ≡ mark
-    → Goals o grades releases sizes deadlines table t mark f → Goals o grades releases sizes deadlines table t slow f
-same-mark o grades releases sizes deadlines table t f e g = rw e g
+  settled-share : (k : ℕ) → k < counted p → share p table asSettled v k ≡ share p table run v k
+  unfolding share
+  settled-share k l =
+      ap₂ (λ c s. min c (v - s)) (settled-claim k l) (sum-ext _ _ (counted p) (λ i h. ap (on (before p i k)) (settled-claim i h)))
+
+  pub settled-granted : (grants : List ℕ) → counted p ≤ length grants → granted p table asSettled v grants ≡ granted p table run v grants
+  settled-granted grants room =
+      sym (shares-granted p table asSettled v grants room) ∙ filled-ext _ _ (counted p) grants settled-share
+      ∙ shares-granted p table run v grants room
+
+-- Laws for the functions that share out a slot, in a single call and in a shift.
+-- A slot shared out under the mark of its run leaves that mark, and the grants.
+pub shared-under : (p : Plan) (table : List ℕ) (run : Run) (v : ℕ) (grants : List ℕ) {done : Bool} {left : List ℕ} → Shared p table run v grants done left
+    → done ≡ true → (run .slow ≡ slowAfter p table run v) × (left ≡ granted p table run v grants)
+shared-under p table run v grants told e =
+    (by (run .slow) (slowAt p table run v) (sym e ∙ told .0), told .1 ∙ ap (λ b. cond b (granted p table run v grants) grants) e)
+  where
+    by : (s x : Bool) → true ≡ (s || not x) → s ≡ (s || x)
+    by true x h = refl
+    by false true h = sym h
+    by false false h = refl
+
+-- A slot that is not shared out under the mark of its run leaves the grant row as it was.
+pub shared-long : (p : Plan) (table : List ℕ) (run : Run) (v : ℕ) (grants : List ℕ) {done : Bool} {left : List ℕ} {n : ℕ}
+    → Shared p table run v grants done left → done ≡ false → n ≤ length grants → n ≤ length left
+shared-long p table run v grants told e room =
+    rw (told .1 ∙ ap (λ b. cond b (granted p table run v grants) grants) e) room
+
+-- A slot that is not shared out under the mark of its run leaves the grant row as it was and sets the mark; and shared out under the
+-- slow mark, it has the grants.
+pub shared-slow : (p : Plan) (table : List ℕ) (clock : Slots) (slow : Bool) (settled : List ℕ) (v : ℕ) (grants : List ℕ) {done again : Bool} {row left : List ℕ}
+    → Shared p table (settledRun clock slow settled) v grants done row → done ≡ false → Shared p table (settledRun clock true settled) v row again left
+    → (true ≡ slowAfter p table (settledRun clock slow settled) v) × (left ≡ granted p table (settledRun clock slow settled) v grants)
+unfolding granted order
+shared-slow p table clock slow settled v grants {done} {again} {row} {left} first e second = (marked, second .1 ∙ ap (λ b. cond b (granted p table slowRun v row) row) (second .0) ∙ ap (granted p table slowRun v) stays ∙ same)
+  where
+    run : Run
+    run = settledRun clock slow settled
+
+    slowRun : Run
+    slowRun = settledRun clock true settled
+
+    by : (s x : Bool) → false ≡ (s || not x) → true ≡ (s || x)
+    by true x h = refl
+    by false true h = refl
+    by false false h = sym h
+
+    marked : true ≡ slowAfter p table run v
+    marked = by slow (slowAt p table run v) (sym e ∙ first .0)
+
+    stays : row ≡ grants
+    stays = first .1 ∙ ap (λ b. cond b (granted p table run v grants) grants) e
+
+    same : granted p table slowRun v grants ≡ granted p table run v grants
+    same = ap (λ s. serve (due p table run s) v (order p run s) (replicate (counted p) 0 ++ drop (counted p) grants)) marked
 
 -- The room and the sums for an equal row.
 pub same-room : {m n : ℕ} {l g : List ℕ} → m ≡ n → l ≡ g → n ≤ length g → m ≤ length l
@@ -116,7 +159,7 @@ same-sums x k q h = rw q h
 
 -- The run after a slot: the marks, and the carried units with the grants added.
 pub slot-run : (p : Plan) (table : List ℕ) (run : Run) (v : ℕ) (grants : List ℕ) {slow below : Bool} {clock : Slots} {carried left : List ℕ}
-    → counted p ≤ length grants → clock ≡ record { 0 = run .clock .0 + 1 } → slow ≡ slowAfter p run v → below ≡ belowAfter p run v
+    → counted p ≤ length grants → clock ≡ record { 0 = run .clock .0 + 1 } → slow ≡ slowAfter p table run v → below ≡ belowAfter p run v
     → left ≡ granted p table run v grants → carried ≡ filled (λ k. carriedOf run k + getD left k 0) (counted p) (run .carried)
     → record { clock = clock; slow = slow; below = below; carried = carried; ended = run .ended } ≡ advanced p table run v grants
 unfolding advanced

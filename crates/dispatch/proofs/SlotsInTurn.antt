@@ -89,7 +89,7 @@ module _ (p : Plan) (table : List ℕ) (run : Run) (v : ℕ) (grants : List ℕ)
         arith,
         added-most (counted p) (run .carried) (granted p table run v grants) k,
         within-claim p table run v grants k h,
-        claim-small p table run (slowAfter p run v) k,
+        claim-small p table run (slowAfter p table run v) k,
         s .carried k h,
       ))))
 

@@ -4,9 +4,9 @@ use Prim.Native.Nat.{suc, _-_, min}
 use lib.Dec.{leb, ltb}
 use lib.ListN.{getD}
 use Rattle.plan.specs.Kinds.{Amount, Position, Speed, Table, Time}
-use Rattle.base.specs.Sum.{sum}
+use Rattle.base.specs.Sum.{sum, on}
 use Rattle.plan.specs.Edition.{mostIntervals}
-use Rattle.plan.specs.Rules.{release, size, deadline}
+use Rattle.plan.specs.Rules.{counted, release, size, deadline}
 use Rattle.plan.specs.Boundaries.{present}
 use Rattle.plan.specs.Table.{allotment}
 use Rattle.plan.specs.declared.kinds.Plan.{Plan}
@@ -32,10 +32,6 @@ live p run i = not (endedOf run i) && inItsWindow p (run .clock .0) i
 abbrev pub allottedBy : (p : Plan) (table : Table) (t : Time) (i : Position) → Amount
 allottedBy p table t i = sum (allotment mostIntervals table i) (suc (present p t))
 
--- The slow mark after a slot at speed v: set by a speed below n, and never cleared.
-abbrev pub slowAfter : (p : Plan) (run : Run) (v : Speed) → Bool
-slowAfter p run v = run .slow || ltb v (p .n .0)
-
 -- The below-floor mark after a slot at speed v: set by a speed below d, and never cleared.
 abbrev pub belowAfter : (p : Plan) (run : Run) (v : Speed) → Bool
 belowAfter p run v = run .below || ltb v (p .d .0)
@@ -48,3 +44,15 @@ goal p table t slow i = cond slow (size p i) (min (size p i) (allottedBy p table
 -- What is due to job i: 0 if it has ended, otherwise its goal less what is carried, or 0 if more is carried.
 abbrev pub due : (p : Plan) (table : Table) (run : Run) (slow : Bool) (i : Position) → Amount
 due p table run slow i = cond (endedOf run i) 0 (goal p table (run .clock .0) slow i - carriedOf run i)
+
+-- The sum of the live jobs' dues, HI and LO, by the goals of the clear mark.
+abbrev pub allDues : (p : Plan) (table : Table) (run : Run) → Amount
+allDues p table run = sum (λ i. on (live p run i) (due p table run false i)) (counted p)
+
+-- A slot at speed v is slow: v is below the lesser of n and the sum of the live jobs' dues.
+abbrev pub slowAt : (p : Plan) (table : Table) (run : Run) (v : Speed) → Bool
+slowAt p table run v = ltb v (min (p .n .0) (allDues p table run))
+
+-- The slow mark after a slot at speed v: set by a slow slot, and never cleared.
+abbrev pub slowAfter : (p : Plan) (table : Table) (run : Run) (v : Speed) → Bool
+slowAfter p table run v = run .slow || slowAt p table run v

@@ -69,7 +69,7 @@ slotFault p table run v grants =
 -- served jobs get; entries past them are unchanged.
 unfoldable pub granted : (p : Plan) (table : Table) (run : Run) (v : Speed) (grants : Row) → Row
 granted p table run v grants =
-    serve (due p table run (slowAfter p run v)) v (order p run (slowAfter p run v))
+    serve (due p table run (slowAfter p table run v)) v (order p run (slowAfter p table run v))
     (replicate (counted p) 0 ++ drop (counted p) grants)
 
 -- Adds the first n numbers of a second list to those of l, as far as both lists go; the rest of l is
@@ -85,7 +85,7 @@ unfoldable pub advanced : (p : Plan) (table : Table) (run : Run) (v : Speed) (gr
 advanced p table run v grants =
     record {
       clock = record { 0 = run .clock .0 + 1 };
-      slow = slowAfter p run v;
+      slow = slowAfter p table run v;
       below = belowAfter p run v;
       carried = added (counted p) (run .carried) (granted p table run v grants);
       ended = run .ended;

@@ -104,17 +104,16 @@ pub(crate) fn all_fit(
     v: Units,
     clock: Slots,
     slow: bool,
-    whole: bool,
     spans: u32,
     grades: &[u32; Edition::MOST_JOBS],
     releases: &[u32; Edition::MOST_JOBS],
-    goals: &[u32; Edition::MOST_JOBS],
+    sizes: &[u32; Edition::MOST_JOBS],
     deadlines: &[u32; Edition::MOST_JOBS],
     carried: &[u32; Edition::MOST_JOBS],
     table: &[u32],
 ) -> bool
     requires { ⌜ (jobs ≤ mostJobs) × (v .0 ≤ unknown) × (now claims ≡ replicate mostJobs unknown) ⌝ }
-    ensures { λ r. ⌜ Claimed (claimIn (clock .0) slow whole spans (now (grades .entry)) (now (releases .entry)) (now (goals .entry)) (now (deadlines .entry)) (now (carried .entry)) (now (table .entry))) (v .0) jobs (now (claims .exit)) r ⌝ }
+    ensures { λ r. ⌜ Claimed (claimIn (clock .0) slow slow spans (now (grades .entry)) (now (releases .entry)) (now (sizes .entry)) (now (deadlines .entry)) (now (carried .entry)) (now (table .entry))) (v .0) jobs (now (claims .exit)) r ⌝ }
 {
     let mut total = Units(0);
     let mut i = 0;
@@ -123,7 +122,7 @@ pub(crate) fn all_fit(
         let release = Slots(releases[i]);
         let deadline = Slots(deadlines[i]);
         if is_served(grades[i], release, deadline, clock, slow) {
-            claim = due_at(whole, spans, goals, carried, table, i);
+            claim = due_at(slow, spans, sizes, carried, table, i);
         }
         claims[i] = claim.0 as u32;
         total = Units(total.0 + claim.0);

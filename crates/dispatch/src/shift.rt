@@ -8,9 +8,9 @@ use crate::claims::bounded;
 use crate::claims::is_served;
 use crate::claims::left_of;
 use crate::claims::lesser_of;
+use crate::slot::below_after;
 use crate::slot::carry_grants;
 use crate::slot::grant_claims;
-use crate::slot::mark_after;
 use crate::slot::serve_in_turns;
 use crate::slot::settle;
 use crate::slot::spans_of;
@@ -36,18 +36,19 @@ use plan::refusal::TOO_MANY_SPEEDS;
 use plan::refusal::UNSOUND;
 use plan::rules::counted_within;
 ghost use mathlib.Core.Path.{_≡_};
-ghost use mathlib.Core.Bool.{true, false, _||_};
+ghost use mathlib.Core.Bool.{true};
 ghost use mathlib.Core.List.{List, []};
 ghost use Prim.Native.Nat.{ℕ, _*_, _-_, _≤_, _<_, min};
-ghost use lib.Dec.{ltb, eqb};
 ghost use lib.ListN.{length, getD};
 ghost use Rattle.base.specs.Fill.{filled};
 ghost use Rattle.base.specs.Sum.{sum, on};
 ghost use Rattle.plan.specs.Boundaries.{lastDeadline};
 ghost use Rattle.plan.specs.Edition.{mostJobs, mostDeadline, mostSpeeds, places};
 ghost use Rattle.dispatch.specs.inner.Columns.{planOn};
+ghost use Rattle.dispatch.specs.inner.Shares.{settledRun, Shared};
 ghost use Rattle.dispatch.specs.inner.Turns.{goalIn, Goals, keptGoal, KeepsGoals, claimIn, unknown};
 ghost use Rattle.dispatch.specs.Answers.{answerView, runAt, Shifts, ShiftsOver};
+ghost use Rattle.dispatch.specs.Dues.{slowAfter};
 ghost use Rattle.dispatch.specs.Step.{slotSound, granted, advanced, stepped};
 ghost use Rattle.dispatch.specs.Shift.{slotsFrom};
 
@@ -152,7 +153,7 @@ fn claim_kept(
     total
 }
 
-// Writes the grants of a slot at speed v by the goals that are kept, as `share_out` does in a single call. All claims are
+// Writes the grants of a slot at speed v by a column of goals, as `share_under` does in a single call. All claims are
 // worked out at once, since no row has to be added up for one.
 fn share_kept(
     o: Outline,
@@ -166,9 +167,9 @@ fn share_kept(
     carried: &[u32; Edition::MOST_JOBS],
     table: &[u32],
     grants: &mut [u32],
-)
-    requires { ⌜ (min (o .count) mostJobs ≤ length (now grants)) × ((k : ℕ) → k < min (o .count) mostJobs → getD (now deadlines) k 0 ≤ mostDeadline) × (ltb (v .0) (o .n .0) ≡ true → slow ≡ true) ⌝ }
-    ensures { λ r. ⌜ ((sizes rows : List ℕ) → Goals o (now (grades .entry)) (now (releases .entry)) sizes (now (deadlines .entry)) rows clock slow (λ k. getD (now (goals .entry)) k 0) → now (grants .exit) ≡ granted (planOn o (now (grades .entry)) (now (releases .entry)) sizes (now (deadlines .entry))) rows (record { clock = clock; slow = slow; below = false; carried = now (carried .entry); ended = [] }) (v .0) (now (grants .entry))) ⌝ }
+) -> bool
+    requires { ⌜ (min (o .count) mostJobs ≤ length (now grants)) × ((k : ℕ) → k < min (o .count) mostJobs → getD (now deadlines) k 0 ≤ mostDeadline) ⌝ }
+    ensures { λ r. ⌜ ((sizes : List ℕ) → Goals o (now (grades .entry)) (now (releases .entry)) sizes (now (deadlines .entry)) (now (table .entry)) clock slow (λ k. getD (now (goals .entry)) k 0) → Shared (planOn o (now (grades .entry)) (now (releases .entry)) sizes (now (deadlines .entry))) (now (table .entry)) (settledRun clock slow (now (carried .entry))) (v .0) (now (grants .entry)) r (now (grants .exit))) ⌝ }
 {
     let jobs = counted_within(o.count);
     let most = v.over(Slots(1));
@@ -186,7 +187,10 @@ fn share_kept(
     );
     if total.0 <= most.0 {
         grant_claims(&claims, jobs, grants);
-        return;
+        return true;
+    }
+    if !slow & (v.0 < o.n.0) {
+        return false;
     }
     serve_in_turns(
         jobs,
@@ -204,6 +208,57 @@ fn share_kept(
         &mut claims,
         grants,
     );
+    true
+}
+
+// Writes the grants of a slot at speed v by the goals that are kept, and answers the slow mark after it, as `share_out`
+// does in a single call. If the slot sets the mark, the sizes are the goals.
+fn share_slot(
+    o: Outline,
+    v: Rate,
+    clock: Slots,
+    slow: bool,
+    goals: &[u32; Edition::MOST_JOBS],
+    grades: &[u32; Edition::MOST_JOBS],
+    releases: &[u32; Edition::MOST_JOBS],
+    sizes: &[u32; Edition::MOST_JOBS],
+    deadlines: &[u32; Edition::MOST_JOBS],
+    carried: &[u32; Edition::MOST_JOBS],
+    table: &[u32],
+    grants: &mut [u32],
+) -> bool
+    requires { ⌜ (min (o .count) mostJobs ≤ length (now grants)) × ((k : ℕ) → k < min (o .count) mostJobs → getD (now deadlines) k 0 ≤ mostDeadline) × Goals o (now grades) (now releases) (now sizes) (now deadlines) (now table) clock slow (λ k. getD (now goals) k 0) ⌝ }
+    ensures { λ r. ⌜ (r ≡ slowAfter (planOn o (now (grades .entry)) (now (releases .entry)) (now (sizes .entry)) (now (deadlines .entry))) (now (table .entry)) (settledRun clock slow (now (carried .entry))) (v .0)) × (now (grants .exit) ≡ granted (planOn o (now (grades .entry)) (now (releases .entry)) (now (sizes .entry)) (now (deadlines .entry))) (now (table .entry)) (settledRun clock slow (now (carried .entry))) (v .0) (now (grants .entry))) ⌝ }
+{
+    if share_kept(
+        o,
+        v,
+        clock,
+        slow,
+        grades,
+        releases,
+        goals,
+        deadlines,
+        carried,
+        table,
+        grants,
+    ) {
+        return slow;
+    }
+    share_kept(
+        o,
+        v,
+        clock,
+        true,
+        grades,
+        releases,
+        sizes,
+        deadlines,
+        carried,
+        table,
+        grants,
+    );
+    true
 }
 
 // Carries a slot at speed v, not above n, of a sound run by the goals that are kept, as `carry_slot` does in a single call.
@@ -221,23 +276,23 @@ fn carry_kept(
     carried: &mut [u32; Edition::MOST_JOBS],
     grants: &mut [u32],
 ) -> Moment
-    requires { ⌜ (slotSound (planOn o (now grades) (now releases) (now sizes) (now deadlines)) (runAt at (now carried) (now ended)) ≡ true) × (min (o .count) mostJobs ≤ length (now grants)) × (v .0 ≤ o .n .0) × Goals o (now grades) (now releases) (now sizes) (now deadlines) (now table) (at .clock) (at .slow || ltb (v .0) (o .n .0)) (λ k. getD (now goals) k 0) ⌝ }
+    requires { ⌜ (slotSound (planOn o (now grades) (now releases) (now sizes) (now deadlines)) (runAt at (now carried) (now ended)) ≡ true) × (min (o .count) mostJobs ≤ length (now grants)) × (v .0 ≤ o .n .0) × Goals o (now grades) (now releases) (now sizes) (now deadlines) (now table) (at .clock) (at .slow) (λ k. getD (now goals) k 0) ⌝ }
     ensures { λ r. ⌜ (runAt r (now (carried .exit)) (now (ended .entry)) ≡ advanced (planOn o (now (grades .entry)) (now (releases .entry)) (now (sizes .entry)) (now (deadlines .entry))) (now (table .entry)) (runAt at (now (carried .entry)) (now (ended .entry))) (v .0) (now (grants .entry))) × (now (grants .exit) ≡ granted (planOn o (now (grades .entry)) (now (releases .entry)) (now (sizes .entry)) (now (deadlines .entry))) (now (table .entry)) (runAt at (now (carried .entry)) (now (ended .entry))) (v .0) (now (grants .entry))) ⌝ }
 {
     let clock = at.clock;
     let jobs = counted_within(o.count);
-    let slow = mark_after(at.slow, v, o.n);
-    let below = mark_after(at.below, v, o.d);
+    let below = below_after(at.below, v, o.d);
     let mut settled = [0u32; Edition::MOST_JOBS];
     settle(ended, sizes, carried, &mut settled);
-    share_kept(
+    let slow = share_slot(
         o,
         v,
         clock,
-        slow,
+        at.slow,
+        goals,
         grades,
         releases,
-        goals,
+        sizes,
         deadlines,
         &settled,
         table,
@@ -279,8 +334,7 @@ fn next_slot(
         return ShiftSlot { answer, at, spans };
     }
     let jobs = counted_within(o.count);
-    let slow = mark_after(at.slow, speed, o.n);
-    let begun = spans_of(slow, o.count, releases, deadlines, clock);
+    let begun = spans_of(at.slow, o.count, releases, deadlines, clock);
     renew_goals(jobs, spans, begun, sizes, table, goals);
     let at = carry_kept(
         o,

@@ -1,5 +1,5 @@
 // One slot of a sound run: the grants. If all claims fit into the speed, each is granted; otherwise the
-// jobs get their turns.
+// jobs get their turns, and a speed below n sets the slow mark.
 use crate::Moment;
 use crate::claims::UNKNOWN;
 use crate::claims::all_fit;
@@ -15,7 +15,6 @@ use plan::kinds::Units;
 use plan::rules::counted_within;
 ghost use mathlib.Core.Path.{_≡_};
 ghost use mathlib.Core.Bool.{true, false, cond, _||_};
-ghost use mathlib.Core.List.{List, []};
 ghost use Prim.Native.Nat.{ℕ, suc, _+_, _≤_, _<_, _^_, min};
 ghost use lib.Dec.{ltb};
 ghost use lib.ListN.{length, getD};
@@ -25,8 +24,10 @@ ghost use Rattle.plan.specs.Boundaries.{present};
 ghost use Rattle.plan.specs.Rules.{counted, release, deadline};
 ghost use Rattle.plan.specs.declared.kinds.Plan.{Plan};
 ghost use Rattle.dispatch.specs.inner.Columns.{planOn};
-ghost use Rattle.dispatch.specs.inner.Turns.{settledIn, servedIn, goalIn, dueIn, KnownDue, inTurns, Goals};
+ghost use Rattle.dispatch.specs.inner.Shares.{settledRun, Shared};
+ghost use Rattle.dispatch.specs.inner.Turns.{settledIn, servedIn, dueIn, KnownDue, inTurns};
 ghost use Rattle.dispatch.specs.Answers.{runAt};
+ghost use Rattle.dispatch.specs.Dues.{slowAfter};
 ghost use Rattle.dispatch.specs.Step.{slotSound, granted, advanced};
 
 // Writes the claims to the grant row.
@@ -76,11 +77,11 @@ pub(crate) fn carry_grants(carried: &mut [u32; Edition::MOST_JOBS], jobs: usize,
     }
 }
 
-// A mark after a slot: a speed below its rate sets it, and nothing clears it.
-pub(crate) fn mark_after(was: bool, v: Rate, rate: Rate) -> bool
-    ensures { λ r. ⌜ r ≡ (was || ltb (v .0) (rate .0)) ⌝ }
+// The below-floor mark after a slot: a speed below the floor sets it, and nothing clears it.
+pub(crate) fn below_after(was: bool, v: Rate, floor: Rate) -> bool
+    ensures { λ r. ⌜ r ≡ (was || ltb (v .0) (floor .0)) ⌝ }
 {
-    was | (v.0 < rate.0)
+    was | (v.0 < floor.0)
 }
 
 // The HI jobs are served, and then the others in turns with what is left, unless the slow mark is set.
@@ -156,26 +157,25 @@ pub(crate) fn spans_of(
     begun_by(count, releases, deadlines, clock) as u32
 }
 
-// Writes the grants of a slot at speed v that is not refused. `slow` is the slow mark after the slot, `carried` what
-// the jobs count as carried in it, and `goals` a column from which, with the rows of the table unless it has the whole
-// goals, come the goals of the plan's jobs.
-fn share_out(
+// Writes the grants of a slot at speed v under a slow mark: the claims if all of them fit, otherwise what the jobs get
+// in turns. `carried` is what the jobs count as carried. Under a clear mark, claims that do not fit into a speed below n
+// make the slot a slow one: then nothing is written. The answer is whether the grants are.
+fn share_under(
     o: Outline,
     v: Rate,
     clock: Slots,
     slow: bool,
-    whole: bool,
     spans: u32,
     grades: &[u32; Edition::MOST_JOBS],
     releases: &[u32; Edition::MOST_JOBS],
-    goals: &[u32; Edition::MOST_JOBS],
+    sizes: &[u32; Edition::MOST_JOBS],
     deadlines: &[u32; Edition::MOST_JOBS],
     carried: &[u32; Edition::MOST_JOBS],
     table: &[u32],
     grants: &mut [u32],
-)
-    requires { ⌜ (min (o .count) mostJobs ≤ length (now grants)) × ((k : ℕ) → k < min (o .count) mostJobs → getD (now deadlines) k 0 ≤ mostDeadline) × (v .0 ≤ mostRate) × (ltb (v .0) (o .n .0) ≡ true → slow ≡ true) ⌝ }
-    ensures { λ r. ⌜ ((sizes rows : List ℕ) → Goals o (now (grades .entry)) (now (releases .entry)) sizes (now (deadlines .entry)) rows clock slow (goalIn whole spans (now (goals .entry)) (now (table .entry))) → now (grants .exit) ≡ granted (planOn o (now (grades .entry)) (now (releases .entry)) sizes (now (deadlines .entry))) rows (record { clock = clock; slow = slow; below = false; carried = now (carried .entry); ended = [] }) (v .0) (now (grants .entry))) ⌝ }
+) -> bool
+    requires { ⌜ (min (o .count) mostJobs ≤ length (now grants)) × ((k : ℕ) → k < min (o .count) mostJobs → getD (now deadlines) k 0 ≤ mostDeadline) × (v .0 ≤ mostRate) × (slow ≡ false → spans ≡ suc (present (planOn o (now grades) (now releases) (now sizes) (now deadlines)) (clock .0))) ⌝ }
+    ensures { λ r. ⌜ Shared (planOn o (now (grades .entry)) (now (releases .entry)) (now (sizes .entry)) (now (deadlines .entry))) (now (table .entry)) (settledRun clock slow (now (carried .entry))) (v .0) (now (grants .entry)) r (now (grants .exit)) ⌝ }
 {
     let jobs = counted_within(o.count);
     let most = v.over(Slots(1));
@@ -186,45 +186,97 @@ fn share_out(
         most,
         clock,
         slow,
-        whole,
         spans,
         grades,
         releases,
-        goals,
+        sizes,
         deadlines,
         carried,
         table,
     ) {
         grant_claims(&claims, jobs, grants);
-        return;
+        return true;
+    }
+    if !slow & (v.0 < o.n.0) {
+        return false;
     }
     serve_in_turns(
         jobs,
         most,
         clock,
         slow,
-        whole,
+        slow,
         spans,
         grades,
         releases,
-        goals,
+        sizes,
         deadlines,
         carried,
         table,
         &mut claims,
         grants,
     );
+    true
+}
+
+// Writes the grants of a slot at speed v that is not refused, and answers the slow mark after it. The slot that sets the
+// mark is served under it.
+fn share_out(
+    o: Outline,
+    v: Rate,
+    clock: Slots,
+    slow: bool,
+    grades: &[u32; Edition::MOST_JOBS],
+    releases: &[u32; Edition::MOST_JOBS],
+    sizes: &[u32; Edition::MOST_JOBS],
+    deadlines: &[u32; Edition::MOST_JOBS],
+    carried: &[u32; Edition::MOST_JOBS],
+    table: &[u32],
+    grants: &mut [u32],
+) -> bool
+    requires { ⌜ (min (o .count) mostJobs ≤ length (now grants)) × ((k : ℕ) → k < min (o .count) mostJobs → getD (now deadlines) k 0 ≤ mostDeadline) × (v .0 ≤ mostRate) ⌝ }
+    ensures { λ r. ⌜ (r ≡ slowAfter (planOn o (now (grades .entry)) (now (releases .entry)) (now (sizes .entry)) (now (deadlines .entry))) (now (table .entry)) (settledRun clock slow (now (carried .entry))) (v .0)) × (now (grants .exit) ≡ granted (planOn o (now (grades .entry)) (now (releases .entry)) (now (sizes .entry)) (now (deadlines .entry))) (now (table .entry)) (settledRun clock slow (now (carried .entry))) (v .0) (now (grants .entry))) ⌝ }
+{
+    let spans = spans_of(slow, o.count, releases, deadlines, clock);
+    if share_under(
+        o,
+        v,
+        clock,
+        slow,
+        spans,
+        grades,
+        releases,
+        sizes,
+        deadlines,
+        carried,
+        table,
+        grants,
+    ) {
+        return slow;
+    }
+    share_under(
+        o,
+        v,
+        clock,
+        true,
+        0,
+        grades,
+        releases,
+        sizes,
+        deadlines,
+        carried,
+        table,
+        grants,
+    );
+    true
 }
 
 // Carries a slot at speed v, not above n, of a sound run: writes the grants, adds them to the carried units, and
-// answers the rest of the run. `whole`, `spans` and `goals` give the goals of the jobs in it.
+// answers the rest of the run.
 pub(crate) fn carry_slot(
     o: Outline,
     v: Rate,
     at: Moment,
-    whole: bool,
-    spans: u32,
-    goals: &[u32; Edition::MOST_JOBS],
     grades: &[u32; Edition::MOST_JOBS],
     releases: &[u32; Edition::MOST_JOBS],
     sizes: &[u32; Edition::MOST_JOBS],
@@ -234,25 +286,22 @@ pub(crate) fn carry_slot(
     carried: &mut [u32; Edition::MOST_JOBS],
     grants: &mut [u32],
 ) -> Moment
-    requires { ⌜ (slotSound (planOn o (now grades) (now releases) (now sizes) (now deadlines)) (runAt at (now carried) (now ended)) ≡ true) × (min (o .count) mostJobs ≤ length (now grants)) × (v .0 ≤ o .n .0) × Goals o (now grades) (now releases) (now sizes) (now deadlines) (now table) (at .clock) (at .slow || ltb (v .0) (o .n .0)) (goalIn whole spans (now goals) (now table)) ⌝ }
+    requires { ⌜ (slotSound (planOn o (now grades) (now releases) (now sizes) (now deadlines)) (runAt at (now carried) (now ended)) ≡ true) × (min (o .count) mostJobs ≤ length (now grants)) × (v .0 ≤ o .n .0) ⌝ }
     ensures { λ r. ⌜ (runAt r (now (carried .exit)) (now (ended .entry)) ≡ advanced (planOn o (now (grades .entry)) (now (releases .entry)) (now (sizes .entry)) (now (deadlines .entry))) (now (table .entry)) (runAt at (now (carried .entry)) (now (ended .entry))) (v .0) (now (grants .entry))) × (now (grants .exit) ≡ granted (planOn o (now (grades .entry)) (now (releases .entry)) (now (sizes .entry)) (now (deadlines .entry))) (now (table .entry)) (runAt at (now (carried .entry)) (now (ended .entry))) (v .0) (now (grants .entry))) ⌝ }
 {
     let clock = at.clock;
     let jobs = counted_within(o.count);
-    let slow = mark_after(at.slow, v, o.n);
-    let below = mark_after(at.below, v, o.d);
+    let below = below_after(at.below, v, o.d);
     let mut settled = [0u32; Edition::MOST_JOBS];
     settle(ended, sizes, carried, &mut settled);
-    share_out(
+    let slow = share_out(
         o,
         v,
         clock,
-        slow,
-        whole,
-        spans,
+        at.slow,
         grades,
         releases,
-        goals,
+        sizes,
         deadlines,
         &settled,
         table,

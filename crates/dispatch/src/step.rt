@@ -3,8 +3,6 @@ use crate::Moment;
 use crate::Run;
 use crate::answers::Answer;
 use crate::slot::carry_slot;
-use crate::slot::mark_after;
-use crate::slot::spans_of;
 use crate::soundness::Readiness;
 use crate::soundness::is_over;
 use crate::soundness::is_sound;
@@ -92,15 +90,10 @@ pub fn slot_over(
     if !is_done(answer) {
         return Slot { answer, next: at };
     }
-    let slow = mark_after(at.slow, speed, o.n);
-    let spans = spans_of(slow, o.count, releases, deadlines, clock);
     let next = carry_slot(
         o,
         speed,
         at,
-        slow,
-        spans,
-        sizes,
         grades,
         releases,
         sizes,

@@ -7,7 +7,7 @@ use Prim.Native.Nat.{ℕ, zero, suc, _+_, _-_, _≤_, _<_, min}
 use native.Mathlib.Numerals.{add-one}
 use native.Mathlib.Omega.{arith}
 use borrow.Author.Tests.{lt-leb}
-use lib.Dec.{leb}
+use lib.Dec.{leb, ltb}
 use lib.ListN.{length, getD, drop, replicate, length-append, length-replicate}
 use Rattle.base.specs.Sum.{on}
 use Rattle.base.proofs.SumLaws.{sum-ext}
@@ -26,7 +26,7 @@ use Rattle.dispatch.specs.inner.Shares.{settledOf}
 use Rattle.dispatch.specs.Order.{order}
 use Rattle.dispatch.specs.Step.{granted, added, advanced}
 use Rattle.dispatch.proofs.Queues.{serve-length}
-use Rattle.dispatch.proofs.Shares.{within-claim, first-served, all-served}
+use Rattle.dispatch.proofs.Shares.{within-claim, first-served, all-served, dues-are-claims}
 use Rattle.promises.proofs.FloorTail.{Facts, Good, class}
 use Rattle.promises.proofs.SlotInvariants.{State, Slot, inItsWindow, claim, goal}
 use Rattle.dispatch.proofs.Alike.{Done}
@@ -78,7 +78,7 @@ granted-long : (p : Plan) (table : List ℕ) (run : Run) (v : ℕ) (grants : Lis
 unfolding granted
 granted-long p table run v grants i h =
     rw (
-      serve-length (Dues.due p table run (slowAfter p run v)) v (order p run (slowAfter p run v))
+      serve-length (Dues.due p table run (slowAfter p table run v)) v (order p run (slowAfter p table run v))
           (replicate (counted p) 0 ++ drop (counted p) grants),
       length-append (replicate (counted p) 0) (drop (counted p) grants),
       length-replicate {A = ℕ} (counted p) 0,
@@ -97,12 +97,9 @@ module _ (p : Plan) (table : List ℕ) (run : Run) (v : ℕ) (row : List ℕ) (d
   goal-least true i = omega arith
   goal-least false i = omega arith
 
-  claim-is : (i : ℕ) → Shares.claim p table run (slowAfter p run v) i ≡ claim (factsOf p table) (stateOf p run) here (slowAfter p run v) i
-  claim-is i = by (endedOf run i) refl
+  claim-is : (slow : Bool) (i : ℕ) → Shares.claim p table run slow i ≡ claim (factsOf p table) (stateOf p run) here slow i
+  claim-is slow i = by (endedOf run i) refl
     where
-      slow : Bool
-      slow = slowAfter p run v
-
       by : (b : Bool) → endedOf run i ≡ b → Shares.claim p table run slow i ≡ claim (factsOf p table) (stateOf p run) here slow i
       by true e =
           let none : goal (factsOf p table) here slow i - size p i ≡ 0 = omega (arith, goal-least slow i) in
@@ -113,8 +110,8 @@ module _ (p : Plan) (table : List ℕ) (run : Run) (v : ℕ) (row : List ℕ) (d
   grant i = getD (granted p table run v row) i 0
 
   -- A job is given at most its claim; an ended one claims nothing.
-  at-most : (i : ℕ) → i < counted p → grant i ≤ claim (factsOf p table) (stateOf p run) here (slowAfter p run v) i
-  at-most i h = rw (← (claim-is i)) (within-claim p table run v row i h)
+  at-most : (i : ℕ) → i < counted p → grant i ≤ claim (factsOf p table) (stateOf p run) here (slowAfter p table run v) i
+  at-most i h = rw (← (claim-is (slowAfter p table run v) i)) (within-claim p table run v row i h)
 
   -- A slot's grants are added to what is carried.
   pub carried-adds : (i : ℕ) → i < counted p → carriedOf (advanced p table run v row) i ≡ carriedOf run i + grant i
@@ -143,12 +140,12 @@ module _ (p : Plan) (table : List ℕ) (run : Run) (v : ℕ) (row : List ℕ) (d
   slot-of =
       record {
         inside = present-inside p (d .sound .rules .some) (d .sound .rules .windows) (run .clock .0) (d .sound .begun) (d .before-end);
-        mark = refl;
+        mark = ap (λ s. run .slow || ltb v (min (p .n .0) s)) (dues-are-claims p table run ∙ sum-ext _ _ (counted p) (λ i h. claim-is false i));
         clock = add-one (run .clock .0);
         adds = settled-adds;
         within = at-most;
         first = λ D.
             first-served p table run v row D
-            ∙ ap (min v) (sum-ext _ _ (counted p) (λ i h. ap (on (class (factsOf p table) D i)) (claim-is i)));
-        all = all-served p table run v row ∙ ap (min v) (sum-ext _ _ (counted p) (λ i h. claim-is i));
+            ∙ ap (min v) (sum-ext _ _ (counted p) (λ i h. ap (on (class (factsOf p table) D i)) (claim-is (slowAfter p table run v) i)));
+        all = all-served p table run v row ∙ ap (min v) (sum-ext _ _ (counted p) (λ i h. claim-is (slowAfter p table run v) i));
       }

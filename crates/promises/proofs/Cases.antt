@@ -1,7 +1,7 @@
--- The cases P1 to P12 of docs/RULES: one list, and one theorem that every case gives what it must.
+-- The cases P1 to P13 of docs/RULES: one list, and one theorem that every case gives what it must.
 use mathlib.Core.Path.{_≡_, refl}
 use mathlib.Core.List.{List, [], _∷_, _++_, map}
-use Prim.Native.Nat.{ℕ, _-_}
+use Prim.Native.Nat.{ℕ, zero, suc, _-_}
 use lib.IntN.{pos, negsuc}
 use lib.ListN.{length, take, replicate}
 use Rattle.base.specs.Sum.{sum, on}
@@ -15,11 +15,11 @@ use Rattle.plan.specs.declared.kinds.Job.{Job}
 use Rattle.plan.specs.declared.kinds.Plan.{Plan}
 use Rattle.judge.specs.Verdict.{outsideFault, totalFault, capacityFault, isHiDeadline, floorFault, judged}
 use Rattle.plan.specs.Report.{Report, first}
-use Rattle.judge.specs.Slack.{Figure, least, refused, through, leastSlack, slackFigure}
+use Rattle.judge.specs.Slack.{Figure, noneEssential, least, refused, through, leastSlack, slackFigure}
 use Rattle.dispatch.specs.declared.Run.{Run}
 use Rattle.dispatch.specs.Order.{enqueue, order, serve}
 use Rattle.dispatch.specs.Order
-use Rattle.dispatch.specs.Step.{SlotEffect, started, slotSound, slotFault, granted, added, advanced, stepped}
+use Rattle.dispatch.specs.Step.{SlotEffect, Ending, met, discarded, stillOpen, outcome, started, slotSound, slotFault, granted, added, advanced, stepped}
 
 -- A list filled up to length n with one value.
 abbrev pub padded : {A : Type 0} → ℕ → A → List A → List A
@@ -55,12 +55,23 @@ slotsSeen p table run (v ∷ rest) =
     let slot = stepped p table run v (replicate (p .count) 0) in
     line p slot ∷ slotsSeen p table (slot .run) rest
 
--- What is observed of a case: the verdict, the slack figure, and the
--- slots at the given speeds from the start.
+-- The run after the slots.
+unfoldable pub runSeen : Plan → List ℕ → Run → List ℕ → Run
+runSeen p table run [] = run
+runSeen p table run (v ∷ rest) = runSeen p table (stepped p table run v (replicate (p .count) 0) .run) rest
+
+-- The outcomes of the first jobs of a run.
+unfoldable pub endsSeen : Plan → Run → ℕ → List Ending
+endsSeen p run zero = []
+endsSeen p run (suc n) = endsSeen p run n ++ (outcome p run n ∷ [])
+
+-- What is observed of a case: the verdict, the slack figure, the
+-- slots at the given speeds from the start, and the jobs' outcomes after them.
 pub record Seen : Type 0 where
   pub verdict : Report
   pub slack : Figure
   pub slots : List (List ℕ)
+  pub ends : List Ending
 
 -- A case: jobs, rows and speeds, and what must be observed.
 pub record Case : Type 0 where
@@ -74,7 +85,12 @@ unfoldable pub seen : Case → Seen
 seen c =
     let p = planWith (c .jobs) in
     let table = tableOf (c .rows) in
-    record { verdict = judged p table; slack = slackFigure p table; slots = slotsSeen p table (started p) (c .speeds) }
+    record {
+      verdict = judged p table;
+      slack = slackFigure p table;
+      slots = slotsSeen p table (started p) (c .speeds);
+      ends = endsSeen p (runSeen p table (started p) (c .speeds)) (p .count);
+    }
 
 -- `Mirror-A`, the first name of plan E.
 abbrev pub capitalMirror : ℕ
@@ -136,19 +152,25 @@ withSecondRow row = (2 ∷ 4 ∷ 0 ∷ []) ∷ row ∷ []
 abbrev jobsOfP6 : List Job
 jobsOfP6 = job jobA lo 0 4 2 ∷ job jobB hi 0 2 4 ∷ job jobC hi 2 2 4 ∷ []
 
--- A case of judging: jobs and rows, and the verdict and the slack figure that they must give.
+-- A case of judging: jobs and rows, and the verdict and the slack figure that they must give. No slot has come, so that
+-- every job is open.
 abbrev judging : List Job → List (List ℕ) → Report → Figure → Case
 judging jobs rows verdict slack =
-    record { jobs = jobs; rows = rows; speeds = []; must = record { verdict = verdict; slack = slack; slots = [] } }
+    record {
+      jobs = jobs;
+      rows = rows;
+      speeds = [];
+      must = record { verdict = verdict; slack = slack; slots = []; ends = replicate (length jobs) stillOpen };
+    }
 
--- A case of slots of plan E: the speeds, and the slots that they must give.
-abbrev slotsOfE : List ℕ → List (List ℕ) → Case
-slotsOfE speeds slots =
+-- A case of slots of plan E: the speeds, and the slots and outcomes that they must give.
+abbrev slotsOfE : List ℕ → List (List ℕ) → List Ending → Case
+slotsOfE speeds slots ends =
     record {
       jobs = jobsOfE;
       rows = rowsOfE;
       speeds = speeds;
-      must = record { verdict = []; slack = least (pos 1) 1 10; slots = slots };
+      must = record { verdict = []; slack = least (pos 1) 1 10; slots = slots; ends = ends };
     }
 
 -- Plan E is accepted, with slack 1.
@@ -197,26 +219,48 @@ P9 =
       jobs = job jobB hi 0 2 4 ∷ job jobA hi 0 2 2 ∷ [];
       rows = (2 ∷ 0 ∷ []) ∷ (2 ∷ 0 ∷ []) ∷ [];
       speeds = 2 ∷ 1 ∷ [];
-      must = record { verdict = []; slack = least (pos 0) 0 2; slots = (0 ∷ 0 ∷ 2 ∷ []) ∷ (1 ∷ 1 ∷ 0 ∷ []) ∷ [] };
+      must =
+          record {
+            verdict = [];
+            slack = least (pos 0) 0 2;
+            slots = (0 ∷ 0 ∷ 2 ∷ []) ∷ (1 ∷ 1 ∷ 0 ∷ []) ∷ [];
+            ends = stillOpen ∷ met ∷ [];
+          };
     }
 
 -- Plan E at the normal rate: the second slot goes to `mirror-A`.
 abbrev pub P10 : Case
-P10 = slotsOfE (2 ∷ 2 ∷ []) ((0 ∷ 2 ∷ 0 ∷ []) ∷ (0 ∷ 0 ∷ 2 ∷ []) ∷ [])
+P10 = slotsOfE (2 ∷ 2 ∷ []) ((0 ∷ 2 ∷ 0 ∷ []) ∷ (0 ∷ 0 ∷ 2 ∷ []) ∷ []) (stillOpen ∷ stillOpen ∷ [])
 
 -- Plan E at the floor in its first slot: the slow mark is set, and no HI job is live yet.
 abbrev pub P11 : Case
-P11 = slotsOfE (1 ∷ []) ((1 ∷ 0 ∷ 0 ∷ []) ∷ [])
+P11 = slotsOfE (1 ∷ []) ((1 ∷ 0 ∷ 0 ∷ []) ∷ []) (discarded ∷ stillOpen ∷ [])
 
 -- A speed above the normal rate is refused.
 abbrev pub P12 : Case
-P12 = slotsOfE (3 ∷ []) ((speedAboveNormal ∷ 0 ∷ 0 ∷ 0 ∷ []) ∷ [])
+P12 = slotsOfE (3 ∷ []) ((speedAboveNormal ∷ 0 ∷ 0 ∷ 0 ∷ []) ∷ []) (stillOpen ∷ stillOpen ∷ [])
+
+-- Two LO jobs with nothing due between them, where the link is at its floor: no slot is slow, and both are met.
+abbrev pub P13 : Case
+P13 =
+    record {
+      jobs = job jobA lo 0 2 2 ∷ job jobB lo 4 2 6 ∷ [];
+      rows = (2 ∷ 0 ∷ 0 ∷ []) ∷ (0 ∷ 0 ∷ 2 ∷ []) ∷ [];
+      speeds = 2 ∷ 1 ∷ 1 ∷ 1 ∷ 2 ∷ [];
+      must =
+          record {
+            verdict = [];
+            slack = noneEssential;
+            slots = (0 ∷ 2 ∷ 0 ∷ []) ∷ (0 ∷ 0 ∷ 0 ∷ []) ∷ (0 ∷ 0 ∷ 0 ∷ []) ∷ (0 ∷ 0 ∷ 0 ∷ []) ∷ (0 ∷ 0 ∷ 2 ∷ []) ∷ [];
+            ends = met ∷ met ∷ [];
+          };
+    }
 
 -- All cases.
 abbrev pub cases : List Case
-cases = P1 ∷ P2 ∷ P3 ∷ P4 ∷ P5 ∷ P6 ∷ P7 ∷ P8 ∷ P9 ∷ P10 ∷ P11 ∷ P12 ∷ []
+cases = P1 ∷ P2 ∷ P3 ∷ P4 ∷ P5 ∷ P6 ∷ P7 ∷ P8 ∷ P9 ∷ P10 ∷ P11 ∷ P12 ∷ P13 ∷ []
 
 -- Every case gives what it must.
 pub every-case-comes-out : map seen cases ≡ map (λ (c : Case). c .must) cases
-unfolding seen slotsSeen tableOf sum Below.every Below.least Below.greatest nameAllowed namesHold namesDiffer gradesHold boundsHold rulesHold insert boundariesTo come noStray sound first outsideFault totalFault capacityFault isHiDeadline floorFault judged through leastSlack slackFigure enqueue Order.queue order serve started slotSound slotFault granted added advanced stepped
+unfolding seen slotsSeen runSeen endsSeen tableOf sum Below.every Below.least Below.greatest nameAllowed namesHold namesDiffer gradesHold boundsHold rulesHold insert boundariesTo come noStray sound first outsideFault totalFault capacityFault isHiDeadline floorFault judged through leastSlack slackFigure enqueue Order.queue order serve started slotSound slotFault granted added advanced stepped outcome
 every-case-comes-out = refl

@@ -195,7 +195,7 @@ written-and-read-E out other fits room =
 -- zeros for the counted jobs, with the entries past them unchanged.
 pub grants-are-the-rule : (p : Plan) (table : List ℕ) (run : Run) (v : ℕ) (grants : List ℕ) → stepped p table run v grants .answer ≡ []
     → stepped p table run v grants .grants
-    ≡ serve (due p table run (slowAfter p run v)) v (order p run (slowAfter p run v)) (replicate (counted p) 0 ++ drop (counted p) grants)
+    ≡ serve (due p table run (slowAfter p table run v)) v (order p run (slowAfter p table run v)) (replicate (counted p) 0 ++ drop (counted p) grants)
 unfolding granted
 grants-are-the-rule p table run v grants e = done-leaves p table run v grants e .1
 

@@ -24,6 +24,7 @@ pub mod Demand3
 pub mod OutcomesKept
 pub mod NightParts
 pub mod NightsOfE
+pub mod IdleSlots
 pub mod FoldedNames
 pub mod PromiseLimits
 pub mod AllDemands

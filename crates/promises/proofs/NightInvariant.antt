@@ -1,6 +1,6 @@
 -- Demand 3: what is promised holds at every point of every night, for any speeds
 -- from floor to normal and any refused calls. All but the floor guarantee needs rules 15 to 17 alone.
-use mathlib.Core.Path.{_≡_, refl, sym, _∙_, ap}
+use mathlib.Core.Path.{_≡_, refl, sym, _∙_, ap, ap₂}
 use mathlib.Core.Logic.{_≢_, _⊎_, inl, inr, ⊎-elim}
 use mathlib.Core.Bool.{Bool, true, false, cond, true≢false, not, _&&_, _||_, or-false, or-true, and-false}
 use mathlib.Core.List.{List, [], _∷_}
@@ -16,12 +16,13 @@ use Rattle.plan.specs.Edition.{mostJobs}
 use Rattle.plan.specs.Refusal.{unsound, noSuchJob, cannotEnd}
 use Rattle.plan.specs.Rules.{counted, release, size, deadline, isHi}
 use Rattle.plan.specs.Boundaries.{intervals, present}
+use Rattle.plan.specs.Same.{Same}
 use Rattle.plan.specs.declared.kinds.Plan.{Plan}
 use Rattle.plan.proofs.PresentInterval.{first-boundary, an-interval}
 use Rattle.judge.specs.Constraints.{Allotted, FloorRule}
 use Rattle.plan.specs.Report.{Report, orElse, fault}
 use Rattle.dispatch.specs.declared.Run.{Run}
-use Rattle.dispatch.specs.Dues.{carriedOf, endedOf, inItsWindow}
+use Rattle.dispatch.specs.Dues.{carriedOf, endedOf, inItsWindow, slowAt}
 use Rattle.dispatch.specs.inner.Shares.{settledOf}
 use Rattle.dispatch.specs.Step.{started, slotFault, granted, advanced, slotBy, stepped, slotSound, outcome, isOpen, endFault, endedWith, endBy, toldEnded}
 use Rattle.base.proofs.Logic.{if-true, if-same, neither}
@@ -34,7 +35,7 @@ use Rattle.promises.proofs.SlotInvariants.{NoMore, FloorHolds, OnPace, 
 use Rattle.plan.proofs.Soundness.{Bounded}
 use Rattle.dispatch.proofs.Alike.{Done, done}
 use Rattle.dispatch.proofs.WordLimits.{refused-word-changes-nothing}
-use Rattle.promises.proofs.SameSlot.{same-slot, same-word}
+use Rattle.promises.proofs.SameSlot.{same-slot, same-slow, same-word}
 use Rattle.promises.proofs.CallAsSlot.{factsOf, stateOf, good-plan, slot-of, carried-adds, ended-none}
 
 -- A job whose end is taken lacks something of its size: its outcome was open.
@@ -76,9 +77,9 @@ pub refused-tells-none : (c : Call) (run : Run) → isDone (answerOf c run) ≡ 
 refused-tells-none (slot c) run e i = refl
 refused-tells-none (word w) run e i = rw e refl
 
-refused-not-slow : (p : Plan) (c : Call) (run : Run) → isDone (answerOf c run) ≡ false → isSlow p c run ≡ false
-refused-not-slow p (slot c) run e = rw e refl
-refused-not-slow p (word w) run e = refl
+refused-not-slow : (c : Call) (run : Run) → isDone (answerOf c run) ≡ false → isSlow c run ≡ false
+refused-not-slow (slot c) run e = rw e refl
+refused-not-slow (word w) run e = refl
 
 module _ (p : Plan) (table : List ℕ) (rules : Bounded p) (allotted : Allotted p table) where
   good : Good (factsOf p table)
@@ -150,14 +151,13 @@ module _ (p : Plan) (table : List ℕ) (rules : Bounded p) (allotted : Allotted 
         short = λ i k t. rw run-is (h .short i k (rw (refused-tells-none c (runAfter p earlier) e i, or-false (told p earlier i)) at t));
         told-none = λ i k. rw (nothing i, on-zero (told p earlier i)) (omega (arith, h .told-none i k));
         pace = rw run-is (h .pace);
-        mark = rw (run-is, refused-not-slow p c (runAfter p earlier) e, or-false (slowed p earlier)) (h .mark);
+        mark = rw (run-is, refused-not-slow c (runAfter p earlier) e, or-false (slowed p earlier)) (h .mark);
         in-time = λ i k s b. rw run-is (h .in-time i k (rw run-is at s) (neither (slowedBefore p (deadline p i) earlier) _ b .0));
         discards = λ i k l. rw (nothing i, on-zero (slowed p (c ∷ earlier))) (omega (arith, h .discards i k l));
         speeds = (h .speeds, omega (arith, sum-none (given c (runAfter p earlier)) (counted p) (λ i k. nothing i)));
       }
 
-  module _ (c : SlotCall) (earlier : List Call) (h : Holds earlier)
-      (is : slotEffect c (runAfter p earlier) ≡ stepped p table (runAfter p earlier) (c .speed) (c .row))
+  module _ (c : SlotCall) (earlier : List Call) (h : Holds earlier) (same : Same p table (c .plan) (c .table))
       (clear : slotFault p table (runAfter p earlier) (c .speed) (c .row) ≡ []) where
     abbrev was : Run
     was = runAfter p earlier
@@ -174,7 +174,8 @@ module _ (p : Plan) (table : List ℕ) (rules : Bounded p) (allotted : Allotted 
     -- A done call leaves the advanced run and the slot's grants.
     leaves : slotEffect c was ≡ record { answer = []; run = next; grants = granted p table was (c .speed) (c .row) }
     unfolding stepped
-    leaves = is ∙ ap (λ r. slotBy r p table was (c .speed) (c .row)) clear
+    leaves =
+        sym (same-slot p table (c .plan) (c .table) same was (c .speed) (c .row)) ∙ ap (λ r. slotBy r p table was (c .speed) (c .row)) clear
 
     answer-is : isDone (slotEffect c was .answer) ≡ true
     answer-is = ap (λ s. isDone (s .answer)) leaves
@@ -193,6 +194,10 @@ module _ (p : Plan) (table : List ℕ) (rules : Bounded p) (allotted : Allotted 
 
     adds : (i : ℕ) → i < counted p → carriedOf next i ≡ carriedOf was i + grant i
     adds = carried-adds p table was (c .speed) (c .row) whole-slot (h .long)
+
+    -- The slot is slow by plan p if it is by the plan of its call.
+    slow-is : slowAt p table was (c .speed) ≡ slowAt (c .plan) (c .table) was (c .speed)
+    slow-is = same-slow p table (c .plan) (c .table) same was (c .speed) (c .row) whole-slot
 
     -- An ended job gets nothing.
     not-ended : (i : ℕ) → i < counted p → told p earlier i ≡ true → grant i ≡ 0
@@ -230,13 +235,16 @@ module _ (p : Plan) (table : List ℕ) (rules : Bounded p) (allotted : Allotted 
     clear-reached e i k o =
         let w = h .pace e in on-pace-reached (factsOf p table) good (stateOf p was) (w .0) (w .1) (settled-no-more earlier h) i k o
 
+    slow-by : {a b : Bool} → a ≡ false → (a || b) ≡ true → b ≡ true
+    slow-by e s = rw e at s
+
     still-in-time : (i : ℕ) → i < counted p → next .slow ≡ true → slowedBefore p (deadline p i) earlier ≡ false
-        → (ltb (c .speed) (p .n .0) && ltb (was .clock .0) (deadline p i)) ≡ false → settledOf p next i ≡ size p i
+        → (slowAt (c .plan) (c .table) was (c .speed) && ltb (was .clock .0) (deadline p i)) ≡ false → settledOf p next i ≡ size p i
     unfolding advanced
     still-in-time i k s before now =
         if-true (was .slow)
         (λ e. stays i k (h .in-time i k e before))
-        (λ e. let slow-now : ltb (c .speed) (p .n .0) ≡ true = rw e at s in
+        (λ e. let slow-now : slowAt (c .plan) (c .table) was (c .speed) ≡ true = sym slow-is ∙ slow-by e s in
         stays i k (clear-reached e i k (ltb-false (was .clock .0) (deadline p i) (rw slow-now at now))))
 
     holds-done : Holds (slot c ∷ earlier)
@@ -260,7 +268,7 @@ module _ (p : Plan) (table : List ℕ) (rules : Bounded p) (allotted : Allotted 
               (λ t. rw (t, given-is i, not-ended i k t) (omega (arith, h .told-none i k)))
               (λ t. rw t (omega (arith, h .told-none i k)));
           pace = rw run-is paced;
-          mark = rw (run-is, answer-is) (ap (λ b. b || ltb (c .speed) (p .n .0)) (h .mark));
+          mark = rw (run-is, answer-is) (ap₂ _||_ (h .mark) slow-is);
           in-time = λ i k s b.
               let e = neither (slowedBefore p (deadline p i) earlier) _ b in
               rw run-is (still-in-time i k (rw run-is at s) (e .0) (rw answer-is at (e .1)));
@@ -270,18 +278,18 @@ module _ (p : Plan) (table : List ℕ) (rules : Bounded p) (allotted : Allotted 
       where
         paced : next .slow ≡ false → (l : ℕ) × OnPace (factsOf p table) (stateOf p next) l
         paced e =
-            let w = h .pace (neither (was .slow) (ltb (c .speed) (p .n .0)) e .0) in (
+            let w = h .pace (neither (was .slow) (slowAt p table was (c .speed)) e .0) in (
               here,
               keeps-pace (factsOf p table) good (stateOf p was) (stateOf p next) here (c .speed) grant served
                   (on-pace-here (factsOf p table) good (stateOf p was) (w .0) here (w .1) (served .inside .0) (served .inside .1) (served .inside .2)) e,
             )
 
         late-none : (i : ℕ) → i < counted p → isHi p i ≡ false
-            → hadSinceSlow p earlier i + on (slowed p earlier || isSlow p (slot c) was) (given (slot c) was i) ≡ 0
+            → hadSinceSlow p earlier i + on (slowed p earlier || isSlow (slot c) was) (given (slot c) was i) ≡ 0
         late-none i k l =
             if-true (next .slow)
-            (λ s. rw (given-is i, not-hi i k l s, on-zero (slowed p earlier || isSlow p (slot c) was)) (omega (arith, h .discards i k l)))
-            (λ s. rw (answer-is, ← (h .mark), s) (omega (arith, h .discards i k l)))
+            (λ s. rw (given-is i, not-hi i k l s, on-zero (slowed p earlier || isSlow (slot c) was)) (omega (arith, h .discards i k l)))
+            (λ s. rw (answer-is, ← (h .mark), ← slow-is, s) (omega (arith, h .discards i k l)))
 
   -- The host's word, once it is done.
   module _ (w : EndCall) (earlier : List Call) (h : Holds earlier)
@@ -373,7 +381,7 @@ module _ (p : Plan) (table : List ℕ) (rules : Bounded p) (allotted : Allotted 
 
   -- An allowed slot's call is refused, or it is a slot of plan p at a speed of at least d.
   by-slot : {A : Type 0} (c : SlotCall) (run : Run) → AllowedCall p table (slot c) → (isDone (slotEffect c run .answer) ≡ false → A)
-      → (p .d .0 ≤ c .speed → slotEffect c run ≡ stepped p table run (c .speed) (c .row) → slotFault p table run (c .speed) (c .row) ≡ [] → A)
+      → (p .d .0 ≤ c .speed → Same p table (c .plan) (c .table) → slotFault p table run (c .speed) (c .row) ≡ [] → A)
       → A
   unfolding stepped
   by-slot {A} c run w left done-slot = go (slotFault p table run (c .speed) (c .row)) refl
@@ -382,13 +390,13 @@ module _ (p : Plan) (table : List ℕ) (rules : Bounded p) (allotted : Allotted 
       is = sym (same-slot p table (c .plan) (c .table) (w .0) run (c .speed) (c .row))
 
       go : (r : Report) → slotFault p table run (c .speed) (c .row) ≡ r → A
-      go [] e = done-slot (w .1) is e
+      go [] e = done-slot (w .1) (w .0) e
       go (number ∷ rest) e = left (ap (λ s. isDone (s .answer)) (is ∙ ap (λ r. slotBy r p table run (c .speed) (c .row)) e))
 
   -- An allowed call preserves the invariant.
   holds-allowed : (c : Call) (earlier : List Call) → AllowedCall p table c → Holds earlier → Holds (c ∷ earlier)
   holds-allowed (slot c) earlier w h =
-      by-slot c (runAfter p earlier) w (λ e. holds-refused (slot c) earlier e h) (λ f is e. holds-done c earlier h is e)
+      by-slot c (runAfter p earlier) w (λ e. holds-refused (slot c) earlier e h) (λ f same e. holds-done c earlier h same e)
   holds-allowed (word w) earlier same h =
       by-word w (runAfter p earlier) same (λ e. holds-refused (word w) earlier e h) (λ is e. holds-word w earlier h is e)
 
@@ -436,10 +444,10 @@ module _ (p : Plan) (table : List ℕ) (rules : Bounded p) (allotted : Allotted 
     floor-allowed (slot c) earlier w h before =
         by-slot c (runAfter p earlier) w
         (λ e. rw (refused-keeps (slot c) (runAfter p earlier) e) before)
-        (λ f is e.
-        rw (run-is c earlier h is e)
-        (keeps-floor (factsOf p table) good (stateOf p (runAfter p earlier)) (stateOf p (next c earlier h is e)) (here c earlier h is e) (c .speed)
-        (grant c earlier h is e) (served c earlier h is e) floor-rule f (settled-no-more earlier h) before))
+        (λ f same e.
+        rw (run-is c earlier h same e)
+        (keeps-floor (factsOf p table) good (stateOf p (runAfter p earlier)) (stateOf p (next c earlier h same e)) (here c earlier h same e) (c .speed)
+        (grant c earlier h same e) (served c earlier h same e) floor-rule f (settled-no-more earlier h) before))
     floor-allowed (word w) earlier same h before =
         by-word w (runAfter p earlier) same
         (λ e. rw (refused-keeps (word w) (runAfter p earlier) e) before)

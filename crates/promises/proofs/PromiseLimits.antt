@@ -63,7 +63,7 @@ no-promise-below-the-floor promised =
 -- `slowedBefore` without the last slot before time D.
 unfoldable pub slowedEarlier : Plan → ℕ → List Call → Bool
 slowedEarlier p D [] = false
-slowedEarlier p D (c ∷ earlier) = slowedEarlier p D earlier || isSlow p c (runAfter p earlier) && ltb (clockAt p earlier + 1) D
+slowedEarlier p D (c ∷ earlier) = slowedEarlier p D earlier || isSlow c (runAfter p earlier) && ltb (clockAt p earlier + 1) D
 
 -- Plan E with four slots at the normal rate, and the last one before `Mirror-A`'s deadline at the
 -- floor.

@@ -15,11 +15,12 @@ use Rattle.plan.specs.Same.{Same}
 use Rattle.plan.specs.declared.kinds.Job.{Job}
 use Rattle.plan.specs.declared.kinds.Plan.{Plan}
 use Rattle.dispatch.specs.declared.Run.{Run}
+use Rattle.dispatch.specs.Dues.{slowAt}
 use Rattle.dispatch.specs.Step.{started, stepped, outcome, toldEnded}
 use Rattle.dispatch.specs.Shift.{shifted}
 use Rattle.dispatch.proofs.SlotsInTurn.{alike-shift}
 use Rattle.dispatch.proofs.Alike as alike
-use Rattle.dispatch.proofs.Alike.{Alike}
+use Rattle.dispatch.proofs.Alike.{Alike, Done}
 use Rattle.promises.proofs.Cases.{padded, job, tableOf, capitalMirror, jobsOfE, planE, tableE}
 
 module _ (p : Plan) (table : List ℕ) (q : Plan) (other : List ℕ) (same : Same p table q other) where
@@ -84,6 +85,10 @@ module _ (p : Plan) (table : List ℕ) (q : Plan) (other : List ℕ) (same : Sam
   -- They get the same answer, run and grants from a slot's call.
   pub same-slot : (run : Run) (v : ℕ) (grants : List ℕ) → stepped p table run v grants ≡ stepped q other run v grants
   same-slot = alike.alike-slot p table q other are-alike
+
+  -- A done call is a slow slot for both, or for neither.
+  pub same-slow : (run : Run) (v : ℕ) (grants : List ℕ) → Done p table run v grants → slowAt p table run v ≡ slowAt q other run v
+  same-slow = alike.slow-same p table q other are-alike
 
   -- They get the same answer, run, rows and numbers from a shift.
   pub same-shift : (run : Run) (speeds rows numbers : List ℕ) → shifted p table run speeds rows numbers ≡ shifted q other run speeds rows numbers

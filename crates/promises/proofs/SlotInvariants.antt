@@ -37,7 +37,7 @@ claim f s l slow i = on (inItsWindow f (s .t) i && (f .hi i || not slow)) (goal 
 -- serve the HI jobs with earlier deadlines first.
 pub record Slot (f : Facts) (s s′ : State) (l v : ℕ) (g : ℕ → ℕ) : Type 0 where
   pub inside : (l < f .K) × (f .b l ≤ s .t) × (s .t < f .b (suc l))
-  pub mark : s′ .slow ≡ (s .slow || ltb v (f .n))
+  pub mark : s′ .slow ≡ (s .slow || ltb v (min (f .n) (sum (claim f s l false) (f .N))))
   pub clock : s′ .t ≡ suc (s .t)
   pub adds : (i : ℕ) → i < f .N → s′ .carried i ≡ s .carried i + g i
   pub within : (i : ℕ) → i < f .N → g i ≤ claim f s l (s′ .slow) i
@@ -163,20 +163,26 @@ module _ (f : Facts) (good : Good f) (s s′ : State) (l v : ℕ) (g : ℕ → �
       (λ o. rw (le-leb (f .rel i) (s .t) m, le-ltb (s .t) (f .dl i) o)
       (omega (arith, good .late i l e (slot .inside .0) (omega (arith, slot .inside .2)), pace .least i e)))))
 
-  -- A slot at the normal rate preserves the pace.
+  -- A slot that is not slow preserves the pace: it is at the normal rate, or it carries all that is due.
   pub keeps-pace : OnPace f s l → s′ .slow ≡ false → OnPace f s′ l
   keeps-pace pace clear =
       record {
         inside = (slot .inside .0, rw (slot .clock) (omega (arith, slot .inside .1)), rw (slot .clock) (slot .inside .2));
         least = λ i e. rw (slot .adds i e) (omega (arith, pace .least i e));
-        rest = rw (slot .clock) (omega (arith, given, claimed, slot .all, pace .rest, normal, one-less (f .n) (f .b (suc l)) (s .t)));
+        rest = rw (slot .clock) (omega (arith, given, claimed, slot .all, pace .rest, enough, dues, one-less (f .n) (f .b (suc l)) (s .t)));
       }
     where
-      normal : f .n ≤ v
-      normal = ltb-false v (f .n) (neither (s .slow) (ltb v (f .n)) (sym (slot .mark) ∙ clear) .1)
-
       claimed : sum (claim f s l (s′ .slow)) (f .N) ≡ sum (λ i. before f i (suc l) - s .carried i) (f .N)
       claimed = sum-ext _ _ (f .N) (claim-is-rest pace clear)
+
+      lesser : ℕ
+      lesser = min (f .n) (sum (claim f s l false) (f .N))
+
+      enough : lesser ≤ v
+      enough = ltb-false v lesser (neither (s .slow) (ltb v lesser) (sym (slot .mark) ∙ clear) .1)
+
+      dues : sum (claim f s l false) (f .N) ≡ sum (λ i. before f i (suc l) - s .carried i) (f .N)
+      dues = ap (λ b. sum (claim f s l b) (f .N)) (sym clear) ∙ claimed
 
       given : sum (λ i. before f i (suc l) - s′ .carried i) (f .N) + sum g (f .N) ≡ sum (λ i. before f i (suc l) - s .carried i) (f .N)
       given =

@@ -3,12 +3,13 @@ use mathlib.Core.Path.{_≡_, refl}
 use mathlib.Core.Logic.{inr}
 use mathlib.Core.Bool.{false, and-false}
 use mathlib.Core.List.{List, [], _∷_}
-use Prim.Native.Nat.{ℕ, _≤_}
+use Prim.Native.Nat.{ℕ, _≤_, min}
 use native.Mathlib.Omega.{arith}
 use borrow.Author.Tests.{le-ltb}
 use lib.ListN.{replicate}
 use Rattle.plan.specs.Same.{Same}
 use Rattle.plan.specs.declared.kinds.Plan.{Plan}
+use Rattle.dispatch.specs.Dues.{allDues}
 use Rattle.promises.specs.Night.{slot, isSlot, runAfter, slowedBefore, Allowed, nightAt, Between}
 
 -- `Same` is reflexive.
@@ -28,7 +29,7 @@ never-slow p table D [] b = refl
 never-slow p table D (v ∷ speeds) b =
     rw (
       never-slow p table D speeds (b .2),
-      le-ltb v (p .n .0) (b .0),
+      le-ltb v (min (p .n .0) (allDues p table (runAfter p (nightAt p table speeds)))) (omega (arith, b .0)),
       and-false (isSlot (slot (record { plan = p; table = table; speed = v; row = replicate (p .count) 0 })) (runAfter p (nightAt p table speeds))),
     )
     refl

@@ -46,13 +46,13 @@ Stepping = Plan → List ℕ → Run → ℕ → List ℕ → SlotEffect
 -- The effect of a slot's call with this order and these dues, by the refusal found.
 abbrev effectBy : Report → ServiceOrder → Dues → Stepping
 effectBy [] order dues p table run v row =
-    let grants = serve (dues p table run (slowAfter p run v)) v (order p run (slowAfter p run v)) (replicate (counted p) 0 ++ drop (counted p) row) in
+    let grants = serve (dues p table run (slowAfter p table run v)) v (order p run (slowAfter p table run v)) (replicate (counted p) 0 ++ drop (counted p) row) in
     record {
       answer = [];
       run =
           record {
             clock = record { 0 = run .clock .0 + 1 };
-            slow = slowAfter p run v;
+            slow = slowAfter p table run v;
             below = belowAfter p run v;
             carried = added (counted p) (run .carried) grants;
             ended = run .ended;

@@ -85,7 +85,7 @@ pub record VerdictFileAndSlotAreExact : Type 0 where
   -- order.
   pub grants : (p : Plan) (table : Table) (run : Run) (v : Speed) (row : Row) → stepped p table run v row .answer ≡ []
       → stepped p table run v row .grants
-      ≡ serve (due p table run (slowAfter p run v)) v (order p run (slowAfter p run v))
+      ≡ serve (due p table run (slowAfter p table run v)) v (order p run (slowAfter p table run v))
       (replicate (counted p) 0 ++ drop (counted p) row)
 
 -- Demand 3. Whatever an accepted plan's night brings at speeds from floor to normal, in slots, shifts and words of

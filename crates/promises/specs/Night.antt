@@ -15,7 +15,7 @@ use Rattle.plan.specs.Same.{Same}
 use Rattle.plan.specs.declared.kinds.Plan.{Plan}
 use Rattle.plan.specs.Report.{Report}
 use Rattle.dispatch.specs.declared.Run.{Run}
-use Rattle.dispatch.specs.Dues.{inItsWindow}
+use Rattle.dispatch.specs.Dues.{inItsWindow, slowAt}
 use Rattle.dispatch.specs.Step.{SlotEffect, WordEffect, started, stepped, toldEnded, met, endedEarly, missed, refused, outcome}
 
 -- One slot's call, with any plan, table, speed and grant row.
@@ -73,10 +73,10 @@ abbrev pub isSlot : Call → Run → Bool
 isSlot (slot c) run = isDone (slotEffect c run .answer)
 isSlot (word w) run = false
 
--- A slow slot is one with a speed below n.
-abbrev pub isSlow : Plan → Call → Run → Bool
-isSlow p (slot c) run = isSlot (slot c) run && ltb (c .speed) (p .n .0)
-isSlow p (word w) run = false
+-- A slow slot is one with a speed below the lesser of n and the sum of the live jobs' dues.
+abbrev pub isSlow : Call → Run → Bool
+isSlow (slot c) run = isSlot (slot c) run && slowAt (c .plan) (c .table) run (c .speed)
+isSlow (word w) run = false
 
 -- The most that a call may give to all jobs together: a slot's speed; nothing by a word.
 abbrev pub mostGiven : Call → Amount
@@ -122,12 +122,12 @@ hadSinceTold p (c ∷ earlier) i = hadSinceTold p earlier i + on (told p earlier
 -- Whether some slot was slow.
 unfoldable pub slowed : Plan → List Call → Bool
 slowed p [] = false
-slowed p (c ∷ earlier) = slowed p earlier || isSlow p c (runAfter p earlier)
+slowed p (c ∷ earlier) = slowed p earlier || isSlow c (runAfter p earlier)
 
 -- Whether a slow slot began before time D.
 unfoldable pub slowedBefore : Plan → Time → List Call → Bool
 slowedBefore p D [] = false
-slowedBefore p D (c ∷ earlier) = slowedBefore p D earlier || isSlow p c (runAfter p earlier) && ltb (clockAt p earlier) D
+slowedBefore p D (c ∷ earlier) = slowedBefore p D earlier || isSlow c (runAfter p earlier) && ltb (clockAt p earlier) D
 
 -- What job i has had from the first slow slot on.
 unfoldable pub hadSinceSlow : Plan → List Call → Position → Amount

@@ -2,17 +2,17 @@
 use mathlib.Core.Path.{_≡_, sym, _∙_, ap}
 use mathlib.Core.Bool.{false, _&&_, and-true}
 use mathlib.Core.Logic.{⊎-elim}
-use Prim.Native.Nat.{ℕ, _-_, _≤_, _<_}
+use Prim.Native.Nat.{ℕ, _+_, _-_, _≤_, _<_}
 use native.Mathlib.Omega.{arith}
 use borrow.Author.Needs.{needs}
-use borrow.Author.Tests.{ltb-true, ltb-false, leb-true}
+use borrow.Author.Tests.{ltb-true, ltb-false, leb-true, leb-false}
 use lib.Dec.{leb, ltb}
 use lib.ListN.{replicate}
 use Rattle.base.specs.Fill.{filled}
 use Rattle.base.specs.Sum.{sum, on}
 use Rattle.base.proofs.FillLaws.{filled-start, filled-next}
 use Rattle.base.proofs.Logic.{both}
-use Rattle.base.proofs.SumLaws.{sum-start, sum-step}
+use Rattle.base.proofs.SumLaws.{sum-start, sum-step, sum-split}
 use Rattle.plan.specs.Edition.{mostJobs}
 use Rattle.plan.specs.declared.kinds.Units.{Units}
 use Rattle.dispatch.specs.inner.Turns.{dueIn, claimIn, unknown}
@@ -20,13 +20,13 @@ use Rattle.dispatch.proofs.claims.all_fit.Statement.{statement}
 use Rattle.dispatch.proofs.claims.all_fit.Tie as tie
 
 abbrev Inv-loop : tie.InvT-loop
-Inv-loop claims₀ jobs v clock slow whole spans grades releases goals deadlines carried table total₀ i₀ claims total i =
+Inv-loop claims₀ jobs v clock slow spans grades releases sizes deadlines carried table total₀ i₀ claims total i =
     (i ≤ jobs)
-    × (claims ≡ filled (claimIn (clock .0) slow whole spans grades releases goals deadlines carried table) i (replicate mostJobs unknown))
-    × (total .0 ≡ sum (claimIn (clock .0) slow whole spans grades releases goals deadlines carried table) i)
+    × (claims ≡ filled (claimIn (clock .0) slow slow spans grades releases sizes deadlines carried table) i (replicate mostJobs unknown))
+    × (total .0 ≡ sum (claimIn (clock .0) slow slow spans grades releases sizes deadlines carried table) i)
 
 abbrev μ-loop : tie.MeasureT-loop
-μ-loop claims₀ jobs v clock slow whole spans grades releases goals deadlines carried table total₀ i₀ claims total i =
+μ-loop claims₀ jobs v clock slow spans grades releases sizes deadlines carried table total₀ i₀ claims total i =
     jobs - i
 
 loop-holds : tie.Need-loop-holds Inv-loop μ-loop
@@ -78,12 +78,12 @@ module _ (c : tie.Joined2 Inv-loop μ-loop) where
   abbrev claims : ℕ → ℕ
   claims =
       let a = at-loop .before .before .args in
-      claimIn (a .clock .0) (a .slow) (a .whole) (a .spans) (a .grades .now) (a .releases .now) (a .goals .now) (a .deadlines .now) (a .carried .now) (a .table .now)
+      claimIn (a .clock .0) (a .slow) (a .slow) (a .spans) (a .grades .now) (a .releases .now) (a .sizes .now) (a .deadlines .now) (a .carried .now) (a .table .now)
 
   abbrev due : ℕ
   due =
       let a = at-loop .before .before .args in
-      dueIn (a .whole) (a .spans) (a .goals .now) (a .carried .now) (a .table .now) (at-loop .loop .i)
+      dueIn (a .slow) (a .spans) (a .sizes .now) (a .carried .now) (a .table .now) (at-loop .loop .i)
 
   claimed : (c .if2 .claim .0 ≡ claims (at-loop .loop .i)) × (c .if2 .claim .0 ≤ unknown)
   claimed =
@@ -105,8 +105,8 @@ mul-claims c = record { fits = omega (arith, below (c .before .before .before .b
 element-write-claims : tie.Need-element-write-claims Inv-loop μ-loop
 element-write-claims c = below (c .before .before .before .before .before .before)
 
-add-t33 : tie.Need-add-t33 Inv-loop μ-loop
-add-t33 c =
+add-t32 : tie.Need-add-t32 Inv-loop μ-loop
+add-t32 c =
     let joined = c .before .before .before in
     let turn = joined .before .before .before .before .before in
     omega (arith, claimed joined .1, going turn .1, turn .before .before .before .before .before .pre .1)
@@ -141,6 +141,10 @@ returns c =
           let last : ltb (loop .i) (a .jobs) ≡ false = sym (and-true _) ∙ ap (λ b. ltb (loop .i) (a .jobs) && b) (sym fit) ∙ stopped .if1 .left in
           let whole : loop .i ≡ a .jobs = omega (arith, loop .inv .0, ltb-false (loop .i) (a .jobs) last) in
           (whole, rw (← whole) (omega (arith, loop .inv .2, leb-true (loop .total .0) (a .v .0) fit)));
+      over = λ more.
+          let claims = claimIn (a .clock .0) (a .slow) (a .slow) (a .spans) (a .grades .now) (a .releases .now) (a .sizes .now) (a .deadlines .now) (a .carried .now) (a .table .now) in
+          let parts : loop .i + (a .jobs - loop .i) ≡ a .jobs = omega (arith, loop .inv .0) in
+          omega (arith, loop .inv .2, leb-false (loop .total .0) (a .v .0) more, sum-split claims (loop .i) (a .jobs - loop .i), ap (sum claims) parts);
     }
 
 pub all-fit-spec : {M : Type 1} → statement M
@@ -161,7 +165,7 @@ all-fit-spec =
     cast-claims
     mul-claims
     element-write-claims
-    add-t33
+    add-t32
     add-i
     loop-less
     loop-again

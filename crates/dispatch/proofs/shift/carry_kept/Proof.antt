@@ -1,11 +1,10 @@
 -- `dispatch::shift::carry_kept` meets its contract: with the jobs settled, the shares are the grants, and the run takes them.
 use mathlib.Core.Path.{_≡_, refl, sym, _∙_, ap}
-use mathlib.Core.Bool.{Bool, true, false, _||_, or-true}
+use mathlib.Core.Bool.{Bool, true, false}
 use mathlib.Core.List.{List}
 use Prim.Native.Nat.{ℕ, _+_, _<_}
 use native.Mathlib.Omega.{arith}
 use borrow.Author.Needs.{needs}
-use lib.Dec.{ltb}
 use lib.ListN.{getD, replicate, length-replicate}
 use Rattle.base.specs.Fill.{filled}
 use Rattle.base.proofs.FillLaws.{filled-at}
@@ -15,13 +14,13 @@ use Rattle.plan.specs.declared.kinds.Outline.{Outline}
 use Rattle.plan.specs.declared.kinds.Plan.{Plan}
 use Rattle.dispatch.specs.declared.Run.{Run}
 use Rattle.dispatch.specs.Answers.{runAt}
-use Rattle.dispatch.specs.Dues.{carriedOf, endedOf}
+use Rattle.dispatch.specs.Dues.{carriedOf, endedOf, slowAfter}
 use Rattle.dispatch.specs.Step.{granted}
 use Rattle.dispatch.specs.inner.Columns.{planOn}
 use Rattle.dispatch.specs.inner.Shares.{settledOf}
 use Rattle.dispatch.specs.inner.Turns.{settledIn}
 use Rattle.dispatch.proofs.RowShares.{granted-length}
-use Rattle.dispatch.proofs.SlotOver.{again, same-mark, same-room, same-sums, carried-fits, settled-granted, slot-run}
+use Rattle.dispatch.proofs.SlotOver.{same-room, same-sums, carried-fits, settled-mark, settled-granted, slot-run}
 use Rattle.dispatch.proofs.SlotSoundness.{SlotSound, slot-sound}
 use Rattle.dispatch.proofs.SoundColumns.{size-on, deadline-on}
 use Rattle.dispatch.proofs.shift.carry_kept.Statement.{statement}
@@ -61,28 +60,25 @@ module _ (entry : tie.Start) where
   parts : SlotSound q run
   parts = slot-sound q run (entry .pre .0)
 
-  abbrev goals : ℕ → ℕ
-  goals k = getD (entry .args .goals .now) k 0
-
-module _ (c : tie.After-share-kept) where
+module _ (c : tie.After-share-slot) where
   abbrev settling : tie.After-settle
   settling = c .before .before .before
 
-  abbrev marked : tie.After-mark-after
-  marked = settling .before .before .before .before
+  abbrev counting : tie.After-counted-within
+  counting = settling .before .before .before .before
 
   abbrev start : tie.Start
-  start = marked .before .before .before .before .before
+  start = counting .before .before .before .before
 
-  slow-is : marked .mark-after .result ≡ (run start .slow || ltb (v start) (o start .n .0))
-  slow-is = marked .mark-after .ensures
-
-  -- The grant row that `share_kept` leaves.
+  -- The grant row that `share_slot` leaves.
   abbrev left : List ℕ
-  left = c .share-kept .last .1 .1 .1 .1 .1 .1 .1 .1 .1 .1 .0
+  left = c .share-slot .last .1 .1 .1 .1 .1 .1 .1 .1 .1 .1 .1 .0
 
   -- What the jobs count as carried.
-  settled-is : (k : ℕ) → k < counted (q start) → getD (settling .settle .last .1 .1 .1 .0) k 0 ≡ settledOf (q start) (run start) k
+  abbrev settled : List ℕ
+  settled = settling .settle .last .1 .1 .1 .0
+
+  settled-is : (k : ℕ) → k < counted (q start) → getD settled k 0 ≡ settledOf (q start) (run start) k
   settled-is k l =
       ap (λ r. getD r k 0) (settling .settle .ensures)
       ∙ filled-at (settledIn (run start .ended) (sizes start) (run start .carried)) mostJobs (replicate mostJobs 0) k (rw (length-replicate {A = ℕ} mostJobs 0) (omega arith)) (omega arith)
@@ -94,42 +90,41 @@ module _ (c : tie.After-share-kept) where
 
   grants-are : left ≡ granted (q start) (table start) (run start) (v start) (grants start)
   grants-are =
-      c .share-kept .ensures (sizes start) (table start)
-      (same-mark (o start) (grades start) (releases start) (sizes start) (deadlines start) (table start) (run start .clock) (goals start) slow-is (start .pre .3))
-      ∙ settled-granted (q start) (table start) (run start) _ false _ (v start) (again (run start .slow) (ltb (v start) (o start .n .0)) slow-is) settled-is (grants start) (start .pre .1)
+      c .share-slot .ensures .1
+      ∙ settled-granted (q start) (table start) (run start) settled (v start) settled-is (grants start) (start .pre .1)
 
-  jobs : marked .before .counted-within .result ≡ counted (q start)
-  jobs = marked .before .counted-within .ensures
+  -- The slow mark after the slot.
+  slow-is : c .share-slot .result ≡ slowAfter (q start) (table start) (run start) (v start)
+  slow-is = c .share-slot .ensures .0 ∙ settled-mark (q start) (table start) (run start) settled (v start) settled-is
+
+  jobs : counting .counted-within .result ≡ counted (q start)
+  jobs = counting .counted-within .ensures
 
 counted-within-requires : tie.Need-counted-within-requires
 counted-within-requires c κs = search needs
 
-mark-after-requires : tie.Need-mark-after-requires
-mark-after-requires c κs = search needs
-
-mark-after-requires-2 : tie.Need-mark-after-requires-2
-mark-after-requires-2 c κs = search needs
+below-after-requires : tie.Need-below-after-requires
+below-after-requires c κs = search needs
 
 settle-requires : tie.Need-settle-requires
 settle-requires c κs = search needs
 
-share-kept-requires : tie.Need-share-kept-requires
-share-kept-requires c κs =
-    let at-mark-after = c .before .before .before .before .before .before in
-    let here = at-mark-after .before .before .before .before .before in (
+share-slot-requires : tie.Need-share-slot-requires
+share-slot-requires c κs =
+    let here = c .before .before .before .before .before .before .before .before .before .before in (
       here .pre .1,
       λ k l. rw (← (deadline-on (o here) (grades here) (releases here) (sizes here) (deadlines here) k l)) (parts here .rules .deadlines k l),
-      λ e. at-mark-after .mark-after .ensures ∙ ap (λ x. run here .slow || x) e ∙ or-true (run here .slow),
+      here .pre .3,
     )
 
 carry-grants-requires : tie.Need-carry-grants-requires
 carry-grants-requires c κs =
-    let at-share-kept = c .before .before .before .before in
-    let here = start at-share-kept in (
-      omega (arith, jobs at-share-kept),
-      same-room (jobs at-share-kept) (grants-are at-share-kept) (rw (granted-length (q here) (table here) (run here) (v here) (grants here) (here .pre .1)) (here .pre .1)),
-      λ k l. same-sums (carriedOf (run here) k) k (grants-are at-share-kept)
-          (carried-fits (q here) (table here) (run here) (v here) (grants here) (parts here) k (omega (arith, jobs at-share-kept))),
+    let at-share-slot = c .before .before .before .before in
+    let here = start at-share-slot in (
+      omega (arith, jobs at-share-slot),
+      same-room (jobs at-share-slot) (grants-are at-share-slot) (rw (granted-length (q here) (table here) (run here) (v here) (grants here) (here .pre .1)) (here .pre .1)),
+      λ k l. same-sums (carriedOf (run here) k) k (grants-are at-share-slot)
+          (carried-fits (q here) (table here) (run here) (v here) (grants here) (parts here) k (omega (arith, jobs at-share-slot))),
     )
 
 add-t28 : tie.Need-add-t28
@@ -143,12 +138,12 @@ same-length c = search needs
 returns : tie.Need-returns
 returns c =
     let at-carry-grants = c .before in
-    let at-share-kept = at-carry-grants .before .before .before .before .before in
-    let here = start at-share-kept in (
-      slot-run (q here) (table here) (run here) (v here) (grants here) (here .pre .1) refl (slow-is at-share-kept)
-          (settling at-share-kept .before .before .before .mark-after2 .ensures) (grants-are at-share-kept)
-          (at-carry-grants .carry-grants .ensures ∙ ap (λ m. filled (λ k. carriedOf (run here) k + getD (left at-share-kept) k 0) m (run here .carried)) (jobs at-share-kept)),
-      grants-are at-share-kept,
+    let at-share-slot = at-carry-grants .before .before .before .before .before in
+    let here = start at-share-slot in (
+      slot-run (q here) (table here) (run here) (v here) (grants here) (here .pre .1) refl (slow-is at-share-slot)
+          (settling at-share-slot .before .before .before .below-after .ensures) (grants-are at-share-slot)
+          (at-carry-grants .carry-grants .ensures ∙ ap (λ m. filled (λ k. carriedOf (run here) k + getD (left at-share-slot) k 0) m (run here .carried)) (jobs at-share-slot)),
+      grants-are at-share-slot,
     )
 
 pub carry-kept-spec : {M : Type 1} → statement M
@@ -156,10 +151,9 @@ carry-kept-spec =
     tie.close
     (tie.spec
     counted-within-requires
-    mark-after-requires
-    mark-after-requires-2
+    below-after-requires
     settle-requires
-    share-kept-requires
+    share-slot-requires
     carry-grants-requires
     add-t28
     same-length

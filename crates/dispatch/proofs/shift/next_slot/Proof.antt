@@ -75,15 +75,12 @@ returns-2 c =
 counted-within-requires : tie.Need-counted-within-requires
 counted-within-requires c κs = search needs
 
-mark-after-requires : tie.Need-mark-after-requires
-mark-after-requires c κs = search needs
-
 spans-of-requires : tie.Need-spans-of-requires
 spans-of-requires c κs = search needs
 
 renew-goals-requires : tie.Need-renew-goals-requires
 renew-goals-requires c κs =
-    let counting = c .before .before .before in
+    let counting = c .before .before in
     let here = counting .before .before .before .before .before .before .before .before .before in
     (omega (arith, counting .counted-within .ensures), here .pre .4, same-jobs (here .args .spans) (sizes here) (table here) (here .args .goals .now) (counting .counted-within .ensures) (here .pre .5))
 
@@ -91,20 +88,18 @@ carry-kept-requires : tie.Need-carry-kept-requires
 carry-kept-requires c κs =
     let at-renew = c .before .before .before in
     let at-spans = at-renew .before .before in
-    let at-mark = at-spans .before in
-    let at-count = at-mark .before in
+    let at-count = at-spans .before in
     let at-else = at-count .before in
     let here = at-else .before .before .before .before .before .before .before .before in (
       here .pre .0,
       here .pre .3,
       at-else .if2 .left,
-      rw (← (at-mark .mark-after .ensures))
-          (kept-are-goals (o here) (grades here) (releases here) (sizes here) (deadlines here) (table here) (at-renew .renew-goals .last .1 .1 .1 .1 .1 .0) (run here .clock) _ (at-spans .spans-of .result)
+      kept-are-goals (o here) (grades here) (releases here) (sizes here) (deadlines here) (table here) (at-renew .renew-goals .last .1 .1 .1 .1 .1 .0) (run here .clock) (run here .slow) (at-spans .spans-of .result)
           (at-spans .spans-of .ensures .0)
           (λ e. at-spans .spans-of .ensures .1 (q here) e refl
           (λ i h. sym (release-on (o here) (grades here) (releases here) (sizes here) (deadlines here) i h))
           (λ i h. sym (deadline-on (o here) (grades here) (releases here) (sizes here) (deadlines here) i h)))
-          (same-jobs (at-spans .spans-of .result) (sizes here) (table here) (at-renew .renew-goals .last .1 .1 .1 .1 .1 .0) (sym (at-count .counted-within .ensures)) (at-renew .renew-goals .ensures .1))),
+          (same-jobs (at-spans .spans-of .result) (sizes here) (table here) (at-renew .renew-goals .last .1 .1 .1 .1 .1 .0) (sym (at-count .counted-within .ensures)) (at-renew .renew-goals .ensures .1)),
     )
 
 same-length : tie.Need-same-length
@@ -115,7 +110,7 @@ returns-3 c =
     let at-carry = c .before .before in
     let at-renew = at-carry .before .before .before .before in
     let at-spans = at-renew .before .before in
-    let at-count = at-spans .before .before in
+    let at-count = at-spans .before in
     let at-else = at-count .before in
     let at-first = at-else .before .before in
     let here = at-first .before .before .before .before .before .before in (
@@ -133,7 +128,6 @@ next-slot-spec =
     returns
     returns-2
     counted-within-requires
-    mark-after-requires
     spans-of-requires
     renew-goals-requires
     carry-kept-requires

@@ -1,13 +1,12 @@
 -- `dispatch::shift::share_kept` meets its contract: the claims, if they fit, or what the jobs get in turns, are what the rules
 -- grant.
 use mathlib.Core.Path.{_≡_, refl, _∙_, ap, ap₂}
-use mathlib.Core.Bool.{true, false}
+use mathlib.Core.Bool.{true}
 use mathlib.Core.List.{List, []}
 use Prim.Native.Nat.{ℕ, _≤_, _<_, min}
 use native.Mathlib.Nat.{mul-one}
 use native.Mathlib.Omega.{arith}
 use borrow.Author.Needs.{needs}
-use lib.Dec.{ltb}
 use lib.ListN.{getD, replicate, length-replicate}
 use Rattle.base.specs.Fill.{filled}
 use Rattle.base.specs.Sum.{sum, on}
@@ -16,10 +15,9 @@ use Rattle.plan.specs.Edition.{mostJobs}
 use Rattle.plan.specs.declared.kinds.Outline.{Outline}
 use Rattle.plan.specs.declared.kinds.Units.{Units}
 use Rattle.dispatch.specs.declared.Run.{Run}
-use Rattle.dispatch.specs.Dues.{slowAfter}
-use Rattle.dispatch.specs.inner.Columns.{planOn}
+use Rattle.dispatch.specs.inner.Shares.{settledRun}
 use Rattle.dispatch.specs.inner.Turns.{dueIn, claimIn, inTurns}
-use Rattle.dispatch.proofs.Sharing.{absorbs, claims-granted, turns-granted}
+use Rattle.dispatch.proofs.Sharing.{shared-claims, shared-not, shared-turns, slow-test, normal-test}
 use Rattle.dispatch.proofs.shift.share_kept.Statement.{statement}
 use Rattle.dispatch.proofs.shift.share_kept.Tie as tie
 
@@ -48,8 +46,11 @@ module _ (c : tie.After-claim-kept) where
   abbrev carried : List ℕ
   carried = entry .args .carried .now
 
+  abbrev table : List ℕ
+  table = entry .args .table .now
+
   abbrev run : Run
-  run = record { clock = entry .args .clock; slow = entry .args .slow; below = false; carried = carried; ended = [] }
+  run = settledRun (entry .args .clock) (entry .args .slow) carried
 
   abbrev v : ℕ
   v = entry .args .v .0
@@ -62,9 +63,6 @@ module _ (c : tie.After-claim-kept) where
 
   most : at .over .result .0 ≡ v
   most = ap (λ (u : Units). u .0) (at .over .ensures) ∙ mul-one v
-
-  marked : (sizes : List ℕ) → slowAfter (planOn o grades releases sizes deadlines) run v ≡ run .slow
-  marked sizes = absorbs (run .slow) (ltb v (o .n .0)) (entry .pre .2)
 
   -- The claims as `claim_kept` writes them, and their sum.
   abbrev claim : ℕ → ℕ
@@ -94,20 +92,31 @@ same-length : tie.Need-same-length
 same-length c = search needs
 
 returns : tie.Need-returns
-returns c sizes rows right =
+returns c sizes right =
     let at-grant-claims = c .before .before in
     let at-if1 = at-grant-claims .before .before .before in
     let here = at-if1 .before .before .before in
     let fits : sum (claim here) (n here) ≤ v here = omega (arith, at-if1 .if1 .taken, total here, most here) in
-    at-grant-claims .grant-claims .ensures
-    ∙ ap (λ m. filled (λ k. getD (here .claim-kept .last .0) k 0) m (entry here .args .grants .now)) (jobs here)
-    ∙ filled-ext (λ k. getD (here .claim-kept .last .0) k 0) (claim here) (n here) (entry here .args .grants .now) (claimed here)
-    ∙ claims-granted (o here) (grades here) (releases here) sizes (deadlines here) rows (run here) (v here) refl (marked here sizes)
-    (λ k. getD (goals here) k 0) right (entry here .args .grants .now) (entry here .pre .0) fits
+    let shared = shared-claims (o here) (grades here) (releases here) sizes (deadlines here) (table here) (run here) (v here) refl
+    (λ k. getD (goals here) k 0) right (entry here .args .grants .now) (entry here .pre .0) fits in (
+      shared .0,
+      at-grant-claims .grant-claims .ensures
+          ∙ ap (λ m. filled (λ k. getD (here .claim-kept .last .0) k 0) m (entry here .args .grants .now)) (jobs here)
+          ∙ filled-ext (λ k. getD (here .claim-kept .last .0) k 0) (claim here) (n here) (entry here .args .grants .now) (claimed here)
+          ∙ shared .1,
+    )
+
+returns-2 : tie.Need-returns-2
+returns-2 c sizes right =
+    let at-else = c .before .before .before in
+    let here = at-else .before .before .before in
+    let test = slow-test (run here .slow) (v here) (o here .n .0) (c .if2 .taken) in
+    shared-not (o here) (grades here) (releases here) sizes (deadlines here) (table here) (run here) (v here) refl
+    (λ k. getD (goals here) k 0) right (entry here .args .grants .now) (test .0) (test .1) (omega (arith, at-else .if1 .left, total here, most here))
 
 serve-in-turns-requires : tie.Need-serve-in-turns-requires
 serve-in-turns-requires c κs =
-    let here = c .before .before .before .before .before in (
+    let here = c .before .before .before .before .before .before .before .before in (
       omega (arith, jobs here),
       rw (jobs here) (entry here .pre .0),
       λ k l. entry here .pre .1 k (omega (arith, jobs here)),
@@ -118,15 +127,20 @@ serve-in-turns-requires c κs =
 same-length-2 : tie.Need-same-length-2
 same-length-2 c = search needs
 
-returns-2 : tie.Need-returns-2
-returns-2 c sizes rows right =
+returns-3 : tie.Need-returns-3
+returns-3 c sizes right =
     let at-serve-in-turns = c .before .before in
-    let here = at-serve-in-turns .before .before .before .before .before .before in
-    at-serve-in-turns .serve-in-turns .ensures
-    ∙ ap₂ (λ x m. inTurns (run here .clock .0) (run here .slow) (grades here) (releases here) (deadlines here)
-    (dueIn true 0 (goals here) (carried here) []) x m (filled (λ k. 0) m (entry here .args .grants .now))) (most here) (jobs here)
-    ∙ turns-granted (o here) (grades here) (releases here) sizes (deadlines here) rows (run here) (v here) refl (marked here sizes)
+    let at-else = at-serve-in-turns .before .before .before in
+    let here = at-else .before .before .before .before .before .before in
+    let shared = shared-turns (o here) (grades here) (releases here) sizes (deadlines here) (table here) (run here) (v here) refl
     (λ k. getD (goals here) k 0) right (entry here .args .grants .now) (entry here .pre .0)
+    (normal-test (run here .slow) (v here) (o here .n .0) (at-else .if2 .left)) in (
+      shared .0,
+      at-serve-in-turns .serve-in-turns .ensures
+          ∙ ap₂ (λ x m. inTurns (run here .clock .0) (run here .slow) (grades here) (releases here) (deadlines here)
+          (dueIn true 0 (goals here) (carried here) []) x m (filled (λ k. 0) m (entry here .args .grants .now))) (most here) (jobs here)
+          ∙ shared .1,
+    )
 
 pub share-kept-spec : {M : Type 1} → statement M
 share-kept-spec =
@@ -138,6 +152,7 @@ share-kept-spec =
     grant-claims-requires
     same-length
     returns
+    returns-2
     serve-in-turns-requires
     same-length-2
-    returns-2)
+    returns-3)

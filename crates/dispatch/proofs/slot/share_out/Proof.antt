@@ -1,35 +1,21 @@
--- `dispatch::slot::share_out` meets its contract: the claims, if all of them fit, or what the jobs get
--- in turns, are what the rules grant.
-use mathlib.Core.Path.{_≡_, refl, sym, _∙_, ap, ap₂}
-use mathlib.Core.Bool.{Bool, true, false, _||_}
-use mathlib.Core.List.{List, []}
-use Prim.Native.Nat.{ℕ, min}
-use native.Mathlib.Nat.{mul-one}
-use native.Mathlib.Omega.{arith}
+-- `dispatch::slot::share_out` meets its contract: a slot that is not shared out under the mark of the run is slow, and then shared
+-- out under the slow mark.
+use mathlib.Core.Path.{refl, sym}
+use mathlib.Core.Bool.{true≢false}
+use mathlib.Core.List.{List}
+use Prim.Native.Nat.{ℕ}
 use borrow.Author.Needs.{needs}
-use lib.Dec.{ltb}
-use lib.ListN.{getD}
-use Rattle.base.specs.Fill.{filled}
-use Rattle.base.proofs.FillLaws.{filled-ext}
-use Rattle.plan.specs.Edition.{mostJobs}
 use Rattle.plan.specs.declared.kinds.Outline.{Outline}
-use Rattle.plan.specs.declared.kinds.Units.{Units}
+use Rattle.plan.specs.declared.kinds.Plan.{Plan}
 use Rattle.dispatch.specs.declared.Run.{Run}
-use Rattle.dispatch.specs.Dues.{slowAfter}
 use Rattle.dispatch.specs.inner.Columns.{planOn}
-use Rattle.dispatch.specs.inner.Turns.{servedIn, goalIn, dueIn, claimIn, Claimed, inTurns}
-use Rattle.dispatch.proofs.Sharing.{absorbs, claims-granted, turns-granted, claims-known, claims-all}
+use Rattle.dispatch.specs.inner.Shares.{settledRun}
+use Rattle.dispatch.proofs.SlotOver.{shared-under, shared-slow, shared-long}
+use Rattle.dispatch.proofs.SoundColumns.{release-on, deadline-on}
 use Rattle.dispatch.proofs.slot.share_out.Statement.{statement}
 use Rattle.dispatch.proofs.slot.share_out.Tie as tie
 
--- The same claims, for an equal speed and an equal number of jobs.
-same-claims : {claim : ℕ → ℕ} {v w m n : ℕ} {row : List ℕ} {fit : Bool} → v ≡ w → m ≡ n → Claimed claim v m row fit → Claimed claim w n row fit
-same-claims e q told = rw (← e, ← q) told
-
-module _ (c : tie.After-over) where
-  abbrev entry : tie.Start
-  entry = c .before .before .before .before
-
+module _ (entry : tie.Start) where
   abbrev o : Outline
   o = entry .args .o
 
@@ -39,120 +25,82 @@ module _ (c : tie.After-over) where
   abbrev releases : List ℕ
   releases = entry .args .releases .now
 
-  abbrev goals : List ℕ
-  goals = entry .args .goals .now
+  abbrev sizes : List ℕ
+  sizes = entry .args .sizes .now
 
   abbrev deadlines : List ℕ
   deadlines = entry .args .deadlines .now
 
-  abbrev carried : List ℕ
-  carried = entry .args .carried .now
+  abbrev q : Plan
+  q = planOn o grades releases sizes deadlines
 
   abbrev table : List ℕ
   table = entry .args .table .now
 
   abbrev run : Run
-  run = record { clock = entry .args .clock; slow = entry .args .slow; below = false; carried = carried; ended = [] }
+  run = settledRun (entry .args .clock) (entry .args .slow) (entry .args .carried .now)
 
   abbrev v : ℕ
   v = entry .args .v .0
 
-  abbrev whole : Bool
-  whole = entry .args .whole
+  abbrev grants : List ℕ
+  grants = entry .args .grants .now
 
-  abbrev spans : ℕ
-  spans = entry .args .spans
+spans-of-requires : tie.Need-spans-of-requires
+spans-of-requires c κs = search needs
 
-  jobs : c .before .counted-within .result ≡ min (o .count) mostJobs
-  jobs = c .before .counted-within .ensures
-
-  most : c .over .result .0 ≡ v
-  most = ap (λ (u : Units). u .0) (c .over .ensures) ∙ mul-one v
-
-  marked : (sizes : List ℕ) → slowAfter (planOn o grades releases sizes deadlines) run v ≡ run .slow
-  marked sizes = absorbs (run .slow) (ltb v (o .n .0)) (entry .pre .3)
-
-  -- The claims as `all_fit` writes them.
-  abbrev claim : ℕ → ℕ
-  claim = claimIn (run .clock .0) (run .slow) whole spans grades releases goals deadlines carried table
-
-counted-within-requires : tie.Need-counted-within-requires
-counted-within-requires c κs = search needs
-
-over-requires : tie.Need-over-requires
-over-requires c κs = search needs
-
-all-fit-requires : tie.Need-all-fit-requires
-all-fit-requires c κs =
-    let at = c .before in
-    (omega (arith, jobs at), omega (arith, most at, entry at .pre .2), refl)
-
--- What `all_fit` tells, of the counted jobs and the speed.
-module _ (c : tie.After-all-fit) where
-  abbrev at : tie.After-over
-  at = c .before .before
-
-  told : Claimed (claim at) (v at) (min (o at .count) mostJobs) (c .all-fit .last .0) (c .all-fit .result)
-  told = same-claims (most at) (jobs at) (c .all-fit .ensures)
-
-grant-claims-requires : tie.Need-grant-claims-requires
-grant-claims-requires c κs = search needs
+share-under-requires : tie.Need-share-under-requires
+share-under-requires c κs =
+    let at-spans-of = c .before in
+    let here = at-spans-of .before .before .before in (
+      here .pre .0,
+      here .pre .1,
+      here .pre .2,
+      λ e. at-spans-of .spans-of .ensures .1 (q here) e refl
+          (λ i h. sym (release-on (o here) (grades here) (releases here) (sizes here) (deadlines here) i h))
+          (λ i h. sym (deadline-on (o here) (grades here) (releases here) (sizes here) (deadlines here) i h)),
+    )
 
 same-length : tie.Need-same-length
 same-length c = search needs
 
 returns : tie.Need-returns
-returns c sizes rows right =
-    let at-grant-claims = c .before .before in
-    let at-if1 = at-grant-claims .before .before .before in
-    let fit = at-if1 .before in
-    let here = at fit in
-    let n = min (o here .count) mostJobs in
-    at-grant-claims .grant-claims .ensures
-    ∙ ap (λ m. filled (λ k. getD (fit .all-fit .last .0) k 0) m (entry here .args .grants .now)) (jobs here)
-    ∙ filled-ext (λ k. getD (fit .all-fit .last .0) k 0) (claim here) n (entry here .args .grants .now)
-    (claims-all (claim here) (v here) n (omega arith) (told fit) (at-if1 .if1 .taken))
-    ∙ claims-granted (o here) (grades here) (releases here) sizes (deadlines here) rows (run here) (v here) refl (marked here sizes)
-    (goalIn (whole here) (spans here) (goals here) (table here)) right (entry here .args .grants .now) (entry here .pre .0) (told fit .sums (at-if1 .if1 .taken) .1)
+returns c =
+    let at-share-under = c .before .before .before in
+    let here = at-share-under .before .before .before .before .before in
+    shared-under (q here) (table here) (run here) (v here) (grants here) (at-share-under .share-under .ensures) (c .if1 .taken)
 
-serve-in-turns-requires : tie.Need-serve-in-turns-requires
-serve-in-turns-requires c κs =
-    let fit = c .before .before .before in
-    let here = at fit in
-    let n = min (o here .count) mostJobs in (
-      omega (arith, jobs here),
-      rw (jobs here) (entry here .pre .0),
-      λ k l. entry here .pre .1 k (omega (arith, jobs here)),
-      λ k l. claims-known (claim here) (dueIn (whole here) (spans here) (goals here) (carried here) (table here))
-          (servedIn (run here .clock .0) (run here .slow) (grades here) (releases here) (deadlines here)) (v here) n (λ i. refl) (omega arith) (told fit) k
-          (omega (arith, jobs here)),
+share-under-requires-2 : tie.Need-share-under-requires-2
+share-under-requires-2 c κs =
+    let at-else = c .before in
+    let at-share-under = at-else .before .before .before in
+    let here = at-share-under .before .before .before .before .before in (
+      shared-long (q here) (table here) (run here) (v here) (grants here) (at-share-under .share-under .ensures) (at-else .if1 .left) (here .pre .0),
+      here .pre .1,
+      here .pre .2,
+      λ e. absurd (true≢false e),
     )
 
 same-length-2 : tie.Need-same-length-2
 same-length-2 c = search needs
 
 returns-2 : tie.Need-returns-2
-returns-2 c sizes rows right =
-    let at-serve-in-turns = c .before .before in
-    let fit = at-serve-in-turns .before .before .before .before in
-    let here = at fit in
-    let n = min (o here .count) mostJobs in
-    at-serve-in-turns .serve-in-turns .ensures
-    ∙ ap₂ (λ x m. inTurns (run here .clock .0) (run here .slow) (grades here) (releases here) (deadlines here)
-    (dueIn (whole here) (spans here) (goals here) (carried here) (table here)) x m (filled (λ k. 0) m (entry here .args .grants .now))) (most here) (jobs here)
-    ∙ turns-granted (o here) (grades here) (releases here) sizes (deadlines here) rows (run here) (v here) refl (marked here sizes)
-    (goalIn (whole here) (spans here) (goals here) (table here)) right (entry here .args .grants .now) (entry here .pre .0)
+returns-2 c =
+    let at-second = c .before .before in
+    let at-else = at-second .before .before in
+    let at-share-under = at-else .before .before .before in
+    let here = at-share-under .before .before .before .before .before in
+    shared-slow (q here) (table here) (here .args .clock) (here .args .slow) (here .args .carried .now) (v here) (grants here)
+    (at-share-under .share-under .ensures) (at-else .if1 .left) (at-second .share-under2 .ensures)
 
 pub share-out-spec : {M : Type 1} → statement M
 share-out-spec =
     tie.close
     (tie.spec
-    counted-within-requires
-    over-requires
-    all-fit-requires
-    grant-claims-requires
+    spans-of-requires
+    share-under-requires
     same-length
     returns
-    serve-in-turns-requires
+    share-under-requires-2
     same-length-2
     returns-2)

@@ -26,8 +26,6 @@ use Rattle.dispatch.proofs.Alike.{alike-slot}
 use Rattle.dispatch.proofs.ColumnPlan.{columns-alike}
 use Rattle.dispatch.proofs.Readiness.{readiness-fault, readiness-clear}
 use Rattle.dispatch.proofs.SlotOver.{slot-refused, slot-done}
-use Rattle.dispatch.proofs.Sharing.{sizes-are-goals}
-use Rattle.dispatch.proofs.SoundColumns.{release-on, deadline-on}
 use Rattle.dispatch.proofs.step.slot_over.Statement.{statement}
 use Rattle.dispatch.proofs.step.slot_over.Tie as tie
 
@@ -124,28 +122,8 @@ returns c p cols =
     (sym (c .before .is-done .ensures) ∙ not-true _ (c .if1 .taken))
     ∙ sym (carried-over at p cols)
 
-mark-after-requires : tie.Need-mark-after-requires
-mark-after-requires c κs = search needs
-
-spans-of-requires : tie.Need-spans-of-requires
-spans-of-requires c κs = search needs
-
 carry-slot-requires : tie.Need-carry-slot-requires
-carry-slot-requires c κs =
-    let at-spans-of = c .before .before in
-    let at-mark-after = at-spans-of .before in
-    let was = at-mark-after .before in
-    let at = here was in
-    let slow-is = at-mark-after .mark-after .ensures in (
-      is-sound was,
-      room was,
-      normal was,
-      rw (← slow-is)
-          (sizes-are-goals (o at) (grades at) (releases at) (sizes at) (deadlines at) (table at) (run at .clock) _ _
-          (λ e. at-spans-of .spans-of .ensures .1 (q at) e refl
-          (λ i h. sym (release-on (o at) (grades at) (releases at) (sizes at) (deadlines at) i h))
-          (λ i h. sym (deadline-on (o at) (grades at) (releases at) (sizes at) (deadlines at) i h)))),
-    )
+carry-slot-requires c κs = let was = c .before .before in (is-sound was, room was, normal was)
 
 same-length : tie.Need-same-length
 same-length c = search needs
@@ -153,7 +131,7 @@ same-length c = search needs
 returns-2 : tie.Need-returns-2
 returns-2 c p cols =
     let at-carry-slot = c .before .before in
-    let was = at-carry-slot .before .before .before .before .before in
+    let was = at-carry-slot .before .before .before in
     let at = here was in
     slot-done (q at) (table at) (run at) (v at) (grants at) (told at) (none-empty _ (none was)) (at-carry-slot .carry-slot .ensures .0)
     (at-carry-slot .carry-slot .ensures .1)
@@ -168,8 +146,6 @@ slot-over-spec =
     answer-to-requires
     is-done-requires
     returns
-    mark-after-requires
-    spans-of-requires
     carry-slot-requires
     same-length
     returns-2)
