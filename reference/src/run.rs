@@ -53,7 +53,7 @@ pub fn step(plan: &Plan, table: &[u32], run: &mut Run, speed: u16, grants: &mut 
     if speed > plan.n {
         return refusal::SPEED;
     }
-    set_marks(plan, run, speed);
+    set_marks(plan, table, run, speed);
     for (i, &grant) in serve(plan, table, run, speed).iter().enumerate() {
         grants[i] = grant;
         run.carried[i] += grant;
@@ -123,13 +123,30 @@ fn last_deadline(jobs: &[Job]) -> u32 {
     boundaries(jobs)[boundaries(jobs).len() - 1]
 }
 
-fn set_marks(plan: &Plan, run: &mut Run, speed: u16) {
-    if speed < plan.n {
+/// Sets the marks of a slot at a speed, for good: nothing clears them.
+fn set_marks(plan: &Plan, table: &[u32], run: &mut Run, speed: u16) {
+    // The slow mark is set only when the speed is below the lesser of n and the sum of the live jobs'
+    // dues. So a speed of n is never slow, and no speed is when nothing is due.
+    let lesser = u64::from(plan.n).min(sum_of_dues(plan, table, run));
+    if u64::from(speed) < lesser {
         run.slow = true;
     }
+    // The below-floor mark asks for no due.
     if speed < plan.d {
         run.below_floor = true;
     }
+}
+
+/// The sum of the live jobs' dues for the present slot: HI and LO, as with the slow mark clear, and
+/// each in full, whatever the speed.
+fn sum_of_dues(plan: &Plan, table: &[u32], run: &Run) -> u64 {
+    let mut sum: u64 = 0;
+    for (i, job) in plan.counted().iter().enumerate() {
+        if live(job, run, i) {
+            sum += due_with_mark_clear(plan, table, run, i);
+        }
+    }
+    sum
 }
 
 /// The grants of one slot, one number per job, the marks of this slot being set already.
@@ -160,16 +177,28 @@ fn live(job: &Job, run: &Run, position: usize) -> bool {
 
 /// The units that a job in its turn may have at most. An ended job has no turn: its due is 0.
 fn due(plan: &Plan, table: &[u32], run: &Run, position: usize) -> u64 {
-    let size = plan.counted()[position].size;
-    let carried = u64::from(run.carried[position]);
     if run.slow {
-        return size - carried;
+        due_with_mark_set(plan, run, position)
+    } else {
+        due_with_mark_clear(plan, table, run, position)
     }
+}
+
+/// All that is left.
+fn due_with_mark_set(plan: &Plan, run: &Run, position: usize) -> u64 {
+    plan.counted()[position].size - u64::from(run.carried[position])
+}
+
+/// The lesser of the size and the allotments up to and including the present interval, less what is
+/// carried, or 0.
+fn due_with_mark_clear(plan: &Plan, table: &[u32], run: &Run, position: usize) -> u64 {
     let mut allotted = 0;
     for (j, interval) in intervals(plan.counted()).iter().enumerate() {
         if interval.start <= run.clock {
             allotted += allotment(table, position, j);
         }
     }
+    let size = plan.counted()[position].size;
+    let carried = u64::from(run.carried[position]);
     size.min(allotted).saturating_sub(carried)
 }

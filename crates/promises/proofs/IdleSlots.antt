@@ -3,11 +3,11 @@
 -- a slot below the normal rate the LO jobs may still be carried, until the first slow slot.
 use mathlib.Core.Path.{_≡_, refl, sym}
 use mathlib.Core.Logic.{_⊎_}
-use mathlib.Core.Bool.{Bool, true, false, true≢false, _&&_, _||_, or-true}
+use mathlib.Core.Bool.{Bool, true, false, true≢false, _&&_, _||_, or-false, or-true}
 use mathlib.Core.List.{List, [], _∷_}
 use Prim.Native.Nat.{ℕ, _+_, _≤_, _<_, min}
 use native.Mathlib.Omega.{arith}
-use borrow.Author.Tests.{ltb-true, lt-ltb}
+use borrow.Author.Tests.{ltb-true, lt-ltb, le-ltb}
 use lib.Dec.{ltb, lit<}
 use Rattle.base.specs.Sum.{sum, on}
 use Rattle.base.specs.Below
@@ -15,17 +15,33 @@ use Rattle.base.proofs.Logic.{both, neither, if-true}
 use Rattle.plan.specs.Rules.{counted, size, deadline, isHi, nameAllowed, namesHold, namesDiffer, gradesHold, boundsHold, rulesHold}
 use Rattle.plan.specs.Boundaries.{insert, boundariesTo, come}
 use Rattle.plan.specs.Table.{noStray, sound}
-use Rattle.plan.specs.Report.{first}
+use Rattle.plan.specs.Report.{Report, first}
 use Rattle.plan.specs.declared.kinds.Plan.{Plan}
 use Rattle.judge.specs.Verdict.{outsideFault, totalFault, capacityFault, isHiDeadline, floorFault, judged}
 use Rattle.dispatch.specs.declared.Run.{Run}
 use Rattle.dispatch.specs.Dues.{allDues}
 use Rattle.dispatch.specs.Order
-use Rattle.dispatch.specs.Step.{started, slotSound, slotFault, granted, added, advanced, stepped}
+use Rattle.dispatch.specs.Step.{started, slotSound, slotFault, granted, added, advanced, slotBy, stepped}
 use Rattle.promises.specs.Night.{Call, slot, word, isSlot, given, isSlow, runAfter, clockAt, had, hadInWindow, told, slowed, slowedBefore, Allowed, nightAt}
 use Rattle.promises.proofs.Cases.{planWith, tableOf, P13}
 use Rattle.promises.proofs.Demand3.{promise-kept}
 use Rattle.promises.proofs.Strategy.{night-allowed}
+
+-- A call at a speed that carries all that is due leaves the slow mark as it was, and so does one at the normal rate.
+module _ (p : Plan) (table : List ℕ) (run : Run) (v : ℕ) (row : List ℕ) where
+  enough-leaves : min (p .n .0) (allDues p table run) ≤ v → stepped p table run v row .run .slow ≡ run .slow
+  unfolding stepped advanced
+  enough-leaves enough = go (slotFault p table run v row)
+    where
+      go : (r : Report) → slotBy r p table run v row .run .slow ≡ run .slow
+      go [] = rw (le-ltb v (min (p .n .0) (allDues p table run)) enough) (or-false (run .slow))
+      go (number ∷ rest) = refl
+
+  pub idle-leaves-the-mark : allDues p table run ≤ v → stepped p table run v row .run .slow ≡ run .slow
+  idle-leaves-the-mark fits = enough-leaves (omega arith)
+
+  pub normal-leaves-the-mark : p .n .0 ≤ v → stepped p table run v row .run .slow ≡ run .slow
+  normal-leaves-the-mark normal = enough-leaves (omega arith)
 
 -- A slot below the normal rate, which was slow by the first rule.
 abbrev pub slowByRate : Call → Run → Bool

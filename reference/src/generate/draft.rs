@@ -3,6 +3,7 @@
 use super::input::Lent;
 use crate::edition::{HI, LARGEST_FILE, LO, MOST_DEADLINE, MOST_JOBS, NAME_BYTES, TABLE_PLACES};
 use crate::plan::{boundaries, intervals, place_of, Interval, Job, Plan};
+use crate::run::Run;
 use crate::writer::writer;
 
 /// Where the fields of a file stand, and how long its parts are.
@@ -120,6 +121,17 @@ impl Draft {
 
     pub fn boundaries(&self) -> Vec<u32> {
         boundaries(self.plan.counted())
+    }
+
+    /// A run at its beginning.
+    pub fn run(&self) -> Run {
+        Run {
+            clock: self.boundaries()[0],
+            slow: false,
+            below_floor: false,
+            carried: [0; MOST_JOBS],
+            ended: [false; MOST_JOBS],
+        }
     }
 
     /// The file of a draft that keeps the rules of names and numbers.

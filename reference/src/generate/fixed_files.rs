@@ -1,5 +1,6 @@
-//! The plan files that are the same for every seed: the plans to try, every cut and changed byte of
-//! a small file, every bound and one past it, each fault at each place, and short buffers.
+//! The plan files that are the same for every seed: the plans to try, runs with idle slots, every cut
+//! and changed byte of a small file, every bound and one past it, each fault at each place, and short
+//! buffers.
 
 use super::accepted::accepted_of;
 use super::damaged::{sound_base, Damage};
@@ -27,6 +28,7 @@ pub fn fixed_files() -> Vec<FileInput> {
     let parts = [
         cases(),
         short_runs_of_e(),
+        runs_with_idle_slots(),
         cuts(),
         changed_bytes(),
         wrong_lengths(),
@@ -81,6 +83,7 @@ fn cases() -> Vec<FileInput> {
         of_draft(&plan_e(), &[2, 2]),
         of_draft(&plan_e(), &[1]),
         of_draft(&plan_e(), &[3]),
+        of_draft(&two_reports(), &[2, 1, 1, 1, 2]),
         patched_e(row_at(2, 2) + NAME_IN, b"MIRROR-A"),
         patched_e(RATES_AT, &[0, 2, 0, 2]),
         of_file(Vec::new(), &[2]),
@@ -113,6 +116,12 @@ fn later_deadline_first() -> Draft {
     Draft::new(2, 1, &jobs).with_rows(&[&[2, 0], &[2, 0]])
 }
 
+/// Two jobs with nothing to send between them.
+fn two_reports() -> Draft {
+    let jobs = [job(b"report-1", LO, 0, 2, 2), job(b"report-2", LO, 4, 2, 6)];
+    Draft::new(2, 1, &jobs).with_rows(&[&[2, 0, 0], &[0, 0, 2]])
+}
+
 /// Plan E with every choice of three speeds, then slots at the floor or at the normal rate.
 fn short_runs_of_e() -> Vec<FileInput> {
     let mut inputs = Vec::new();
@@ -120,6 +129,16 @@ fn short_runs_of_e() -> Vec<FileInput> {
         let mut speeds = vec![choice % 4, choice / 4 % 4, choice / 16 % 4];
         speeds.extend([1 + choice / 64; 9]);
         inputs.push(of_draft(&plan_e(), &speeds));
+    }
+    inputs
+}
+
+/// The two reports with every choice of five speeds, then a slot at the normal rate.
+fn runs_with_idle_slots() -> Vec<FileInput> {
+    let mut inputs = Vec::new();
+    for choice in 0..243_u16 {
+        let speeds = [1, 3, 9, 27, 81].map(|weight| choice / weight % 3);
+        inputs.push(of_draft(&two_reports(), &[&speeds[..], &[2]].concat()));
     }
     inputs
 }

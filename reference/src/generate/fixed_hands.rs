@@ -1,19 +1,27 @@
 //! The plans in hand that are the same for every seed: buffers around the needed lengths, each
-//! twist at each place, runs at their bounds, and runs with ended jobs.
+//! twist at each place, runs at their bounds, runs with ended jobs, and speeds around the dues.
 
 use super::damaged::sound_base;
-use super::draft::{plan_e, ANY, EVERYWHERE};
+use super::draft::{job, plan_e, Draft, ANY, EVERYWHERE};
 use super::fixed_files::{lents, SEED};
 use super::hand::{in_hand, rubbish, twist_input, TWISTS};
 use super::input::HandInput;
 use super::prng::{Prng, Purpose};
+use crate::edition::{HI, LO};
 
 /// Draws for each twist and place in hand.
 const DRAWS_OF_TWIST: u64 = 6;
 
 /// All of them, in their order.
 pub fn fixed_hands() -> Vec<HandInput> {
-    [short_buffers(), twists(), hand_bounds(), ended_jobs()].concat()
+    let parts = [
+        short_buffers(),
+        twists(),
+        hand_bounds(),
+        ended_jobs(),
+        speeds_around_dues(),
+    ];
+    parts.concat()
 }
 
 /// Plan E with its clock at the last deadline and each of the buffers around the exact lengths.
@@ -90,6 +98,31 @@ fn ended_jobs() -> Vec<HandInput> {
                     for position in 0..3 {
                         input.run.ended[position] = marks >> position & 1 == 1;
                     }
+                    inputs.push(input);
+                }
+            }
+        }
+    }
+    inputs
+}
+
+/// An essential job that has half of its units allotted in each interval, and another in the first.
+fn half_by_half() -> Draft {
+    let jobs = [job(b"other--1", LO, 0, 4, 4), job(b"essent-1", HI, 0, 6, 8)];
+    Draft::new(5, 2, &jobs).with_rows(&[&[4, 0], &[3, 3]])
+}
+
+/// Every speed on many sums of dues, with each job ended or not, and then two slots at full speed.
+fn speeds_around_dues() -> Vec<HandInput> {
+    let mut inputs = Vec::new();
+    for other in [0, 2, 3, 4] {
+        for essential in [0, 2, 3, 5] {
+            for speed in 0..=5 {
+                for marks in 0..4 {
+                    let mut input = in_hand(&half_by_half(), &[speed, 5, 5]);
+                    input.run.clock = 1;
+                    input.run.carried[..2].copy_from_slice(&[other, essential]);
+                    input.run.ended[..2].copy_from_slice(&[marks % 2 == 1, marks / 2 == 1]);
                     inputs.push(input);
                 }
             }

@@ -6,7 +6,7 @@ use super::draft::{row_at, Draft, Limits, Where, AMPLE, EVERYWHERE};
 use super::input::HandInput;
 use super::prng::Prng;
 use super::refused_draft;
-use super::speeds::speeds;
+use super::speeds::{or_around_dues, speeds};
 use crate::edition::{
     LARGEST_FILE, MOST_DEADLINE, MOST_INTERVALS, MOST_JOBS, MOST_SIZE, NAME_BYTES, TABLE_PLACES,
 };
@@ -55,18 +55,11 @@ pub const TWISTS: [Twist; 16] = [
 
 /// A draft taken in hand with a run at its beginning and ample buffers.
 pub fn in_hand(draft: &Draft, speeds: &[u16]) -> HandInput {
-    let clock = draft.boundaries()[0];
     HandInput {
         lent: AMPLE,
         plan: draft.plan.clone(),
         table: draft.table.clone(),
-        run: Run {
-            clock,
-            slow: false,
-            below_floor: false,
-            carried: [0; MOST_JOBS],
-            ended: [false; MOST_JOBS],
-        },
+        run: draft.run(),
         speeds: speeds.to_vec(),
     }
 }
@@ -299,6 +292,12 @@ pub fn set_ended(prng: &mut Prng, run: &mut Run) {
             *mark = prng.once_in(3);
         }
     }
+}
+
+/// Speeds around what is due in the run as it stands, in half of all inputs.
+pub fn set_speeds(prng: &mut Prng, input: &mut HandInput) {
+    let speeds = std::mem::take(&mut input.speeds);
+    input.speeds = or_around_dues(prng, speeds, &input.plan, &input.table, &input.run);
 }
 
 /// A record that no rule holds for, but by chance.

@@ -87,8 +87,11 @@ pub fn damaged_input(seed: u64, number: u64) -> FileInput {
 pub fn hand(seed: u64, number: u64) -> HandInput {
     let prng = &mut Prng::new(seed, Purpose::Hand, number);
     let mut input = hand::hand(prng, limits_of(number));
-    // The marks have a source of their own, so that all else is what it was before there were any.
+    // The marks have a source of their own, so that plan, table and the rest of the run do not depend
+    // on them.
     hand::set_ended(&mut Prng::new(seed, Purpose::Ended, number), &mut input.run);
+    // Speeds come last, since what is due depends on all the rest.
+    hand::set_speeds(prng, &mut input);
     input
 }
 
@@ -152,11 +155,14 @@ fn run_of(prng: &mut Prng, limits: &Limits, draft: &Draft) -> FileInput {
     if prng.once_in(10) {
         lent = scant(prng, file.len(), draft.jobs());
     }
-    FileInput {
-        lent,
-        file,
-        speeds: speeds::speeds(prng, &draft.plan),
-    }
+    let speeds = speeds_of_draft(prng, draft);
+    FileInput { lent, file, speeds }
+}
+
+/// Speeds for a run of a draft from its beginning.
+fn speeds_of_draft(prng: &mut Prng, draft: &Draft) -> Vec<u16> {
+    let speeds = speeds::speeds(prng, &draft.plan);
+    speeds::or_around_dues(prng, speeds, &draft.plan, &draft.table, &draft.run())
 }
 
 /// Buffers around the lengths that a plan needs.

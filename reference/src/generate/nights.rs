@@ -4,8 +4,7 @@ use super::accepted::accepted;
 use super::damaged::{random_bytes, sprinkled};
 use super::draft::{patch, Draft, LENGTH_AT};
 use super::prng::{Prng, Purpose};
-use super::speeds::speeds;
-use super::{damaged_file, limits_of, refused_draft};
+use super::{damaged_file, limits_of, refused_draft, speeds_of_draft};
 use crate::edition::{HEAD_BYTES, LARGEST_FILE};
 
 /// An input of `runplan`, drawn from the seed and its own number alone.
@@ -27,7 +26,7 @@ pub fn night(seed: u64, number: u64) -> Vec<u8> {
 
 /// The speeds of a run, now and then none, and now and then an odd byte after them.
 fn speed_bytes(prng: &mut Prng, draft: &Draft) -> Vec<u8> {
-    let speeds = speeds(prng, &draft.plan);
+    let speeds = speeds_of_draft(prng, draft);
     let mut bytes: Vec<u8> = speeds
         .iter()
         .flat_map(|speed| speed.to_be_bytes())

@@ -176,14 +176,14 @@ fn speed_at_the_rate_sets_no_mark() {
 }
 
 #[test]
-fn speed_at_the_floor_sets_the_slow_mark_only() {
+fn speed_at_the_floor_and_below_the_dues_sets_the_slow_mark_only() {
     let mut run = run_at(1);
     assert_eq!(e_step(&mut run, 1), (DONE, [0, 1]));
     assert_eq!(run, e_run(2, true, [0, 1]));
 }
 
 #[test]
-fn speed_below_the_floor_sets_both_marks() {
+fn speed_below_the_floor_and_below_the_dues_sets_both_marks() {
     let mut run = run_at(1);
     assert_eq!(e_step(&mut run, 0), (DONE, [0, 0]));
     assert!(run.slow && run.below_floor);
@@ -385,13 +385,14 @@ fn slot_with_all_jobs_ended_grants_nothing_and_goes_on() {
 
 #[test]
 fn slot_sets_and_clears_no_ended_mark() {
-    // The other job is discarded by this slot, and a finished one is not ended by it.
-    let mut run = e_run(4, false, [5, 7]);
+    // The other job is due 2 and discarded by this slot, and a finished one is not ended by it.
+    let mut run = e_run(4, false, [4, 7]);
     assert_eq!(e_step(&mut run, 1), (DONE, [0, 1]));
-    assert_eq!(run, e_run(5, true, [5, 8]));
+    assert_eq!(run, e_run(5, true, [4, 8]));
+    // Nothing is due to ended jobs, so no speed is slow here.
     let mut run = with_ended(e_run(4, false, [6, 8]), &[0, 1]);
     assert_eq!(e_step(&mut run, 1), (DONE, [0, 0]));
-    assert_eq!(run, with_ended(e_run(5, true, [6, 8]), &[0, 1]));
+    assert_eq!(run, with_ended(e_run(5, false, [6, 8]), &[0, 1]));
 }
 
 #[test]
