@@ -199,19 +199,19 @@ impl<'a> Picture<'a> {
         }
     }
 
-    // What the marks say, from the first slot that set them to the end of the run.
+    // What the marks say, from the first slot that set them to the end of the run. Either may be set without the other, so that
+    // the below-floor mark has the lower half for itself.
     fn shading(&mut self) {
         let (top, height) = (self.top, self.bottom() - self.top);
         let end = self.end_of_run();
-        let below = self.below_floor_from();
         let parts = [
-            (self.slow_from(), below.unwrap_or(end), SLOW_PAINT),
-            (below, end, BELOW_FLOOR_PAINT),
-            (Some(end).filter(|&end| end < self.last), self.last, NOT_RUN_PAINT),
+            (self.slow_from(), end, 0.0, SLOW_PAINT),
+            (self.below_floor_from(), end, height / 2.0, BELOW_FLOOR_PAINT),
+            (Some(end).filter(|&end| end < self.last), self.last, 0.0, NOT_RUN_PAINT),
         ];
-        for (from, to, paint) in parts {
+        for (from, to, down, paint) in parts {
             if let Some(from) = from.filter(|&from| from < to) {
-                self.rect(self.x(from), top, self.x(to) - self.x(from), height, &format!("fill=\"{paint}\""));
+                self.rect(self.x(from), top + down, self.x(to) - self.x(from), height - down, &format!("fill=\"{paint}\""));
             }
         }
     }
@@ -334,7 +334,7 @@ impl<'a> Picture<'a> {
             entries.push((filled(SLOW_PAINT), "slow mark set: HI jobs alone are served".to_string()));
         }
         if self.below_floor_from().is_some() {
-            entries.push((filled(BELOW_FLOOR_PAINT), "below-floor mark set too: nothing is promised".to_string()));
+            entries.push((filled(BELOW_FLOOR_PAINT), "below-floor mark set: nothing is promised".to_string()));
         }
         if self.end_of_run() < self.last {
             entries.push((filled(NOT_RUN_PAINT), "no speed given".to_string()));

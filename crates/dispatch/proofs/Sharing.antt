@@ -1,7 +1,7 @@
 -- The grants of a slot from the columns: the claims if all of them fit into the speed, otherwise what the
 -- jobs get in turns.
 use mathlib.Core.Path.{_≡_, refl, sym, _∙_, ap, ap₂}
-use mathlib.Core.Bool.{Bool, true, false, true≢false, not, cond, _&&_, _||_, or-true, and-true, and-false}
+use mathlib.Core.Bool.{Bool, true, false, true≢false, not, cond, _&&_, _||_, and-false}
 use mathlib.Core.List.{List, [], _++_}
 use Prim.Native.Nat.{ℕ, zero, suc, _+_, _*_, _-_, _≤_, _<_, min}
 use native.Mathlib.Nat.{one-mul}
@@ -26,10 +26,10 @@ use Rattle.dispatch.specs.Dues.{carriedOf, inItsWindow, live, allDues, s
 use Rattle.dispatch.specs.Order.{rankAt, rank, queue, serve}
 use Rattle.dispatch.specs.Step.{granted}
 use Rattle.dispatch.specs.inner.Columns.{planOn}
-use Rattle.dispatch.specs.inner.Shares.{served, claim, Shared}
+use Rattle.dispatch.specs.inner.Shares.{claim, Shared}
 use Rattle.dispatch.specs.inner.Turns.{inWindowIn, classIn, rankIn, servedIn, goalIn, Goals, unknown, KnownDue, Claimed, inTurns}
 use Rattle.dispatch.proofs.Queues.{over, queue-ext, serve-ext, over-queue, queued-below}
-use Rattle.dispatch.proofs.Shares.{two-lines, within-claim, all-served}
+use Rattle.dispatch.proofs.Shares.{dues-are-claims, two-lines, within-claim, all-served}
 use Rattle.dispatch.proofs.RowShares.{blank-none, blank-rest, blank-length, granted-rest, granted-length}
 use Rattle.dispatch.proofs.SoundColumns.{grade-on, release-on, size-on, deadline-on}
 use Rattle.dispatch.proofs.TurnLaws.{by-rank}
@@ -124,16 +124,12 @@ module _ (o : Outline) (grades releases sizes deadlines table : List ℕ) (run :
           ap (λ e. cond (getD e k false) 0 (goal q table t (run .slow) k - carriedOf run k)) unended
           ∙ ap (λ g. g - carriedOf run k) (sym (right k l))
 
+      claim-of : (k : ℕ) → k < n → claimsIn k ≡ claim q table run (run .slow) k
+      claim-of k l = sym (ap₂ on (ap₂ (λ a h. a && (h || not (run .slow))) (live-on k l) (hi-on k l)) (due-of k l))
+
       -- Under the clear mark the claims sum to the dues of the live jobs.
       claims-are-dues : run .slow ≡ false → sum claimsIn n ≡ allDues q table run
-      claims-are-dues clear = sum-ext _ _ n each
-        where
-          each : (k : ℕ) → k < n → claimsIn k ≡ on (live q run k) (due q table run false k)
-          each k l =
-              ap (λ s. on (servedIn t s grades releases deadlines k) (duesIn k)) clear
-              ∙ ap₂ on
-              (ap (_&&_ (inWindowIn t releases deadlines k)) (or-true (eqb (getD grades k 0) hi)) ∙ and-true (inWindowIn t releases deadlines k) ∙ sym (live-on k l))
-              (sym (due-of k l) ∙ ap (λ s. due q table run s k) clear)
+      claims-are-dues clear = sum-ext _ _ n claim-of ∙ ap (λ s. sum (claim q table run s) n) clear ∙ sym (dues-are-claims q table run)
 
       -- What fits leaves the mark as it was, and so does the normal rate; claims that do not fit into less set it.
       fits-stays : sum claimsIn n ≤ v → slowAfter q table run v ≡ run .slow
@@ -162,13 +158,8 @@ module _ (o : Outline) (grades releases sizes deadlines table : List ℕ) (run :
             due-on : (k : ℕ) → k < n → dues k ≡ duesIn k
             due-on k l = ap (λ s. due q table run s k) marked ∙ due-of k l
 
-            served-on : (k : ℕ) → k < n → served q run (slowAfter q table run v) k ≡ servedIn t (run .slow) grades releases deadlines k
-            served-on k l =
-                ap (λ s. served q run s k) marked
-                ∙ ap₂ (λ a h. a && (h || not (run .slow))) (live-on k l) (hi-on k l)
-
             claim-on : (k : ℕ) → k < n → claimsIn k ≡ claim q table run (slowAfter q table run v) k
-            claim-on k l = sym (ap₂ on (served-on k l) (due-on k l))
+            claim-on k l = claim-of k l ∙ ap (λ s. claim q table run s k) (sym marked)
 
             -- The claims of the columns, if they fit, are the grants.
             claims-granted : sum claimsIn n ≤ v → filled claimsIn n grants ≡ granted q table run v grants

@@ -6,7 +6,7 @@ use Prim.Native.Nat.{ℕ, _≤_, _<_}
 use native.Mathlib.Omega.{arith}
 use lib.ListN.{getD}
 use Rattle.base.proofs.Choice.{on-less}
-use Rattle.base.specs.Sum.{sum, on}
+use Rattle.base.specs.Sum.{sum}
 use Rattle.plan.specs.Rules.{counted}
 use Rattle.plan.specs.declared.kinds.Plan.{Plan}
 use Rattle.judge.specs.Verdict.{judged}

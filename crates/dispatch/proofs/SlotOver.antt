@@ -61,8 +61,8 @@ shares-granted p table run v grants room =
     is-filled (share p table run v) (counted p) grants (granted p table run v grants) (granted-length p table run v grants room)
     (λ k inside below. granted-is-share p table run v grants k below) (granted-rest p table run v grants)
 
--- A run in which no job has ended, but each that has counts as carried in whole, has the same slow mark after the slot and
--- gets the same grants: nothing is due to a job that has ended, or that has its size.
+-- With the ended marks cleared and each ended job counted as carried in whole, a run has the same slow mark after the slot and
+-- the same grants: nothing is due to a job that has ended, or that has its size.
 module _ (p : Plan) (table : List ℕ) (run : Run) (settled : List ℕ) (v : ℕ)
     (held : (k : ℕ) → k < counted p → getD settled k 0 ≡ settledOf p run k) where
   abbrev asSettled : Run
@@ -105,6 +105,7 @@ module _ (p : Plan) (table : List ℕ) (run : Run) (settled : List ℕ) (v : ℕ
       ∙ shares-granted p table run v grants room
 
 -- Laws for the functions that share out a slot, in a single call and in a shift.
+
 -- A slot shared out under the mark of its run leaves that mark, and the grants.
 pub shared-under : (p : Plan) (table : List ℕ) (run : Run) (v : ℕ) (grants : List ℕ) {done : Bool} {left : List ℕ} → Shared p table run v grants done left
     → done ≡ true → (run .slow ≡ slowAfter p table run v) × (left ≡ granted p table run v grants)
@@ -116,19 +117,22 @@ shared-under p table run v grants told e =
     by false true h = sym h
     by false false h = refl
 
--- A slot that is not shared out under the mark of its run leaves the grant row as it was.
+-- A slot that is not shared out under the mark of its run leaves room for as many grants as before.
 pub shared-long : (p : Plan) (table : List ℕ) (run : Run) (v : ℕ) (grants : List ℕ) {done : Bool} {left : List ℕ} {n : ℕ}
     → Shared p table run v grants done left → done ≡ false → n ≤ length grants → n ≤ length left
 shared-long p table run v grants told e room =
     rw (told .1 ∙ ap (λ b. cond b (granted p table run v grants) grants) e) room
 
--- A slot that is not shared out under the mark of its run leaves the grant row as it was and sets the mark; and shared out under the
--- slow mark, it has the grants.
+-- A slot that is not shared out under the mark of its run sets the mark; shared out once more, under the slow mark, it has the
+-- grants.
 pub shared-slow : (p : Plan) (table : List ℕ) (clock : Slots) (slow : Bool) (settled : List ℕ) (v : ℕ) (grants : List ℕ) {done again : Bool} {row left : List ℕ}
     → Shared p table (settledRun clock slow settled) v grants done row → done ≡ false → Shared p table (settledRun clock true settled) v row again left
     → (true ≡ slowAfter p table (settledRun clock slow settled) v) × (left ≡ granted p table (settledRun clock slow settled) v grants)
 unfolding granted order
-shared-slow p table clock slow settled v grants {done} {again} {row} {left} first e second = (marked, second .1 ∙ ap (λ b. cond b (granted p table slowRun v row) row) (second .0) ∙ ap (granted p table slowRun v) stays ∙ same)
+shared-slow p table clock slow settled v grants {done} {again} {row} {left} first e second = (
+  marked,
+  second .1 ∙ ap (λ b. cond b (granted p table slowRun v row) row) (second .0) ∙ ap (granted p table slowRun v) stays ∙ same,
+)
   where
     run : Run
     run = settledRun clock slow settled

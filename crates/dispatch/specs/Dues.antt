@@ -1,4 +1,4 @@
--- What is due to each job in a slot.
+-- What is due to each job in a slot, when a slot is slow, and the marks after it.
 use mathlib.Core.Bool.{Bool, false, not, cond, _&&_, _||_}
 use Prim.Native.Nat.{suc, _-_, min}
 use lib.Dec.{leb, ltb}

@@ -1,5 +1,5 @@
 // A shift: slots at several speeds in one call. What is known of the plan is looked at once, and the goals of the jobs
-// are worked out anew only when an interval begins or the slow mark is set.
+// are worked out anew only when an interval begins or the slow mark was set.
 use crate::Moment;
 use crate::Run;
 use crate::answers::Answer;

@@ -1,5 +1,6 @@
-// One slot of a sound run: the grants. If all claims fit into the speed, each is granted; otherwise the
-// jobs get their turns, and a speed below n sets the slow mark.
+// One slot of a sound run: the grants. If all claims fit into the speed, each is granted. Otherwise, with the slow
+// mark clear and a speed below n, the mark is set and the slot begins anew under it; in all other cases the jobs get
+// their turns.
 use crate::Moment;
 use crate::claims::UNKNOWN;
 use crate::claims::all_fit;
@@ -141,7 +142,7 @@ pub(crate) fn serve_in_turns(
     );
 }
 
-// The number of intervals begun; 0 under the slow mark, where it is not used.
+// The number of intervals begun; 0 under the slow mark, for which it stands in a shift.
 pub(crate) fn spans_of(
     slow: bool,
     count: usize,
@@ -157,9 +158,9 @@ pub(crate) fn spans_of(
     begun_by(count, releases, deadlines, clock) as u32
 }
 
-// Writes the grants of a slot at speed v under a slow mark: the claims if all of them fit, otherwise what the jobs get
-// in turns. `carried` is what the jobs count as carried. Under a clear mark, claims that do not fit into a speed below n
-// make the slot a slow one: then nothing is written. The answer is whether the grants are.
+// Writes the grants of a slot at speed v with the slow mark as `slow` says: the claims if all of them fit, otherwise what
+// the jobs get in turns. `carried` is what the jobs count as carried. With the mark clear, claims that do not fit into a
+// speed below n make the slot a slow one: then nothing is written. The answer is whether the grants were written.
 fn share_under(
     o: Outline,
     v: Rate,

@@ -80,7 +80,8 @@ pub record Case : Type 0 where
   pub speeds : List ℕ
   pub must : Seen
 
--- What is observed of a case, by the definitions of judge, slack, start and step.
+-- What is observed of a case, by the definitions of judge, slack, start, step and outcome. Of a refused plan the outcomes are
+-- those of the run as after a start.
 unfoldable pub seen : Case → Seen
 seen c =
     let p = planWith (c .jobs) in

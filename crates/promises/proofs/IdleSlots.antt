@@ -2,7 +2,7 @@
 -- slow. So a slot that is slow was slow before, and every size that was promised is promised still. What is given up: after
 -- a slot below the normal rate the LO jobs may still be carried, until the first slow slot.
 use mathlib.Core.Path.{_≡_, refl, sym}
-use mathlib.Core.Logic.{_⊎_}
+use mathlib.Core.Logic.{_⊎_, ⊎-elim}
 use mathlib.Core.Bool.{Bool, true, false, true≢false, _&&_, _||_, or-false, or-true}
 use mathlib.Core.List.{List, [], _∷_}
 use Prim.Native.Nat.{ℕ, _+_, _≤_, _<_, min}
@@ -11,7 +11,7 @@ use borrow.Author.Tests.{ltb-true, lt-ltb, le-ltb}
 use lib.Dec.{ltb, lit<}
 use Rattle.base.specs.Sum.{sum, on}
 use Rattle.base.specs.Below
-use Rattle.base.proofs.Logic.{both, neither, if-true}
+use Rattle.base.proofs.Logic.{both, neither}
 use Rattle.plan.specs.Rules.{counted, size, deadline, isHi, nameAllowed, namesHold, namesDiffer, gradesHold, boundsHold, rulesHold}
 use Rattle.plan.specs.Boundaries.{insert, boundariesTo, come}
 use Rattle.plan.specs.Table.{noStray, sound}
@@ -37,8 +37,8 @@ module _ (p : Plan) (table : List ℕ) (run : Run) (v : ℕ) (row : List ℕ) wh
       go [] = rw (le-ltb v (min (p .n .0) (allDues p table run)) enough) (or-false (run .slow))
       go (number ∷ rest) = refl
 
-  pub idle-leaves-the-mark : allDues p table run ≤ v → stepped p table run v row .run .slow ≡ run .slow
-  idle-leaves-the-mark fits = enough-leaves (omega arith)
+  pub fitting-leaves-the-mark : allDues p table run ≤ v → stepped p table run v row .run .slow ≡ run .slow
+  fitting-leaves-the-mark fits = enough-leaves (omega arith)
 
   pub normal-leaves-the-mark : p .n .0 ≤ v → stepped p table run v row .run .slow ≡ run .slow
   normal-leaves-the-mark normal = enough-leaves (omega arith)
@@ -74,13 +74,17 @@ not-slowed p D (c ∷ earlier) e =
     less true b t h f = rw (h refl) at f
     less false b t h f = refl
 
--- So every size that was promised is promised still: a job has had it by its deadline if every slot before that was at the
--- normal rate.
+-- So every size that was promised is promised still: at its deadline a job was told ended or has had its size, if it is HI or
+-- no slot before its deadline was below the normal rate.
 pub promised-still : (p : Plan) (table : List ℕ) → judged p table ≡ [] → (night : List Call) → Allowed p table night → (i : ℕ) → i < counted p
-    → deadline p i ≤ runAfter p night .clock .0 → slowedByRateBefore p (deadline p i) night ≡ false
+    → deadline p i ≤ runAfter p night .clock .0 → (isHi p i ≡ true) ⊎ (slowedByRateBefore p (deadline p i) night ≡ false)
     → (told p night i ≡ true) ⊎ ((had p night i ≡ size p i) × (hadInWindow p night i ≡ size p i))
-promised-still p table accepted night allowed i counts reached normal =
-    promise-kept p table accepted night allowed .others i counts reached (not-slowed p (deadline p i) night normal)
+promised-still p table accepted night allowed i counts reached promised =
+    let kept = promise-kept p table accepted night allowed in
+    ⊎-elim
+    (λ h. kept .essential i counts h reached)
+    (λ normal. kept .others i counts reached (not-slowed p (deadline p i) night normal))
+    promised
 
 -- Whether some slot was slow by the first rule. If some slot was slow, one was.
 unfoldable pub slowedByRate : Plan → List Call → Bool
@@ -110,7 +114,7 @@ pub accepted-P13 : judged (planWith (P13 .jobs)) (tableOf (P13 .rows)) ≡ []
 unfolding tableOf sum Below.every Below.least Below.greatest nameAllowed namesHold namesDiffer gradesHold boundsHold rulesHold insert boundariesTo come noStray sound first outsideFault totalFault capacityFault isHiDeadline floorFault judged
 accepted-P13 = refl
 
--- Three of its slots are below the normal rate, and none is slow. Its second job, which is LO, has its two units after them.
+-- Some slot of it is below the normal rate, and none is slow. Its second job, which is LO, has its two units after that.
 pub carried-after-idle : (slowed (planWith (P13 .jobs)) idleNight ≡ false) × (slowedByRate (planWith (P13 .jobs)) idleNight ≡ true)
     × (hadSinceRate (planWith (P13 .jobs)) idleNight 1 ≡ 2)
 unfolding slowed slowedByRate hadSinceRate tableOf sum Below.every Below.least Below.greatest gradesHold boundsHold insert boundariesTo come runAfter started slotSound slotFault granted Order.order Order.queue Order.enqueue Order.serve added advanced stepped

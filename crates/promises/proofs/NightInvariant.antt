@@ -195,7 +195,7 @@ module _ (p : Plan) (table : List ℕ) (rules : Bounded p) (allotted : Allotted 
     adds : (i : ℕ) → i < counted p → carriedOf next i ≡ carriedOf was i + grant i
     adds = carried-adds p table was (c .speed) (c .row) whole-slot (h .long)
 
-    -- The slot is slow by plan p if it is by the plan of its call.
+    -- The slot is slow by plan p exactly if it is by the plan of its call.
     slow-is : slowAt p table was (c .speed) ≡ slowAt (c .plan) (c .table) was (c .speed)
     slow-is = same-slow p table (c .plan) (c .table) same was (c .speed) (c .row) whole-slot
 

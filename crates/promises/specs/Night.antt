@@ -73,7 +73,8 @@ abbrev pub isSlot : Call → Run → Bool
 isSlot (slot c) run = isDone (slotEffect c run .answer)
 isSlot (word w) run = false
 
--- A slow slot is one with a speed below the lesser of n and the sum of the live jobs' dues.
+-- A slow slot is one with a speed below the lesser of n and the sum of the live jobs' dues, by the plan and table of its
+-- call and the goals of the clear mark, whether or not the slow mark is set already.
 abbrev pub isSlow : Call → Run → Bool
 isSlow (slot c) run = isSlot (slot c) run && slowAt (c .plan) (c .table) run (c .speed)
 isSlow (word w) run = false

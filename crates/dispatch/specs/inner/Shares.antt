@@ -1,11 +1,10 @@
 -- For the contracts of internal functions; no promise rests on this file. One slot in closed
--- form: a job's share is what the claims served before it leave of the speed.
--- (proofs/Shares: the shares are the grants.)
+-- form: a job's share is what the claims served before it leave of the speed (proofs/Shares: the shares
+-- are the grants); and what sharing out a slot under a mark leaves.
 use mathlib.Core.Path.{_≡_}
 use mathlib.Core.Bool.{Bool, false, not, cond, _&&_, _||_}
 use mathlib.Core.List.{List, []}
 use Prim.Native.Nat.{ℕ, _-_, min}
-use lib.ListN.{set}
 use Rattle.base.specs.Sum.{sum, on}
 use Rattle.plan.specs.Rules.{counted, size, isHi}
 use Rattle.plan.specs.declared.kinds.Plan.{Plan}

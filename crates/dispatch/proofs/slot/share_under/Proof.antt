@@ -1,13 +1,12 @@
 -- `dispatch::slot::share_under` meets its contract: the claims, if all of them fit, or what the jobs get
 -- in turns, are what the rules grant.
-use mathlib.Core.Path.{_≡_, refl, sym, _∙_, ap, ap₂}
-use mathlib.Core.Bool.{Bool, true, false, _||_}
-use mathlib.Core.List.{List, []}
+use mathlib.Core.Path.{_≡_, refl, _∙_, ap, ap₂}
+use mathlib.Core.Bool.{Bool}
+use mathlib.Core.List.{List}
 use Prim.Native.Nat.{ℕ, min}
 use native.Mathlib.Nat.{mul-one}
 use native.Mathlib.Omega.{arith}
 use borrow.Author.Needs.{needs}
-use lib.Dec.{ltb}
 use lib.ListN.{getD}
 use Rattle.base.specs.Fill.{filled}
 use Rattle.base.proofs.FillLaws.{filled-ext}

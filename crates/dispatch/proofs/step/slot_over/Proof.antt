@@ -1,6 +1,6 @@
 -- `dispatch::step::slot_over` meets its contract: for the plan made from the columns, by readiness,
 -- shares and carried units; and so for every plan whose columns they are.
-use mathlib.Core.Path.{_≡_, refl, sym, _∙_, ap, ap₂}
+use mathlib.Core.Path.{_≡_, sym, _∙_, ap, ap₂}
 use mathlib.Core.Bool.{true, false, _||_}
 use mathlib.Core.List.{List}
 use Prim.Native.Nat.{ℕ, _≤_}
