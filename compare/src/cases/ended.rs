@@ -324,9 +324,13 @@ fn slots(cases: &mut Cases) -> Result<(), String> {
         let got = step(&mut cases.both, memory, 2);
         cases.expect("slot after the essential job", got, (0, grants, after))?;
     }
-    // A slow slot: the essential job alone would be served, and it has ended.
+    // Nothing is due any more, so the slot is not slow.
     let got = step(&mut cases.both, memory, 1);
-    cases.expect("slow slot after it", got, (0, [0, 0], [6, 1, 0, 6, 2]))?;
+    cases.expect("idle slot after it", got, (0, [0, 0], [6, 0, 0, 6, 2]))?;
+    // A slow slot, the other job being due two: the essential job alone would be served, and it has
+    // ended.
+    let got = step(&mut cases.both, &mut e_with_ended([3, 0, 0, 4, 2], &[1]), 1);
+    cases.expect("slow slot after it", got, (0, [0, 0], [4, 1, 0, 4, 2]))?;
     let memory = &mut e_with_ended(STARTED, &[0]);
     let got = step(&mut cases.both, memory, 2);
     cases.expect("P10 without the first job", got, (0, [0, 0], [1, 0, 0, 0, 0]))?;

@@ -47,8 +47,10 @@ const P6: [Job; 3] = [
 ];
 pub const P9: [Job; 2] = [(b"job----B", HI, 0, 2, 4), (b"job----A", HI, 0, 2, 2)];
 pub const P9_ROWS: [&[u32]; 2] = [&[2, 0], &[2, 0]];
+pub const P13: [Job; 2] = [(b"job----A", LO, 0, 2, 2), (b"job----B", LO, 4, 2, 6)];
+pub const P13_ROWS: [&[u32]; 2] = [&[2, 0, 0], &[0, 0, 2]];
 
-const PLANS: [PlanCase; 12] = [
+const PLANS: [PlanCase; 13] = [
     PlanCase {
         name: "P1",
         jobs: &JOBS,
@@ -102,6 +104,12 @@ const PLANS: [PlanCase; 12] = [
         jobs: &P9,
         rows: &P9_ROWS,
         answers: answers((0, 86), (0, NOWHERE), (0, 0, [0, 2])),
+    },
+    PlanCase {
+        name: "P13",
+        jobs: &P13,
+        rows: &P13_ROWS,
+        answers: answers((0, 86), (0, NOWHERE), (256, 0, NOWHERE)),
     },
     PlanCase {
         name: "no job is HI",

@@ -5,6 +5,7 @@
 
 mod ended;
 mod files;
+mod idle;
 mod judged;
 mod largest;
 mod lists;
@@ -81,6 +82,9 @@ pub fn all() -> Result<u64, String> {
     shifts::of_others(cases)?;
     refused_shifts::grounds(cases)?;
     refused_shifts::rooms(cases)?;
+    idle::slots(cases)?;
+    idle::nights(cases)?;
+    idle::sums(cases)?;
     sums::columns(cases)?;
     sums::dues(cases)?;
     largest::file(cases)?;

@@ -178,7 +178,7 @@ const SOME_REFUSED: [OfE; 9] = [
 
 /// Shifts in which jobs have ended, and the places of these jobs. An ended job gets nothing, and the
 /// other one gets what it leaves, as far as it is due.
-const SOME_ENDED: [(OfE, &[usize]); 4] = [
+const SOME_ENDED: [(OfE, &[usize]); 5] = [
     (
         (
             "the essential job has ended",
@@ -210,6 +210,15 @@ const SOME_ENDED: [(OfE, &[usize]); 4] = [
         (
             "both jobs have ended",
             IN_THE_MIDDLE,
+            &[(2, 0, &[0, 0]), (1, 0, &[0, 0])],
+            [5, 0, 0, 2, 4],
+        ),
+        &[0, 1],
+    ),
+    (
+        (
+            "both jobs have ended, under the slow mark",
+            [3, 1, 0, 2, 4],
             &[(2, 0, &[0, 0]), (1, 0, &[0, 0])],
             [5, 1, 0, 2, 4],
         ),
