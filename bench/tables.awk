@@ -86,7 +86,7 @@ function speed(n, list, m, names, i, k, call, input, ratio, goal, ours, plain) {
 }
 # The step by what its slot is like, and the outcome.
 function slots(n, list, m, names, i, k, input, call, ratio, greatest, sentence) {
-    n = split("quiet just-over crowded slow slow-and-crowded standing late refused-by-19 refused-by-20 refused-by-22 refused-by-21-at-the-last-job refused-by-21-at-the-first-job refused-by-21-for-no-job", list, " ")
+    n = split("quiet just-over crowded idle sets-the-mark slow slow-and-crowded standing late refused-by-19 refused-by-20 refused-by-22 refused-by-21-at-the-last-job refused-by-21-at-the-first-job refused-by-21-for-no-job", list, " ")
     m = split("1 8 16 32 largest", names, " ")
     begin("slots")
     print "| slot | input | plain Rust | ours | ours / plain | limit 1.0 | goal 0.9 |"
@@ -120,7 +120,7 @@ function shift_line(first, night, input, ours, plain) {
     printf "| %s | %s | %s | %s | %.2f | %s | %s | %.1f |\n", first, done[input, night], with_commas(total[input, "shift:" night, "single"]), with_commas(ours), shift_ratio(night, input), shift_goal(night, input), with_commas(plain), ours / plain
 }
 function shifts(n, list, m, names, i, k) {
-    n = split("normal slow-half-way crowded past-the-last-deadline refused-by-20", list, " ")
+    n = split("normal idle slow-half-way crowded past-the-last-deadline refused-by-20", list, " ")
     m = split("1 8 16 32 largest", names, " ")
     begin("shift")
     print "| night | input | slots done | single calls | shift | shift / single | goal | plain Rust's shift | ours / plain |"

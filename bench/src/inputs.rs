@@ -78,7 +78,11 @@ impl Input {
         let (_, last) = ends_of(&self.plan);
         let at_fault = |i: usize| move |slot: &mut Slot| slot.plan.jobs[i].size = 0;
         let crowded = |slot: &mut Slot| enlarge(&mut slot.plan, &mut slot.table, CROWDED);
-        let slow = |slot: &mut Slot| slot.speed /= 2;
+        let slow = |slot: &mut Slot| {
+            slot.run.slow = true;
+            slot.speed /= 2;
+        };
+        let due = self.granted();
         vec![
             // What is due fits the speed.
             self.slot("quiet", |_| ()),
@@ -87,6 +91,10 @@ impl Input {
             }),
             // The first few jobs use the speed up.
             self.slot("crowded", crowded),
+            // What is due fits a speed below the normal rate, and uses it up.
+            self.slot("idle", |slot| slot.speed = due),
+            self.slot("sets-the-mark", |slot| slot.speed = due - 1),
+            // The slow mark is set before.
             self.slot("slow", slow),
             self.slot("slow-and-crowded", |slot| (crowded(slot), slow(slot)).1),
             self.slot("standing", |slot| slot.speed = 0),
@@ -98,6 +106,14 @@ impl Input {
             self.slot("refused-by-21-at-the-first-job", at_fault(0)),
             self.slot("refused-by-21-for-no-job", |slot| slot.plan.count = 0),
         ]
+    }
+
+    /// What a slot at normal speed grants.
+    fn granted(&self) -> u16 {
+        let mut grants = [0; MOST_JOBS];
+        let mut run = self.run;
+        step(&self.plan, &self.table, &mut run, self.plan.n, &mut grants).expect("a slot");
+        grants.iter().sum::<u32>() as u16
     }
 
     fn slot(&self, name: &'static str, change: impl Fn(&mut Slot)) -> Slot {
@@ -135,14 +151,15 @@ impl Input {
         let near_end = times * last - HALF as u32;
         let n = self.plan.n;
         let normal = [n; MOST_SPEEDS];
-        let mut slow = normal;
-        slow[HALF..].fill(n / 2);
+        let below = [n - 1; MOST_SPEEDS];
         let too_fast = [n + 1; MOST_SPEEDS];
         // In longer intervals more is due, so that the link is as crowded.
         let crowded = CROWDED * times;
         vec![
             self.night("normal", times, 1, middle, normal),
-            self.night("slow-half-way", times, 1, middle, slow),
+            self.night("idle", times, 1, middle, below),
+            self.night("slow-half-way", times, 1, middle, normal)
+                .slow_half_way(),
             self.night("crowded", times, crowded, middle, normal),
             self.night("past-the-last-deadline", times, 1, near_end, normal),
             self.night("refused-by-20", times, 1, middle, too_fast),
@@ -171,6 +188,24 @@ impl Input {
             table,
             speeds,
         }
+    }
+}
+
+impl Night {
+    /// With half of the speed in its second half. In the first slot there in which something is due
+    /// the link stands, so that it is a slow one.
+    fn slow_half_way(mut self) -> Night {
+        let (mut run, mut is_slow) = (self.run, false);
+        for (slot, speed) in self.speeds.iter_mut().enumerate() {
+            let mut grants = [0; MOST_JOBS];
+            step(&self.plan, &self.table, &mut run, *speed, &mut grants).expect("a slot");
+            if slot >= HALF {
+                let sets_it = !is_slow && grants.iter().any(|&units| units != 0);
+                *speed = if sets_it { 0 } else { *speed / 2 };
+                is_slow |= sets_it;
+            }
+        }
+        self
     }
 }
 

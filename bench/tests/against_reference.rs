@@ -318,13 +318,17 @@ fn slots_for_measuring() {
                 .name
                 .strip_prefix("refused-by-")
                 .map(|number| number[..2].parse());
+            let mut run = reference_run(&slot.run);
             let answer = step(
                 &plan,
                 &slot.table,
-                &mut reference_run(&slot.run),
+                &mut run,
                 slot.speed,
                 &mut [0; MOST_JOBS],
             );
+            let sets_the_mark = ["sets-the-mark", "standing"].contains(&slot.name);
+            assert_eq!(run.slow && !slot.run.slow, sets_the_mark, "{}", slot.name);
+            assert_eq!(slot.run.slow, slot.name.starts_with("slow"));
             assert_eq!(
                 Ok(answer),
                 refused.unwrap_or(Ok(refusal::DONE)),
@@ -335,7 +339,7 @@ fn slots_for_measuring() {
     }
 }
 
-/// The numbers of each night for measuring, and how many slots of the crowded one use the speed up.
+/// The numbers of each night for measuring, whether it sets the slow mark, and how many slots of the crowded one use the speed up.
 #[test]
 fn nights_for_measuring() {
     let used_up = inputs_of_slots().map(|input| {
@@ -351,8 +355,12 @@ fn nights_for_measuring() {
 /// How many slots use the speed up.
 fn compare_night(night: &Night) -> usize {
     let jobs = night.plan.count;
+    let plan = reference_plan(&night.plan);
+    // With one job nothing is due in the middle.
+    let becomes_slow = jobs > 1 && night.name == "slow-half-way";
+    assert_eq!(sets_the_mark(night, &plan), becomes_slow, "{}", night.name);
     let (rows, numbers) = compare_shift(
-        &reference_plan(&night.plan),
+        &plan,
         &night.table,
         &reference_run(&night.run),
         &ShiftInput {
@@ -373,6 +381,15 @@ fn compare_night(night: &Night) -> usize {
     let rows = rows.chunks_exact(jobs).take(done).zip(night.speeds);
     rows.filter(|(row, speed)| row.iter().sum::<u32>() == u32::from(*speed))
         .count()
+}
+
+/// Whether a slot of a night sets the slow mark.
+fn sets_the_mark(night: &Night, plan: &reference::plan::Plan) -> bool {
+    let mut run = reference_run(&night.run);
+    for &speed in &night.speeds {
+        step(plan, &night.table, &mut run, speed, &mut [0; MOST_JOBS]);
+    }
+    run.slow && !night.run.slow
 }
 
 /// Too few words, marks that are none, and words that a field has no room for.

@@ -1,4 +1,4 @@
-//! The plans to try, P1 to P12, and the four short cases that follow them.
+//! The plans to try, P1 to P13, and the four short cases that follow them.
 
 use crate::common::{
     answer, e_file, e_plan, e_table, e_with, hi, least, lo, plan_of, table_of, ROW_3,
