@@ -1,6 +1,7 @@
-// Finite sums: the function that sums numbers of a lent slice.
+// Finite sums of the numbers of a lent slice, and a slice of zeros.
 ghost use mathlib.Core.Path.{_≡_};
 ghost use Prim.Native.Nat.{ℕ, _+_, _*_, _≤_, _<_};
+ghost use lib.ListN.{length, replicate};
 ghost use Rattle.base.specs.Sum.{sum, strided};
 
 // The number of k below `count` for which index start + stride × k is inside
@@ -39,4 +40,15 @@ pub fn sum_of(s: &[u32], start: usize, stride: usize, count: u32) -> u64
         k += 1;
     }
     total
+}
+
+// Writes 0 to every place of a slice.
+pub fn clear(row: &mut [u32])
+    ensures { λ r. ⌜ now (row .exit) ≡ replicate (length (now (row .entry))) 0 ⌝ }
+{
+    let mut k = 0;
+    while k < row.len() {
+        row[k] = 0;
+        k += 1;
+    }
 }

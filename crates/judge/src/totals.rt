@@ -7,6 +7,7 @@ use plan::kinds::Plan;
 use plan::kinds::Rate;
 use plan::kinds::Slots;
 use plan::kinds::Units;
+use plan::kinds::elapsed;
 use plan::rules::counted_of;
 ghost use mathlib.Core.Path.{_≡_};
 ghost use mathlib.Core.List.{[], _∷_};
@@ -22,17 +23,6 @@ ghost use Rattle.judge.specs.inner.Widths.{mostSide};
 ghost use Rattle.judge.specs.Verdict.{totalFault};
 ghost use Rattle.plan.specs.Report.{first, fault};
 ghost use Rattle.judge.specs.Answers.{verdictView};
-
-// The slots from one time to another; 0 if the second is earlier.
-fn elapsed(from: Slots, to: Slots) -> Slots
-    ensures { λ r. ⌜ r ≡ record { 0 = to .0 - from .0 } ⌝ }
-{
-    if from.0 <= to.0 {
-        Slots(to.0 - from.0)
-    } else {
-        Slots(0)
-    }
-}
 
 // The capacity of a rate from one time to another.
 pub(crate) fn capacity(rate: Rate, from: Slots, to: Slots) -> Units

@@ -1,21 +1,23 @@
 -- Laws of `noStray`: the table has no stray place exactly when each job's row is 0 after
 -- the intervals and all rows after the jobs are 0.
 use mathlib.Core.Path.{_≡_, refl, sym, _∙_, ap, ap₂}
-use mathlib.Core.Bool.{Bool, _&&_, _||_, or-false, or-true}
+use mathlib.Core.Bool.{Bool, true, _&&_, _||_, or-false, or-true}
+use mathlib.Core.Logic.{_⊎_, inl, inr, ⊎-elim}
 use mathlib.Core.List.{List, [], _∷_}
-use Prim.Native.Nat.{ℕ, zero, suc, _+_, _*_, _/_, _%_, _≤_, _<_, min}
-use native.Mathlib.Nat.{zero-add, add-zero, mul-zero, mul-suc, mul-add-div, mul-add-mod-self-left, div-eq-of-lt, mod-eq-of-lt}
+use Prim.Native.Nat.{ℕ, zero, suc, _+_, _*_, _-_, _/_, _%_, _≤_, _<_, min}
+use native.Mathlib.Nat.{zero-add, add-zero, mul-zero, mul-suc, mul-add-div, mul-add-mod-self-left, div-eq-of-lt, mod-eq-of-lt, div-add-mod, mod-lt}
 use native.Mathlib.Omega.{arith}
-use borrow.Author.Tests.{lt-ltb, le-ltb}
+use borrow.Author.Tests.{lt-ltb, le-ltb, eqb-true, eq-eqb}
 use lib.Dec.{ltb, eqb}
 use lib.ListN.{length, getD, take, List·getD-eq-default}
 use Rattle.base.specs.Below.{every}
-use Rattle.plan.specs.Edition.{mostIntervals}
+use Rattle.plan.specs.Edition.{mostJobs, mostIntervals, places}
 use Rattle.plan.specs.Rules.{counted}
 use Rattle.plan.specs.Boundaries.{intervals}
 use Rattle.plan.specs.Table.{noStray, soundWithin, sound}
 use Rattle.plan.specs.declared.kinds.Plan.{Plan}
-use Rattle.base.proofs.Below.{every-ext, every-shift, every-split, every-all, every-cut}
+use Rattle.base.proofs.Below.{every-ext, every-shift, every-split, every-at, every-all, every-cut}
+use Rattle.base.proofs.Logic.{if-less, both}
 use Rattle.plan.proofs.BoundaryOrder.{boundaries-few}
 
 -- A test over width × n places is a test over n rows of width places.
@@ -96,3 +98,56 @@ unfolding sound
 sound-told p table spans e =
     let held : min spans mostIntervals ≡ intervals p = omega (arith, boundaries-few p (counted p)) in
     ap (λ n. soundWithin n p table) held
+
+-- No place of a plan's table is stray exactly when each place of a job that is not counted, or of an interval that the plan
+-- does not have, is 0.
+module _ (p : Plan) (table : List ℕ) where
+  -- Each counted job's row is 0 from the intervals on, and every row past the jobs is 0.
+  abbrev rowsEnd : Bool
+  rowsEnd =
+      every (λ i. every (λ k. eqb (getD table (mostIntervals * i + intervals p + k) 0) 0) (mostIntervals - intervals p)) (counted p)
+
+  abbrev rowsPast : Bool
+  rowsPast = every (λ k. eqb (getD table (mostIntervals * counted p + k) 0) 0) (mostIntervals * (mostJobs - counted p))
+
+  stray-is : (rowsEnd && rowsPast) ≡ noStray mostIntervals (counted p) (intervals p) 0 (take places table)
+  stray-is =
+      let whole : intervals p + (mostIntervals - intervals p) ≡ mostIntervals = omega (arith, boundaries-few p (counted p)) in
+      let own : mostIntervals * counted p + mostIntervals * (mostJobs - counted p) ≡ places = omega arith in
+      stray-parts mostIntervals (counted p) (mostJobs - counted p) (intervals p) (mostIntervals - intervals p) table (omega arith) whole
+      ∙ ap (λ n. noStray mostIntervals (counted p) (intervals p) 0 (take n table)) own
+
+  -- An index may be replaced by an equal one.
+  moved : (a b : ℕ) → a ≡ b → getD table a 0 ≡ 0 → getD table b 0 ≡ 0
+  moved a b e h = ap (λ k. getD table k 0) (sym e) ∙ h
+
+  pub no-stray-held : noStray mostIntervals (counted p) (intervals p) 0 (take places table) ≡ true
+      → (i j : ℕ) → i < mostJobs → j < mostIntervals → (counted p ≤ i) ⊎ (intervals p ≤ j) → getD table (mostIntervals * i + j) 0 ≡ 0
+  no-stray-held e i j a b outside =
+      let w = both rowsEnd rowsPast (stray-is ∙ e) in
+      if-less i (counted p)
+      (λ below.
+      let beyond : intervals p ≤ j = ⊎-elim (λ l. absurd (omega arith)) (λ l. l) outside in
+      moved (mostIntervals * i + intervals p + (j - intervals p)) (mostIntervals * i + j) (omega arith)
+      (eqb-true _ 0 (every-at _ (mostIntervals - intervals p) (j - intervals p) (every-at _ (counted p) i (w .0) below) (omega arith))))
+      (λ above.
+      moved (mostIntervals * counted p + (mostIntervals * (i - counted p) + j)) (mostIntervals * i + j) (omega arith)
+      (eqb-true _ 0 (every-at _ (mostIntervals * (mostJobs - counted p)) (mostIntervals * (i - counted p) + j) (w .1) (omega arith))))
+
+  pub no-stray-told : ((i j : ℕ) → i < mostJobs → j < mostIntervals → (counted p ≤ i) ⊎ (intervals p ≤ j) → getD table (mostIntervals * i + j) 0 ≡ 0)
+      → noStray mostIntervals (counted p) (intervals p) 0 (take places table) ≡ true
+  no-stray-told clear =
+      sym stray-is
+      ∙ ap₂ _&&_
+      (every-all _ (counted p) (λ i a. every-all _ (mostIntervals - intervals p) (λ k b.
+      eq-eqb _ 0 (moved (mostIntervals * i + (intervals p + k)) (mostIntervals * i + intervals p + k) (omega arith)
+      (clear i (intervals p + k) (omega arith) (omega arith) (inr (omega arith)))))))
+      (every-all _ (mostIntervals * (mostJobs - counted p)) (λ k b.
+      eq-eqb _ 0 (behind k (k / mostIntervals) (k % mostIntervals) (div-add-mod k mostIntervals) (mod-lt k (omega arith)) b)))
+    where
+      behind : (k q r : ℕ) → mostIntervals * q + r ≡ k → r < mostIntervals → k < mostIntervals * (mostJobs - counted p)
+          → getD table (mostIntervals * counted p + k) 0 ≡ 0
+      behind k q r e l b =
+          moved (mostIntervals * (counted p + q) + r) (mostIntervals * counted p + k) (omega arith)
+          (clear (counted p + q) r (omega arith) (omega arith) (inl (omega arith)))
+

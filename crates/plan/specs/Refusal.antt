@@ -125,3 +125,11 @@ cannotEnd = 26
 -- There are more speeds than a shift may have.
 abbrev pub tooManySpeeds : ℕ
 tooManySpeeds = 27
+
+-- The jobs have not all the same release.
+abbrev pub releasesDiffer : ℕ
+releasesDiffer = 28
+
+-- No table is accepted for the rates and the jobs.
+abbrev pub noTimetable : ℕ
+noTimetable = 29

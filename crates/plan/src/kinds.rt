@@ -1,7 +1,7 @@
 // Slots, units, the rate that relates them, jobs, lists of jobs, and plans in hand.
 use crate::edition::Edition;
 ghost use mathlib.Core.Path.{_≡_};
-ghost use Prim.Native.Nat.{_*_};
+ghost use Prim.Native.Nat.{_*_, _-_};
 ghost use Rattle.plan.specs.Rules.{noJob};
 
 // A number of slots: a time or a length of time.
@@ -70,6 +70,17 @@ pub fn as_units(stored: u32) -> Units
     ensures { λ r. ⌜ r ≡ record { 0 = stored } ⌝ }
 {
     Units(stored as u64)
+}
+
+// The slots from one time to another; 0 if the second is earlier.
+pub fn elapsed(from: Slots, to: Slots) -> Slots
+    ensures { λ r. ⌜ r ≡ record { 0 = to .0 - from .0 } ⌝ }
+{
+    if from.0 <= to.0 {
+        Slots(to.0 - from.0)
+    } else {
+        Slots(0)
+    }
 }
 
 impl Rate {

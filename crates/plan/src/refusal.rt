@@ -70,3 +70,8 @@ pub const CANNOT_END: u8 = 26;
 
 // A refusal of a list of speeds.
 pub const TOO_MANY_SPEEDS: u8 = 27;
+
+// Refusals of the desk.
+pub const RELEASES_DIFFER: u8 = 28;
+
+pub const NO_TIMETABLE: u8 = 29;

@@ -1,4 +1,4 @@
-// Rules 4 to 9 on single values, rules 6 to 9 over a plan in hand, and rules 5 to 9 over a list of jobs.
+// Rules 4 to 9 on single values and over a plan in hand, and rules 5 to 9 over a list of jobs.
 use crate::edition::Edition;
 use crate::kinds::HI;
 use crate::kinds::JobList;
@@ -198,8 +198,8 @@ pub fn jobs_hold(list: JobList) -> bool
     plan_jobs_hold(p)
 }
 
-// Rules 4 to 9 together: what judge and writer require of a plan, apart from its table.
-pub(crate) fn rules_hold(p: Plan) -> bool
+// Rules 4 to 9 together: what judge, writer and desk require of a plan, apart from its table.
+pub fn rules_hold(p: Plan) -> bool
     ensures { λ r. ⌜ r ≡ rulesHold p ⌝ }
 {
     rates_allowed(p.n, p.d) & plan_jobs_hold(p)

@@ -3,6 +3,7 @@ use crate::preamble::PlanPassed;
 use crate::preamble::no_plan;
 use crate::preamble::read_preamble;
 use crate::store::store_rows;
+use base::clear;
 use fields::end::read_end;
 use fields::field::Field;
 use fields::field::Passed;
@@ -31,16 +32,6 @@ pub enum Answer {
 pub struct PlanRead {
     pub answer: Answer,
     pub plan: Plan,
-}
-
-fn clear(table: &mut [u32])
-    ensures { λ r. ⌜ now (table .exit) ≡ replicate (length (now (table .entry))) 0 ⌝ }
-{
-    let mut k = 0;
-    while k < table.len() {
-        table[k] = 0;
-        k += 1;
-    }
 }
 
 // Reads a file: the plan, and into a table of exactly PLACES zeros the allotments. With an empty

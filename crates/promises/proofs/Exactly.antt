@@ -22,7 +22,7 @@ use Rattle.plan.specs.Report.{Report, orElse, fault}
 use Rattle.plan.specs.declared.kinds.Plan.{Plan}
 use Rattle.plan.proofs.BoundaryOrder.{boundaries-few}
 use Rattle.plan.proofs.Soundness.{rules-parts, sound-parts}
-use Rattle.plan.proofs.Stray.{stray-parts}
+use Rattle.plan.proofs.Stray.{no-stray-held, no-stray-told}
 use Rattle.planwriter.specs.Writing as writing
 use Rattle.planwriter.specs.Writing.{wrote, written, writer}
 use Rattle.dispatch.specs.declared.Run.{Run}
@@ -119,52 +119,6 @@ module _ (p : Plan) where
 
 -- The test of the table's places.
 module _ (p : Plan) (table : List ℕ) where
-  -- Each counted job's row is 0 from the intervals on, and every row past the jobs is 0.
-  abbrev rowsEnd : Bool
-  rowsEnd =
-      every (λ i. every (λ k. eqb (getD table (mostIntervals * i + intervals p + k) 0) 0) (mostIntervals - intervals p)) (counted p)
-
-  abbrev rowsPast : Bool
-  rowsPast = every (λ k. eqb (getD table (mostIntervals * counted p + k) 0) 0) (mostIntervals * (mostJobs - counted p))
-
-  stray-is : (rowsEnd && rowsPast) ≡ noStray mostIntervals (counted p) (intervals p) 0 (take places table)
-  stray-is =
-      let whole : intervals p + (mostIntervals - intervals p) ≡ mostIntervals = omega (arith, boundaries-few p (counted p)) in
-      let own : mostIntervals * counted p + mostIntervals * (mostJobs - counted p) ≡ places = omega arith in
-      stray-parts mostIntervals (counted p) (mostJobs - counted p) (intervals p) (mostIntervals - intervals p) table (omega arith) whole
-      ∙ ap (λ n. noStray mostIntervals (counted p) (intervals p) 0 (take n table)) own
-
-  -- An index may be replaced by an equal one.
-  moved : (a b : ℕ) → a ≡ b → getD table a 0 ≡ 0 → getD table b 0 ≡ 0
-  moved a b e h = ap (λ k. getD table k 0) (sym e) ∙ h
-
-  no-stray-held : (rowsEnd && rowsPast) ≡ true → NoStray p table
-  no-stray-held e i j a b outside =
-      let w = both rowsEnd rowsPast e in
-      if-less i (counted p)
-      (λ below.
-      let beyond : intervals p ≤ j = ⊎-elim (λ l. absurd (omega arith)) (λ l. l) outside in
-      moved (mostIntervals * i + intervals p + (j - intervals p)) (mostIntervals * i + j) (omega arith)
-      (eqb-true _ 0 (every-at _ (mostIntervals - intervals p) (j - intervals p) (every-at _ (counted p) i (w .0) below) (omega arith))))
-      (λ above.
-      moved (mostIntervals * counted p + (mostIntervals * (i - counted p) + j)) (mostIntervals * i + j) (omega arith)
-      (eqb-true _ 0 (every-at _ (mostIntervals * (mostJobs - counted p)) (mostIntervals * (i - counted p) + j) (w .1) (omega arith))))
-
-  no-stray-told : NoStray p table → (rowsEnd && rowsPast) ≡ true
-  no-stray-told clear =
-      ap₂ _&&_
-      (every-all _ (counted p) (λ i a. every-all _ (mostIntervals - intervals p) (λ k b.
-      eq-eqb _ 0 (moved (mostIntervals * i + (intervals p + k)) (mostIntervals * i + intervals p + k) (omega arith)
-      (clear i (intervals p + k) (omega arith) (omega arith) (inr (omega arith)))))))
-      (every-all _ (mostIntervals * (mostJobs - counted p)) (λ k b.
-      eq-eqb _ 0 (behind k (k / mostIntervals) (k % mostIntervals) (div-add-mod k mostIntervals) (mod-lt k (omega arith)) b)))
-    where
-      behind : (k q r : ℕ) → mostIntervals * q + r ≡ k → r < mostIntervals → k < mostIntervals * (mostJobs - counted p)
-          → getD table (mostIntervals * counted p + k) 0 ≡ 0
-      behind k q r e l b =
-          moved (mostIntervals * (counted p + q) + r) (mostIntervals * counted p + k) (omega arith)
-          (clear (counted p + q) r (omega arith) (omega arith) (inl (omega arith)))
-
   -- A plan in hand is sound exactly when the facts of `SoundPlan` hold.
   pub sound-exactly : (sound p table ≡ true) ↔ SoundPlan p table
   unfolding sound rulesHold
@@ -179,7 +133,7 @@ module _ (p : Plan) (table : List ℕ) where
           differ = rule-7 p .0 (r .differ);
           grades = rule-8 p .0 (r .grades);
           bounds = rule-9 p .0 (r .bounds);
-          clear = no-stray-held (stray-is ∙ parts .clear);
+          clear = no-stray-held p table (parts .clear);
         },
     λ f.
         rw (
@@ -190,7 +144,7 @@ module _ (p : Plan) (table : List ℕ) where
           rule-8 p .1 (f .grades),
           rule-9 p .1 (f .bounds),
         )
-        (sym stray-is ∙ no-stray-told (f .clear)),
+        (no-stray-told p table (f .clear)),
   )
 
 -- A plan and a run are sound for a slot exactly when the facts of `SoundRun` hold.

@@ -1,10 +1,10 @@
--- `judge::totals::elapsed` meets its contract.
+-- `plan::kinds::elapsed` meets its contract.
 use mathlib.Core.Path.{_≡_}
 use Prim.Native.Nat.{_-_}
 use native.Mathlib.Omega.{arith}
 use borrow.Author.Needs.{needs}
-use Rattle.judge.proofs.totals.elapsed.Statement.{statement}
-use Rattle.judge.proofs.totals.elapsed.Tie as tie
+use Rattle.plan.proofs.kinds.elapsed.Statement.{statement}
+use Rattle.plan.proofs.kinds.elapsed.Tie as tie
 
 returns : tie.Need-returns
 returns c = search needs

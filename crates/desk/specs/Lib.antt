@@ -1,0 +1,5 @@
+pub mod Timetable
+pub mod Pairs
+pub mod Desk
+pub mod Answers
+pub mod inner

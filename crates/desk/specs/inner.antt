@@ -1,0 +1,3 @@
+-- Definitions for the contracts of internal functions; no promise rests on them.
+pub mod Lists
+pub mod Overs

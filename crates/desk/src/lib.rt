@@ -1,0 +1,2 @@
+// The planning desk.
+pub mod answers;
