@@ -2,6 +2,7 @@
 //!
 //! `generate` makes test inputs out of a seed, on which other programs are compared with this one.
 
+pub mod desk;
 pub mod edition;
 pub mod generate;
 pub mod joblist;

@@ -30,6 +30,8 @@ pub const HEADER: u8 = 24;
 pub const NO_SUCH_POSITION: u8 = 25;
 pub const CANNOT_END: u8 = 26;
 pub const TOO_MANY_SPEEDS: u8 = 27;
+pub const RELEASES_DIFFER: u8 = 28;
+pub const NO_TIMETABLE: u8 = 29;
 
 /// A refusal with its places, listed in the order in which they are named.
 ///

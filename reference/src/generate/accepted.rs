@@ -150,7 +150,7 @@ fn empty_draft(
 }
 
 /// Normal rate and floor. High ones leave room for one unit of every job in any slot.
-fn rates(prng: &mut Prng, high: bool) -> (u16, u16) {
+pub fn rates(prng: &mut Prng, high: bool) -> (u16, u16) {
     let most = u64::from(MOST_RATE);
     let n = match prng.below(8) {
         _ if high => prng.between(most / 2, most),
@@ -206,7 +206,7 @@ fn joined_windows(prng: &mut Prng, jobs: usize, boundaries: usize) -> Vec<(usize
 }
 
 /// So many rising times, the last of them now and then the latest allowed.
-fn times(prng: &mut Prng, limits: &Limits, count: usize) -> Vec<u32> {
+pub fn times(prng: &mut Prng, limits: &Limits, count: usize) -> Vec<u32> {
     let longest: u64 = match prng.below(12) {
         0 => 1_500,
         1 | 2 => 12,

@@ -137,7 +137,7 @@ fn records_in_use(plan: &Plan) -> usize {
     used.count().max(1)
 }
 
-fn twist_rates(prng: &mut Prng, plan: &mut Plan) {
+pub fn twist_rates(prng: &mut Prng, plan: &mut Plan) {
     let n = plan.n;
     let pairs = [
         (n, n),

@@ -49,6 +49,13 @@ pub struct ShiftInput {
     pub numbers: usize,
 }
 
+/// A plan in hand for the desk, and the table as it is lent: any length, anything in it.
+#[derive(Clone, Debug, PartialEq, Eq)]
+pub struct DeskInput {
+    pub plan: Plan,
+    pub table: Vec<u32>,
+}
+
 /// A job list in hand, and how many bytes are lent for its text.
 #[derive(Clone, Debug, PartialEq, Eq)]
 pub struct ListInput {

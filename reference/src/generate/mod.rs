@@ -3,6 +3,7 @@
 mod accepted;
 mod bad_inputs;
 mod damaged;
+mod desks;
 mod draft;
 mod fields;
 mod fixed_files;
@@ -37,7 +38,7 @@ pub use fixed_files::fixed_files;
 pub use fixed_hands::fixed_hands;
 pub use fixed_lists::fixed_lists;
 pub use fixed_texts::fixed_texts;
-pub use input::{FileInput, HandInput, Lent, ListInput, ShiftInput, Word};
+pub use input::{DeskInput, FileInput, HandInput, Lent, ListInput, ShiftInput, Word};
 pub use nights::night;
 pub use prng::{Prng, Purpose};
 
@@ -107,6 +108,11 @@ pub fn words(seed: u64, number: u64, plan: &Plan, run: &Run, speeds: &[u16]) -> 
 pub fn shift_input(seed: u64, number: u64, plan: &Plan, run: &Run) -> ShiftInput {
     let prng = &mut Prng::new(seed, Purpose::Shift, number);
     shifts::shift(prng, plan, run.clock)
+}
+
+/// A plan in hand with a table for the desk, drawn from the seed and its own number alone.
+pub fn desk_input(seed: u64, number: u64) -> DeskInput {
+    desks::desk(&mut Prng::new(seed, Purpose::Desk, number))
 }
 
 /// A text for import, right or wrong, drawn from the seed and its own number alone.

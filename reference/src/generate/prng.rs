@@ -15,6 +15,7 @@ pub enum Purpose {
     Ended,
     Words,
     Shift,
+    Desk,
 }
 
 /// The state of one source.

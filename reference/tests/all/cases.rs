@@ -1,7 +1,8 @@
 //! The plans to try, P1 to P13, and the four short cases that follow them.
 
 use crate::common::{
-    answer, e_file, e_plan, e_table, e_with, hi, least, lo, plan_of, table_of, ROW_3,
+    answer, e_file, e_plan, e_table, e_with, hi, least, lo, p5_plan, p5_table, plan_of, table_of,
+    ROW_3,
 };
 use reference::judge::judge;
 use reference::plan::Plan;
@@ -11,15 +12,6 @@ use reference::refusal::{
 };
 use reference::run::{start, step};
 use reference::slack::{slack_figure, slack_of_pair};
-
-fn four_jobs() -> Plan {
-    plan_of(&[
-        hi(b"essent-1", 0, 8, 10),
-        hi(b"essent-2", 0, 4, 16),
-        lo(b"other--1", 0, 6, 4),
-        lo(b"other--2", 0, 10, 12),
-    ])
-}
 
 fn three_jobs() -> Plan {
     plan_of(&[
@@ -64,9 +56,8 @@ fn p4_missing_unit_is_refused_at_job_1() {
 
 #[test]
 fn p5_four_jobs_are_accepted_with_slack_0() {
-    let table = table_of(&[&[2, 6, 0, 0], &[0, 0, 0, 4], &[6, 0, 0, 0], &[0, 6, 4, 0]]);
-    assert_eq!(judge(&four_jobs(), &table), Ok(()));
-    assert_eq!(slack_figure(&four_jobs(), &table), least(0, 1, 10));
+    assert_eq!(judge(&p5_plan(), &p5_table()), Ok(()));
+    assert_eq!(slack_figure(&p5_plan(), &p5_table()), least(0, 1, 10));
 }
 
 #[test]

@@ -1,4 +1,5 @@
-//! What several tests share: plan E as bytes written by hand and as a plan in hand, and buffers.
+//! What several tests share: plan E as bytes written by hand and as a plan in hand, the jobs of P5, and
+//! buffers.
 
 use reference::edition::{HI, LO, TABLE_PLACES};
 use reference::plan::{Job, Plan};
@@ -111,6 +112,20 @@ pub fn e_plan() -> Plan {
 
 pub fn e_table() -> Vec<u32> {
     table_of(&[&[2, 4, 0], &[0, 4, 4]])
+}
+
+/// The jobs of P5, which have one release.
+pub fn p5_plan() -> Plan {
+    plan_of(&[
+        hi(b"essent-1", 0, 8, 10),
+        hi(b"essent-2", 0, 4, 16),
+        lo(b"other--1", 0, 6, 4),
+        lo(b"other--2", 0, 10, 12),
+    ])
+}
+
+pub fn p5_table() -> Vec<u32> {
+    table_of(&[&[2, 6, 0, 0], &[0, 0, 0, 4], &[6, 0, 0, 0], &[0, 6, 4, 0]])
 }
 
 /// The answer of a slack figure with its first pair.
