@@ -5,3 +5,4 @@ pub mod Fits
 pub mod Stages
 pub mod Closed
 pub mod Accepted
+pub mod CodeLaws

@@ -6,7 +6,7 @@ use Prim.Native.Nat.{ℕ}
 use lib.IntN.{ℤ}
 use Rattle.plan.specs.Kinds.{Bytes, Offset, Position, Row, Speed, Table, Words}
 use Rattle.planfile.specs.Reader.{nameFound}
-use Rattle.gateway.specs.Calls.{judgeCall, startCall, stepCall, shiftCall, outcomeCall, slackCall, readCall, writeCall, importCall, exportCall, endCall}
+use Rattle.gateway.specs.Calls.{judgeCall, drawCall, shortageCall, startCall, stepCall, shiftCall, outcomeCall, slackCall, readCall, writeCall, importCall, exportCall, endCall}
 
 -- The contract of `gateway_read`: the number, the lent plan, the table and the offset.
 abbrev pub HostReads : (file : Bytes) (plan : Words) (table : Table) (offset : Offset) (r : ℕ) (plan-left : Words) (table-left : Table) (offset-left : Offset) → Type 0
@@ -31,6 +31,14 @@ HostJudges plan table location r location-left = record { number = r; location =
 abbrev pub HostMeasures : (plan : Words) (table : Table) (least : ℤ) (location : Words) (r : ℕ) (least-left : ℤ) (location-left : Words) → Type 0
 HostMeasures plan table least location r least-left location-left =
     record { number = r; slack = least-left; location = location-left } ≡ slackCall plan table least location
+
+-- The contract of `gateway_draw`: the number and the table.
+abbrev pub HostDraws : (plan : Words) (table : Table) (r : ℕ) (table-left : Table) → Type 0
+HostDraws plan table r table-left = record { number = r; table = table-left } ≡ drawCall plan table
+
+-- The contract of `gateway_shortage`: the number and the lent pair.
+abbrev pub HostExplains : (plan pair : Words) (r : ℕ) (pair-left : Words) → Type 0
+HostExplains plan pair r pair-left = record { number = r; pair = pair-left } ≡ shortageCall plan pair
 
 -- The contract of `gateway_start`: the number, the lent run and the lent location.
 abbrev pub HostStarts : (plan : Words) (table : Table) (run location : Words) (r : ℕ) (run-left location-left : Words) → Type 0

@@ -15,9 +15,10 @@ use Rattle.planfile.specs.Reader.{ReadEffect, reader}
 use Rattle.planwriter.specs.Writing as writing
 use Rattle.joblist.specs.Import.{ImportEffect, imported}
 use Rattle.joblist.specs.Export as export
+use Rattle.desk.specs.Desk.{shortageOf, drawFault, tableLeft}
 use Rattle.dispatch.specs.Step.{SlotEffect, WordEffect, Ending, met, endedEarly, discarded, missed, stillOpen, refused, started, stepped, outcome, toldEnded}
 use Rattle.dispatch.specs.Shift.{ShiftEffect, shifted}
-use Rattle.hostmemory.specs.Memory.{locationWords, shortList, shortPlan, shortRun, listHeld, listPut, planOf, planPut, marksHold, runOf, runPut}
+use Rattle.hostmemory.specs.Memory.{locationWords, pairWords, shortList, shortPlan, shortRun, listHeld, listPut, planOf, planPut, marksHold, runOf, runPut}
 
 -- The number for no HI job. Like those of the outcomes it is above
 -- every refusal number, which has one byte.
@@ -78,6 +79,53 @@ unfoldable pub judgeCall : (plan : Words) (table : Table) (location : Words) →
 judgeCall plan table location =
     cond (shortPlan plan || shortLocation location) (record { number = bufferTooShort; location = location })
     (record { number = numberOf (judged (planOf plan) table); location = located (judged (planOf plan) table) location })
+
+-- The effect of the desk's call.
+pub record HostDrawEffect : Type 0 where
+  pub number : ℕ
+  pub table : List ℕ
+
+-- The desk's call: 22 if the plan is too short, with nothing changed; otherwise the number of the desk's refusal or of none,
+-- and the table that it leaves.
+unfoldable pub drawCall : (plan : Words) (table : Table) → HostDrawEffect
+drawCall plan table =
+    cond (shortPlan plan) (record { number = bufferTooShort; table = table })
+    (record { number = numberOf (drawFault (planOf plan) table); table = tableLeft (planOf plan) table })
+
+-- The third and the fourth part of a report's location: of a pair what is asked and what the link carries; 0 if it has none.
+abbrev pub thirdOf : Report → ℕ
+thirdOf [] = 0
+thirdOf (number ∷ []) = 0
+thirdOf (number ∷ a ∷ []) = 0
+thirdOf (number ∷ a ∷ b ∷ []) = 0
+thirdOf (number ∷ a ∷ b ∷ c ∷ rest) = c
+
+abbrev pub fourthOf : Report → ℕ
+fourthOf [] = 0
+fourthOf (number ∷ []) = 0
+fourthOf (number ∷ a ∷ []) = 0
+fourthOf (number ∷ a ∷ b ∷ []) = 0
+fourthOf (number ∷ a ∷ b ∷ c ∷ []) = 0
+fourthOf (number ∷ a ∷ b ∷ c ∷ d ∷ rest) = d
+
+-- The effect of the call that says why there is no timetable.
+pub record HostShortageEffect : Type 0 where
+  pub number : ℕ
+  pub pair : List ℕ
+
+-- The effect of a shortage on a lent pair, of which four words are written, 0 where there is no pair.
+abbrev pub shortageWords : (report : Report) (pair : Words) → HostShortageEffect
+shortageWords report pair =
+    record {
+      number = numberOf report;
+      pair = set (set (set (set pair 0 (firstOf report)) 1 (secondOf report)) 2 (thirdOf report)) 3 (fourthOf report);
+    }
+
+-- The call that says why there is no timetable: 22 if plan or pair is too short, with nothing changed; otherwise the shortage.
+unfoldable pub shortageCall : (plan pair : Words) → HostShortageEffect
+shortageCall plan pair =
+    cond (shortPlan plan || ltb (length pair) pairWords) (record { number = bufferTooShort; pair = pair })
+    (shortageWords (shortageOf (planOf plan)) pair)
 
 -- The effect of the start's call.
 pub record HostStartEffect : Type 0 where

@@ -1,5 +1,7 @@
 // The calls' answers as numbers: 0 for done, a refusal's own number,
 // and numbers above one byte for the rest.
+use desk::answers::Shortage;
+use desk::answers::number_of as short_number;
 use dispatch::answers::Answer;
 use dispatch::answers::Outcome;
 use dispatch::answers::number_of as answered;
@@ -18,8 +20,9 @@ ghost use Rattle.judge.specs.Answers.{verdictView, slackView};
 ghost use Rattle.planfile.specs.Answers as files;
 ghost use Rattle.planwriter.specs.Answers as written;
 ghost use Rattle.joblist.specs.Answers as lists;
+ghost use Rattle.desk.specs.Answers.{shortageView};
 ghost use Rattle.dispatch.specs.Answers as slots;
-ghost use Rattle.gateway.specs.Calls.{firstOf, secondOf, endingNumber, figureNumber, figureSlack, figureFirst, figureSecond, writtenNumber, writtenLength, exportedNumber, exportedLength};
+ghost use Rattle.gateway.specs.Calls.{firstOf, secondOf, thirdOf, fourthOf, endingNumber, figureNumber, figureSlack, figureFirst, figureSecond, writtenNumber, writtenLength, exportedNumber, exportedLength};
 
 pub const NONE_ESSENTIAL: u32 = 256;
 
@@ -205,5 +208,59 @@ pub(crate) fn exported_length(e: Exported) -> usize
     match e {
         Exported::Length(n) => n,
         Exported::Refused(_) => 0,
+    }
+}
+
+pub(crate) fn shortage_number(s: Shortage) -> u32
+    ensures { λ r. ⌜ r ≡ numberOf (shortageView s) ⌝ }
+{
+    short_number(s) as u32
+}
+
+// The first time of a pair by which there is no timetable; 0 if there is no pair.
+pub(crate) fn due_of(s: Shortage) -> u64
+    ensures { λ r. ⌜ r ≡ firstOf (shortageView s) ⌝ }
+{
+    match s {
+        Shortage::Nothing => 0,
+        Shortage::Unsound => 0,
+        Shortage::ReleasesDiffer => 0,
+        Shortage::Pair(due, _, _, _) => due.0 as u64,
+    }
+}
+
+// The second time of that pair; 0 if there is none.
+pub(crate) fn late_of(s: Shortage) -> u64
+    ensures { λ r. ⌜ r ≡ secondOf (shortageView s) ⌝ }
+{
+    match s {
+        Shortage::Nothing => 0,
+        Shortage::Unsound => 0,
+        Shortage::ReleasesDiffer => 0,
+        Shortage::Pair(_, late, _, _) => late.0 as u64,
+    }
+}
+
+// What is asked by both times; 0 if there is no pair.
+pub(crate) fn asked_of(s: Shortage) -> u64
+    ensures { λ r. ⌜ r ≡ thirdOf (shortageView s) ⌝ }
+{
+    match s {
+        Shortage::Nothing => 0,
+        Shortage::Unsound => 0,
+        Shortage::ReleasesDiffer => 0,
+        Shortage::Pair(_, _, asked, _) => asked.0,
+    }
+}
+
+// What the link carries of it; 0 if there is no pair.
+pub(crate) fn carried_of(s: Shortage) -> u64
+    ensures { λ r. ⌜ r ≡ fourthOf (shortageView s) ⌝ }
+{
+    match s {
+        Shortage::Nothing => 0,
+        Shortage::Unsound => 0,
+        Shortage::ReleasesDiffer => 0,
+        Shortage::Pair(_, _, _, carried) => carried.0,
     }
 }

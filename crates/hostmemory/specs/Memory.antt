@@ -72,6 +72,10 @@ shortRun w = ltb (length w) runWords
 abbrev pub locationWords : ℕ
 locationWords = 2
 
+-- The number of words of a pair by which no timetable exists: two times, what is asked by them and what the link carries.
+abbrev pub pairWords : ℕ
+pairWords = 4
+
 -- The greatest 8-bit number: a greater word of a grade is read as this number, which no rule allows.
 abbrev pub most8 : ℕ
 most8 = 255

@@ -25,4 +25,7 @@ impl Sizes {
     pub const RUN: usize = Self::ENDED + Edition::MOST_JOBS;
 
     pub const LOCATION: usize = 2;
+
+    // Two times, what is asked by them and what the link carries.
+    pub const PAIR: usize = 4;
 }

@@ -33,7 +33,7 @@ use Rattle.dispatch.specs.Shift.{rowStart, shiftFault, shifted}
 use Rattle.dispatch.proofs.SlotLimits.{slot-answer}
 use Rattle.dispatch.proofs.ShiftLimits.{shift-answer}
 use Rattle.dispatch.proofs.WordLimits.{word-answer}
-use Rattle.promises.specs.Grounds.{Rule4, Rule5, Rule6, Rule7, Rule8, Rule9, NoStray, SoundPlan, SoundRun, writtenLength, WriterDecided, table-short, plan-unsound, output-short, file-written, StepDecided, run-unsound, buffer-short, at-end, too-fast, slot-done, ShiftDecided, shift-unsound, too-many, shift-short, shift-done, Asked, OutcomeDecided, not-asked, all-carried, told-of, dropped, late, waiting, EndDecided, word-unsound, no-such-job, cannot-end, word-done}
+use Rattle.promises.specs.Grounds.{Rule4, Rule5, Rule6, Rule7, Rule8, Rule9, NoStray, SoundPlan, SoundJobs, SoundRun, writtenLength, WriterDecided, table-short, plan-unsound, output-short, file-written, StepDecided, run-unsound, buffer-short, at-end, too-fast, slot-done, ShiftDecided, shift-unsound, too-many, shift-short, shift-done, Asked, OutcomeDecided, not-asked, all-carried, told-of, dropped, late, waiting, EndDecided, word-unsound, no-such-job, cannot-end, word-done}
 use Rattle.promises.proofs.Progress.{sound-after}
 use Rattle.promises.proofs.SameSlot.{same-word}
 use Rattle.promises.specs.Night.{EndCall, Call, word, answerOf, runAfter, clockAt, Allowed}
@@ -146,6 +146,23 @@ module _ (p : Plan) (table : List ℕ) where
         )
         (no-stray-told p table (f .clear)),
   )
+
+-- Rules 4 to 9 hold exactly when the facts of `SoundJobs` do.
+pub rules-exactly : (p : Plan) → (rulesHold p ≡ true) ↔ SoundJobs p
+unfolding rulesHold
+rules-exactly p = (
+  λ e.
+      let r = rules-parts p e in
+      record {
+        rates = rule-4 p .0 (r .rates);
+        count = rule-5 p .0 (r .count);
+        names = rule-6 p .0 (r .named);
+        differ = rule-7 p .0 (r .differ);
+        grades = rule-8 p .0 (r .grades);
+        bounds = rule-9 p .0 (r .bounds);
+      },
+  λ f. rw (rule-4 p .1 (f .rates), rule-5 p .1 (f .count), rule-6 p .1 (f .names), rule-7 p .1 (f .differ), rule-8 p .1 (f .grades), rule-9 p .1 (f .bounds)) refl,
+)
 
 -- A plan and a run are sound for a slot exactly when the facts of `SoundRun` hold.
 module _ (p : Plan) (run : Run) where

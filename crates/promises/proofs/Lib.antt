@@ -35,3 +35,4 @@ pub mod RefusalOrder
 pub mod JudgeExactly
 pub mod ReaderExactly
 pub mod WrongField
+pub mod Timetables

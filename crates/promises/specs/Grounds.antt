@@ -1,5 +1,5 @@
--- The grounds of the refusals of writer, step, outcome and the word that a job has ended as facts about the numbers of a plan and a
--- run, and what each answer says: its ground holds, and no ground that is tested before it does.
+-- The grounds of the refusals of writer, desk, step, outcome and the word that a job has ended as facts about the numbers of a plan and
+-- a run, and what each answer says: its ground holds, and no ground that is tested before it does.
 use mathlib.Core.Path.{_≡_}
 use mathlib.Core.Logic.{_≢_, _⊎_}
 use mathlib.Core.Bool.{true, false}
@@ -8,12 +8,14 @@ use Prim.Native.Nat.{ℕ, _≤_, _<_}
 use lib.ListN.{length, take}
 use Rattle.plan.specs.Kinds.{Bytes, Row, Table}
 use Rattle.plan.specs.Edition.{nameBytes, mostJobs, mostIntervals, mostRate, mostDeadline, mostSize, places, mostSpeeds}
-use Rattle.plan.specs.Refusal.{clockAtEnd, speedAboveNormal, unsound, bufferTooShort, noSuchJob, cannotEnd, tooManySpeeds}
-use Rattle.plan.specs.Report.{Report}
+use Rattle.plan.specs.Refusal.{clockAtEnd, speedAboveNormal, unsound, bufferTooShort, noSuchJob, cannotEnd, tooManySpeeds, releasesDiffer, noTimetable}
+use Rattle.plan.specs.Report.{Report, doneNumber}
 use Rattle.plan.specs.Rules.{lo, hi, byteOf, counted, jobOf, name, release, size, deadline}
-use Rattle.plan.specs.Boundaries.{intervals, firstRelease, lastDeadline}
+use Rattle.plan.specs.Boundaries.{boundary, intervals, firstRelease, lastDeadline}
 use Rattle.plan.specs.Table.{allotment}
 use Rattle.plan.specs.declared.kinds.Plan.{Plan}
+use Rattle.judge.specs.Verdict.{judged}
+use Rattle.desk.specs.Pairs.{asked, carries, isEnd}
 use Rattle.planwriter.specs.Writing as writing
 use Rattle.planwriter.specs.Writing.{written}
 use Rattle.dispatch.specs.declared.Run.{Run}
@@ -60,6 +62,15 @@ pub record SoundPlan (p : Plan) (table : List ℕ) : Type 0 where
   pub grades : Rule8 p
   pub bounds : Rule9 p
   pub clear : NoStray p table
+
+-- Rules 4 to 9 hold of a plan's rates and jobs, for the desk; 21 is its negation.
+pub record SoundJobs (p : Plan) : Type 0 where
+  pub rates : Rule4 p
+  pub count : Rule5 p
+  pub names : Rule6 p
+  pub differ : Rule7 p
+  pub grades : Rule8 p
+  pub bounds : Rule9 p
 
 -- A plan and a run are sound, for step and outcome; 21 is its negation. Names and the table are
 -- not asked about.
@@ -129,3 +140,30 @@ pub data EndDecided (p : Plan) (run : Run) (i : ℕ) : Report → Type 0 where
   no-such-job : SoundRun p run → p .count ≤ i → EndDecided p run i (noSuchJob ∷ [])
   cannot-end : Asked p run i → (run .clock .0 < release p i) ⊎ (step.outcome p run i ≢ step.stillOpen) → EndDecided p run i (cannotEnd ∷ [])
   word-done : Asked p run i → release p i ≤ run .clock .0 → step.outcome p run i ≡ step.stillOpen → EndDecided p run i []
+
+-- All counted jobs have the same release.
+abbrev pub OneRelease : Plan → Type 0
+OneRelease p = (i k : ℕ) → i < counted p → k < counted p → release p i ≡ release p k
+
+-- Some table whatever is accepted for a plan's rates and jobs.
+abbrev pub SomeTable : Plan → Type 0
+SomeTable p = (table : Table) × (judged p table ≡ [])
+
+-- What the number of the desk says, by case in its order.
+pub data DrawDecided (p : Plan) (table : List ℕ) : ℕ → Type 0 where
+  draw-short : length table < places → DrawDecided p table bufferTooShort
+  draw-unsound : places ≤ length table → (SoundJobs p → ⊥) → DrawDecided p table unsound
+  draw-releases : places ≤ length table → SoundJobs p → (OneRelease p → ⊥) → DrawDecided p table releasesDiffer
+  draw-none : places ≤ length table → SoundJobs p → OneRelease p → (SomeTable p → ⊥) → DrawDecided p table noTimetable
+  drawn-up : places ≤ length table → SoundJobs p → OneRelease p → SomeTable p → DrawDecided p table doneNumber
+
+-- The times D and E are the first by which no timetable exists: D is a HI deadline or the first boundary and E a LO deadline or
+-- the first boundary, more is asked by them than the link carries, and no such times before them, by D and then by E, ask more.
+pub record FirstShort (p : Plan) (D E : ℕ) : Type 0 where
+  pub m : ℕ
+  pub k : ℕ
+  pub high : (m ≤ intervals p) × (boundary p m ≡ D) × (isEnd p false m ≡ true)
+  pub low : (k ≤ intervals p) × (boundary p k ≡ E) × (isEnd p true k ≡ true)
+  pub short : carries p D E < asked p D E
+  pub before : (a c : ℕ) → a ≤ intervals p → c ≤ intervals p → (a < m) ⊎ ((a ≡ m) × (c < k)) → isEnd p false a ≡ true → isEnd p true c ≡ true
+      → asked p (boundary p a) (boundary p c) ≤ carries p (boundary p a) (boundary p c)
