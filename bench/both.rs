@@ -15,13 +15,13 @@ use std::hint::black_box;
 use std::process::ExitCode;
 use std::time::{Duration, Instant};
 
-use bench::inputs::{Input, Night, Shape, Slot, LARGEST_FILE};
+use bench::inputs::{Desk, Input, Night, Shape, Slot, LARGEST_FILE};
 use bench::refusal::TOO_SHORT;
 use bench::words::{plan_words, run_words, shift_words, step_words};
-use bench::{judge, read, slack, write, Slack, Verdict, MOST_JOBS, MOST_SPEEDS, PLACES};
+use bench::{draw_up, judge, read, slack, write, Plan, Slack, Verdict, MOST_JOBS, MOST_SPEEDS, PLACES};
 use calls::*;
 
-const USAGE: &str = "usage: both count|time usual|full|file JOBS
+const USAGE: &str = "usage: both count|time usual|full|file|desk JOBS
        both slots|nights usual|full JOBS
        both stack";
 
@@ -31,6 +31,7 @@ fn main() -> ExitCode {
     let done = match words[..] {
         ["slots", shape, jobs] => input_of(shape, jobs).map(|(input, _)| count_slots(&input)),
         ["nights", shape, jobs] => input_of(shape, jobs).map(|(input, _)| count_nights(&input)),
+        [how, "desk", jobs] => how_of(how).zip(jobs_of(jobs)).map(|(how, jobs)| measure_desks(how, &Input::for_desk(jobs))),
         [how, shape, jobs] => how_of(how).zip(input_of(shape, jobs)).map(|(how, (input, judged))| measure(how, &Both::new(input), judged)),
         ["stack"] => Some(stacks()),
         _ => None,
@@ -50,12 +51,13 @@ fn how_of(how: &str) -> Option<How> {
     }
 }
 
+fn jobs_of(jobs: &str) -> Option<usize> {
+    jobs.parse().ok().filter(|jobs: &usize| jobs.is_power_of_two() && *jobs <= MOST_JOBS)
+}
+
 /// An input, and whether the judge accepts it.
 fn input_of(shape: &str, jobs: &str) -> Option<(Input, bool)> {
-    let jobs: usize = jobs.parse().ok()?;
-    if !jobs.is_power_of_two() || jobs > MOST_JOBS {
-        return None;
-    }
+    let jobs = jobs_of(jobs)?;
     match shape {
         "usual" => Some((Input::new(jobs, Shape::Usual), true)),
         "full" => Some((Input::new(jobs, Shape::Fullest), true)),
@@ -199,6 +201,31 @@ impl LentNight {
     fn plain_shift(&self, left: &mut Left) {
         let Left { run, rows, numbers, .. } = left;
         left.answer = shift_words(&self.plan, &self.table, run, &self.speeds, rows, numbers).err().unwrap_or(0).into();
+    }
+}
+
+/// A desk for both sides: the plain one's plan, and the words that a host lends.
+struct LentDesk {
+    name: &'static str,
+    plain: Plan,
+    plan: [u64; PLAN_WORDS],
+}
+
+impl LentDesk {
+    fn new(desk: Desk) -> LentDesk {
+        LentDesk { name: desk.name, plan: plan_words(&desk.plan), plain: desk.plan }
+    }
+
+    fn all(input: &Input) -> Vec<LentDesk> {
+        input.desks().into_iter().map(LentDesk::new).collect()
+    }
+
+    fn draw(&self, table: &mut [u32]) -> u32 {
+        unsafe { gateway_draw(self.plan.as_ptr(), PLAN_WORDS, table.as_mut_ptr(), table.len()) }
+    }
+
+    fn plain_draw(&self, table: &mut [u32]) -> u32 {
+        draw_up(&self.plain, table).err().unwrap_or(0).into()
     }
 }
 
@@ -384,6 +411,22 @@ fn count_nights(input: &Input) {
     }
 }
 
+/// Measures the desk's call on each desk for measuring.
+fn measure_desks(how: How, input: &Input) {
+    println!("input {} {} {} {}", input.plan.count, input.intervals, input.rows, input.file.len());
+    for desk in LentDesk::all(input) {
+        let (call, mut table, mut other) = (format!("draw:{}", desk.name), vec![7; PLACES], vec![7; PLACES]);
+        assert_eq!(desk.draw(&mut table), desk.plain_draw(&mut other), "{}", desk.name);
+        assert!(table == other, "{}", desk.name);
+        section(how, &call, "plain", || {
+            black_box(&draw_up(black_box(&desk.plain), black_box(&mut other)));
+        });
+        section(how, &call, "ours", || {
+            black_box(black_box(&desk).draw(black_box(&mut table)));
+        });
+    }
+}
+
 // Makes a call on another stack: rdi is the function, rsi the other stack's top, rdx points to twelve words, of which six go to registers.
 global_asm!(
     ".globl call_on",
@@ -446,7 +489,7 @@ fn stack_of(function: *const (), arguments: &[u64]) -> (u64, usize) {
 
 /// The deepest stack of each call, in the order of the table, and all answers.
 struct Deepest {
-    calls: [(&'static str, usize); 10],
+    calls: [(&'static str, usize); 12],
     answers: BTreeSet<u64>,
 }
 
@@ -462,10 +505,15 @@ impl Deepest {
     }
 }
 
-/// Prints the deepest stack of each call, over plans of all sizes, over slots and nights of all kinds and over ways to refuse them.
+/// Prints the deepest stack of each call, over plans of all sizes, over slots, nights and desks of all kinds and over ways to refuse them.
 fn stacks() {
-    let calls = ["read", "write", "name", "judge", "slack", "start", "step", "shift", "outcome", "lent-step"].map(|call| (call, 0));
+    let calls = ["read", "write", "name", "judge", "slack", "draw", "shortage", "start", "step", "shift", "outcome", "lent-step"].map(|call| (call, 0));
     let mut deepest = Deepest { calls, answers: BTreeSet::new() };
+    for jobs in [1, 8, 16, 32] {
+        for desk in LentDesk::all(&Input::for_desk(jobs)) {
+            stacks_of_desk(&mut deepest, &desk.plan);
+        }
+    }
     for shape in ["usual", "full", "file"] {
         for jobs in ["1", "8", "16", "32"] {
             let (input, _) = input_of(shape, jobs).expect("an input");
@@ -483,6 +531,7 @@ fn stacks() {
                 let speed = change_input(&mut both, change);
                 let slot = Lent { name: "changed", plan: both.plan, table: both.plain.table.clone(), run: both.run, speed };
                 stacks_of_slot(&mut deepest, &slot);
+                stacks_of_desk(&mut deepest, &both.plan);
                 stacks_of(&mut deepest, &mut both);
             }
         }
@@ -540,6 +589,16 @@ fn stacks_of(deepest: &mut Deepest, both: &mut Both) {
     // The reader last, since it writes plan and table.
     let offset = &mut offset as *mut usize as u64;
     deepest.note_answer("read", stack_of(gateway_read as *const (), &[file, file_length, words, plan_length, cells, places, offset]));
+}
+
+/// The stack of the desk's calls, with a table of its own places and with none.
+fn stacks_of_desk(deepest: &mut Deepest, plan: &[u64; PLAN_WORDS]) {
+    let (mut table, mut pair) = (vec![7_u32; PLACES], [7_u64; PAIR_WORDS]);
+    let plan = [plan.as_ptr() as u64, PLAN_WORDS as u64];
+    for places in [PLACES, 0] {
+        deepest.note_answer("draw", stack_of(gateway_draw as *const (), &[plan, [table.as_mut_ptr() as u64, places as u64]].concat()));
+    }
+    deepest.note_answer("shortage", stack_of(gateway_shortage as *const (), &[plan, [pair.as_mut_ptr() as u64, PAIR_WORDS as u64]].concat()));
 }
 
 /// The stack of a shift's call. Each paint makes it once more, so the second finds the run as the first left it.

@@ -3,7 +3,7 @@ FILENAME ~ /counts$/ {
     input = $1 " " $2
     sizes[input] = $2 " | " $3 " | " with_commas($4) " | " with_commas($5)
     total[input, $6, $7] += $10
-    if (input == "usual 32" && $7 == "ours") {
+    if (input == shown_input($6) && $7 == "ours") {
         part[$6, $8] += $10
         if (!($8 in known)) { known[$8] = 1; functions[++many] = $8 }
         # A block: instructions of one function that follow each other and are executed equally often.
@@ -34,6 +34,8 @@ function frame_line() { return sprintf("| `%s` | %s | %s |\n", $1, with_commas($
 function plain_words(name) { gsub(/-/, " ", name); return name }
 function begin(name) { print "<!-- table " name " -->" }
 function end() { print "<!-- end -->" }
+# The input whose functions and blocks are shown.
+function shown_input(call) { return call ~ /^draw/ ? "desk 32" : "usual 32" }
 # The largest file is one that the judge refuses.
 function input_of(call, size) { return size != "largest" ? "usual " size : (call ~ /read|write/ ? "file 32" : "full 32") }
 
@@ -61,6 +63,11 @@ function speed(n, list, m, names, i, k, call, input, ratio, goal, ours, plain) {
     end()
     # Nanoseconds, where the machine could take them.
     if (timed) {
+        for (k = 1; k < m; k++) {
+            plain = time["desk " names[k], "draw:filled", "plain"]
+            ours = time["desk " names[k], "draw:filled", "ours"]
+            times = times sprintf("| draw | %s | %s | %s | %.2f |\n", names[k], with_commas(plain), with_commas(ours), ours / plain)
+        }
         begin("times")
         print "| call | input | plain Rust, ns | ours, ns | ours / plain |"
         print "|---|---|---|---|---|"
@@ -111,6 +118,25 @@ function slots(n, list, m, names, i, k, input, call, ratio, greatest, sentence) 
     print ""
     end()
 }
+# The desk by what its jobs are like. One job alone has no other release beside its own.
+function desks(n, list, m, names, i, k, input, call, sized, plain, ours) {
+    n = split("filled refused-by-29 refused-by-28", list, " ")
+    m = split("1 8 16 32", names, " ")
+    begin("desk")
+    print "| desk | input | jobs | intervals | plain Rust | ours | ours / plain | goal 1.0 |"
+    print "|---|---|---|---|---|---|---|---|"
+    for (i = 1; i <= n; i++)
+        for (k = 1; k <= m; k++) {
+            input = "desk " names[k]
+            call = "draw:" list[i]
+            if (!((input, call, "ours") in total)) continue
+            split(sizes[input], sized, / \| /)
+            plain = total[input, call, "plain"]
+            ours = total[input, call, "ours"]
+            printf "| %s | %s | %s | %s | %s | %s | %.2f | %s |\n", plain_words(list[i]), names[k], sized[1], sized[2], with_commas(plain), with_commas(ours), ours / plain, met(ours / plain, 1)
+        }
+    end()
+}
 # A shift beside single calls of the step at the same speeds, all of a night at a time. The goal is that of 32 jobs.
 function shift_ratio(night, input) { return total[input, "shift:" night, "ours"] / total[input, "shift:" night, "single"] }
 function shift_goal(night, input) { return input ~ / 32$/ ? "0.6, " met(shift_ratio(night, input), 0.6) : "" }
@@ -134,29 +160,29 @@ function shifts(n, list, m, names, i, k) {
     for (i = 1; i <= n; i++) shift_line(plain_words(list[i]), list[i], "usual 32")
     end()
 }
-# The call that a count is of: of a shift, all of the first night.
+# The call that a count is of: of a shift, all of the first night; of the desk, the first of its inputs.
 function call_word(call) { sub(/:.*/, "", call); return call }
 function where(n, list, i, f, call, rest, shown) {
-    n = split("read write judge slack step shift:normal", list, " ")
+    n = split("read write judge slack draw:filled step shift:normal", list, " ")
     begin("functions")
     print "| call | function, with all that is inlined into it | instructions | part |"
     print "|---|---|---|---|"
     for (i = 1; i <= n; i++) {
         call = list[i]
-        rest = total["usual 32", call, "ours"]
+        rest = total[shown_input(call), call, "ours"]
         for (f = 1; f <= many; f++)
-            if (part[call, functions[f]] >= 0.02 * total["usual 32", call, "ours"]) {
+            if (part[call, functions[f]] >= 0.02 * total[shown_input(call), call, "ours"]) {
                 shown = part[call, functions[f]]
-                printf "| %s | `%s` | %s | %d %% |\n", call_word(call), functions[f], with_commas(shown), 100 * shown / total["usual 32", call, "ours"] + 0.5
+                printf "| %s | `%s` | %s | %d %% |\n", call_word(call), functions[f], with_commas(shown), 100 * shown / total[shown_input(call), call, "ours"] + 0.5
                 rest -= shown
             }
-        printf "| %s | all others | %s | %d %% |\n", call_word(call), with_commas(rest), 100 * rest / total["usual 32", call, "ours"] + 0.5
+        printf "| %s | all others | %s | %d %% |\n", call_word(call), with_commas(rest), 100 * rest / total[shown_input(call), call, "ours"] + 0.5
     }
     end()
 }
 # The four blocks of each call that take most.
 function hottest(n, list, i, call, k, b, best, most) {
-    n = split("read write judge slack step shift:normal", list, " ")
+    n = split("read write judge slack draw:filled step shift:normal", list, " ")
     begin("blocks")
     print "| call | function | times | instructions each | instructions | part |"
     print "|---|---|---|---|---|---|"
@@ -166,7 +192,7 @@ function hottest(n, list, i, call, k, b, best, most) {
             most = 0
             for (b = 1; b <= blocks[call]; b++)
                 if (block_times[call, b] * block_length[call, b] > most) { most = block_times[call, b] * block_length[call, b]; best = b }
-            printf "| %s | `%s` | %s | %d | %s | %d %% |\n", call_word(call), block_function[call, best], with_commas(block_times[call, best]), block_length[call, best], with_commas(most), 100 * most / total["usual 32", call, "ours"] + 0.5
+            printf "| %s | `%s` | %s | %d | %s | %d %% |\n", call_word(call), block_function[call, best], with_commas(block_times[call, best]), block_length[call, best], with_commas(most), 100 * most / total[shown_input(call), call, "ours"] + 0.5
             block_times[call, best] = 0
         }
     }
@@ -234,6 +260,7 @@ function stack(k, call) {
 END {
     speed()
     slots()
+    desks()
     shifts()
     where()
     hottest()

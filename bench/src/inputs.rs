@@ -1,13 +1,17 @@
-//! Fixed inputs for measuring: plans by formula, runs at their busiest slot, and slots and nights of
-//! all kinds.
+//! Fixed inputs for measuring: plans by formula, runs at their busiest slot, and slots, nights and desks
+//! of all kinds.
 //!
 //! Ends of windows do not come in order, so that no sort finds its work done.
 
 use crate::plan::{Job, Plan, Run, HI, LO, MOST_INTERVALS, MOST_JOBS, MOST_SPEEDS, PLACES};
-use crate::{step, write};
+use crate::{draw_up, step, write};
 
 /// Bytes of the largest file.
 pub const LARGEST_FILE: usize = 30_956;
+
+/// The rates of all plans.
+const NORMAL: u16 = 1_000;
+const FLOOR: u16 = 600;
 
 /// What a plan looks like.
 #[derive(Clone, Copy, PartialEq, Eq)]
@@ -39,8 +43,8 @@ impl Input {
         };
         let intervals = 2 * releases - 1;
         let mut plan = Plan {
-            n: 1_000,
-            d: 600,
+            n: NORMAL,
+            d: FLOOR,
             count: jobs,
             ..Plan::default()
         };
@@ -51,9 +55,14 @@ impl Input {
             lay_down(row, i, window, shape);
             plan.jobs[i] = job(i, window, row);
         }
+        Input::of(plan, table, intervals, time(releases - 1))
+    }
+
+    /// With the run up to a clock.
+    fn of(plan: Plan, table: Vec<u32>, intervals: usize, clock: u32) -> Input {
         Input {
             file: file_of(&plan, &table),
-            run: run_of(&plan, &table, time(releases - 1)),
+            run: run_of(&plan, &table, clock),
             intervals,
             rows: table.iter().filter(|&&units| units != 0).count(),
             plan,
@@ -209,6 +218,80 @@ impl Night {
     }
 }
 
+/// All that the desk's call gets beside a table.
+pub struct Desk {
+    pub name: &'static str,
+    pub plan: Plan,
+}
+
+impl Input {
+    /// The input of so many jobs with one release: a power of two, at most 32. Its table is the
+    /// timetable that the desk draws up.
+    pub fn for_desk(jobs: usize) -> Input {
+        let mut plan = Plan {
+            n: NORMAL,
+            d: FLOOR,
+            count: jobs,
+            ..Plan::default()
+        };
+        for i in 0..jobs {
+            plan.jobs[i] = desk_job(i, 1 + scattered(i, jobs));
+        }
+        let mut table = vec![0; PLACES];
+        draw_up(&plan, &mut table).expect("a timetable");
+        // No two deadlines coincide.
+        Input::of(plan, table, jobs, RELEASE)
+    }
+
+    /// The desks that are measured. One job alone has no other release beside its own.
+    pub fn desks(&self) -> Vec<Desk> {
+        let jobs = self.plan.count;
+        let mut desks = vec![
+            self.desk("filled", |_| ()),
+            self.desk("refused-by-29", |plan| overload(&mut plan.jobs[..jobs])),
+        ];
+        if jobs > 1 {
+            desks.push(self.desk("refused-by-28", |plan| plan.jobs[jobs - 1].release -= 1));
+        }
+        desks
+    }
+
+    fn desk(&self, name: &'static str, change: impl Fn(&mut Plan)) -> Desk {
+        let mut plan = self.plan;
+        change(&mut plan);
+        Desk { name, plan }
+    }
+}
+
+/// What the jobs of a desk have in common.
+const RELEASE: u32 = 40;
+
+/// A job for the desk that is due at a boundary. HI and LO jobs take turns there. A HI job has 97 of 100
+/// units that the floor carries in the interval before; the LO job after it 97 of 100 of what is left
+/// of that interval at the normal rate, and of the next.
+fn desk_job(i: usize, due: usize) -> Job {
+    let length = |boundary: usize| u64::from(time(boundary) - time(boundary - 1));
+    let (n, d) = (u64::from(NORMAL), u64::from(FLOOR));
+    let (grade, units) = match due % 2 {
+        1 => (HI, d * length(due)),
+        _ => (LO, n * length(due) + (n - d) * length(due - 1)),
+    };
+    Job {
+        name: name(i),
+        grade,
+        release: RELEASE,
+        size: units * 97 / 100,
+        deadline: RELEASE + time(due),
+    }
+}
+
+/// Makes the last HI job one unit larger than all that the floor carries before its deadline.
+fn overload(jobs: &mut [Job]) {
+    let essential = jobs.iter_mut().filter(|job| job.grade == HI);
+    let last = essential.max_by_key(|job| job.deadline).expect("a HI job");
+    last.size = u64::from(FLOOR) * u64::from(last.deadline - RELEASE) + 1;
+}
+
 /// How many times as much is due where the first few jobs are to use the speed up.
 const CROWDED: u32 = 60;
 
@@ -236,11 +319,15 @@ fn time(boundary: usize) -> u32 {
 fn window(i: usize, jobs: usize, releases: usize) -> (usize, usize) {
     // Odd times i plus even times its square goes through all numbers below a power of two.
     let release = (i * (2 * i + 1) + 3) % jobs;
-    let deadline = (i * (6 * i + 5) + 1) % jobs;
     (
         release * releases / jobs,
-        releases + deadline * releases / jobs,
+        releases + scattered(i, jobs) * releases / jobs,
     )
+}
+
+/// The turns of the deadlines, out of order in the same way.
+fn scattered(i: usize, jobs: usize) -> usize {
+    (i * (6 * i + 5) + 1) % jobs
 }
 
 /// Small allotments: those of one interval fit one slot, so that each live job gets its due.
@@ -261,11 +348,14 @@ fn lay_down(row: &mut [u32], i: usize, (first, end): (usize, usize), shape: Shap
     }
 }
 
-fn job(i: usize, (first, end): (usize, usize), row: &[u32]) -> Job {
+fn name(i: usize) -> u64 {
     let digits = [b'0' + (i / 10) as u8, b'0' + (i % 10) as u8];
-    let name = [b'm', b'i', b'r', b'r', b'o', b'r', digits[0], digits[1]];
+    u64::from_be_bytes([b'm', b'i', b'r', b'r', b'o', b'r', digits[0], digits[1]])
+}
+
+fn job(i: usize, (first, end): (usize, usize), row: &[u32]) -> Job {
     Job {
-        name: u64::from_be_bytes(name),
+        name: name(i),
         grade: if i / 2 % 2 == 0 { HI } else { LO },
         release: time(first),
         size: row[first..end].iter().map(|&units| u64::from(units)).sum(),

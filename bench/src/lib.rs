@@ -5,6 +5,7 @@
 #![forbid(unsafe_code)]
 
 mod bits;
+mod desk;
 pub mod inputs;
 mod judge;
 mod plan;
@@ -17,6 +18,7 @@ mod times;
 pub mod words;
 mod writer;
 
+pub use desk::draw_up;
 pub use judge::{judge, Fault, Verdict};
 pub use plan::{Job, Plan, Run, HI, LO, MOST_INTERVALS, MOST_JOBS, MOST_SPEEDS, PLACES};
 pub use reader::read;

@@ -23,3 +23,5 @@ pub const SPEED: u8 = 20;
 pub const UNSOUND: u8 = 21;
 pub const TOO_SHORT: u8 = 22;
 pub const TOO_MANY_SPEEDS: u8 = 27;
+pub const RELEASES_DIFFER: u8 = 28;
+pub const NO_TIMETABLE: u8 = 29;

@@ -3,11 +3,13 @@
 use std::collections::HashMap;
 use std::process::Command;
 
-use bench::inputs::{Input as Measured, Night, Shape, LARGEST_FILE};
+use bench::inputs::{Desk, Input as Measured, Night, Shape, LARGEST_FILE};
 use bench::words::{plan_words, run_words, shift_words, step_words};
 use bench::{Fault, Job, Plan, Run, Slack, Verdict, MOST_JOBS, MOST_SPEEDS, PLACES};
+use reference::desk::draw_up;
 use reference::generate::{
-    file, fixed_files, fixed_hands, hand, shift_input, FileInput, HandInput, Lent, ShiftInput,
+    desk_input, file, fixed_files, fixed_hands, hand, shift_input, FileInput, HandInput, Lent,
+    ShiftInput,
 };
 use reference::judge::judge;
 use reference::reader::{reader, Answer};
@@ -201,6 +203,16 @@ fn compare_shift(
     (rows, numbers)
 }
 
+/// The answer is the reference's.
+fn compare_desk(plan: &reference::plan::Plan, table: &[u32]) -> u8 {
+    let (mut our_table, mut expected) = (table.to_vec(), table.to_vec());
+    let answer = bench::draw_up(&plan_of(plan), &mut our_table);
+    let number = draw_up(plan, &mut expected);
+    assert_eq!(answer.err().unwrap_or(refusal::DONE), number);
+    assert!(our_table == expected);
+    number
+}
+
 /// Its shift is the one that belongs to this number.
 fn compare_file(input: &FileInput, number: u64) {
     let (mut our_table, mut table) = (marked(input.lent.table), marked(input.lent.table));
@@ -251,6 +263,27 @@ fn drawn_inputs() {
         compare_file(&file(SEED, number), number);
         compare_hand(&hand(SEED, number), number);
     }
+}
+
+#[test]
+fn drawn_desks() {
+    let mut answers = HashMap::new();
+    for number in 0..DRAWN {
+        let input = desk_input(SEED, number);
+        *answers
+            .entry(compare_desk(&input.plan, &input.table))
+            .or_insert(0) += 1;
+    }
+    for number in [
+        refusal::DONE,
+        refusal::UNSOUND,
+        refusal::TOO_SHORT,
+        refusal::RELEASES_DIFFER,
+        refusal::NO_TIMETABLE,
+    ] {
+        assert!(answers[&number] > DRAWN / 50, "{:?}", answers);
+    }
+    assert_eq!(answers.len(), 5);
 }
 
 /// An input for measuring, taken up by the reference from its file.
@@ -392,6 +425,37 @@ fn sets_the_mark(night: &Night, plan: &reference::plan::Plan) -> bool {
     run.slow && !night.run.slow
 }
 
+/// What the reference answers to each desk for measuring, and how many rows its timetables have.
+#[test]
+fn desks_for_measuring() {
+    let rows = [1, 2, 4, 8, 16, 32].map(|jobs| {
+        let input = Measured::for_desk(jobs);
+        compare_measured(&input, true);
+        let ends = input.plan.jobs[..jobs].iter().map(|job| job.deadline);
+        let slots = u64::from(ends.max().expect("a job") - input.plan.jobs[0].release);
+        let units: u64 = input.plan.jobs[..jobs].iter().map(|job| job.size).sum();
+        let is_filled = 100 * units >= 96 * u64::from(input.plan.n) * slots;
+        assert!(is_filled || jobs == 1);
+        let desks = input.desks();
+        desks.iter().for_each(|desk| compare_desk_kind(desk));
+        assert_eq!(desks.len(), if jobs == 1 { 2 } else { 3 });
+        input.rows
+    });
+    assert_eq!(rows, [1, 3, 7, 15, 31, 62]);
+}
+
+fn compare_desk_kind(desk: &Desk) {
+    let number = match desk.name {
+        "filled" => refusal::DONE,
+        name => name["refused-by-".len()..].parse().expect("a number"),
+    };
+    let plan = reference_plan(&desk.plan);
+    for places in [PLACES, PLACES + 5] {
+        assert_eq!(compare_desk(&plan, &marked(places)), number);
+    }
+    assert_eq!(compare_desk(&plan, &marked(PLACES - 1)), refusal::TOO_SHORT);
+}
+
 /// Too few words, marks that are none, and words that a field has no room for.
 #[test]
 fn words_that_hold_no_plan_or_run() {
@@ -435,12 +499,14 @@ fn wrong_use_of_calls_ends_with_2() {
     assert_eq!(status(&["read", "8", "3"]), Some(0));
     assert_eq!(status(&["step", "largest", "0"]), Some(0));
     assert_eq!(status(&["shift", "8", "1"]), Some(0));
+    assert_eq!(status(&["draw", "8", "1"]), Some(0));
     for words in [
         vec![],
         vec!["read", "8"],
         vec!["read", "8", "3", "4"],
         vec!["reads", "8", "3"],
         vec!["read", "7", "3"],
+        vec!["draw", "largest", "3"],
         vec!["read", "8", "-1"],
     ] {
         assert_eq!(status(&words), Some(2));

@@ -5,9 +5,10 @@ use std::hint::black_box;
 use std::process::ExitCode;
 
 use bench::inputs::{Input, Shape, LARGEST_FILE};
-use bench::{judge, read, shift, slack, step, write, MOST_JOBS, MOST_SPEEDS, PLACES};
+use bench::{draw_up, judge, read, shift, slack, step, write, MOST_JOBS, MOST_SPEEDS, PLACES};
 
-const USAGE: &str = "usage: calls read|write|judge|slack|step|shift 1|8|16|32|largest REPEAT";
+const USAGE: &str = "usage: calls read|write|judge|slack|step|shift 1|8|16|32|largest REPEAT
+       calls draw 1|8|16|32 REPEAT";
 
 fn main() -> ExitCode {
     let words: Vec<String> = env::args().skip(1).collect();
@@ -38,6 +39,8 @@ fn run(words: &[&str]) -> Option<()> {
 
 fn input_of(what: &str, jobs: &str) -> Option<Input> {
     match (what, jobs) {
+        ("draw", "1" | "8" | "16" | "32") => Some(Input::for_desk(jobs.parse().ok()?)),
+        ("draw", _) => None,
         (_, "1" | "8" | "16" | "32") => Some(Input::new(jobs.parse().ok()?, Shape::Usual)),
         ("read" | "write", "largest") => Some(Input::new(MOST_JOBS, Shape::LargestFile)),
         (_, "largest") => Some(Input::new(MOST_JOBS, Shape::Fullest)),
@@ -53,6 +56,7 @@ fn call_of(what: &str) -> Option<fn(&Input, u64)> {
         "slack" => Some(slacks),
         "step" => Some(steps),
         "shift" => Some(shifts),
+        "draw" => Some(draws),
         _ => None,
     }
 }
@@ -118,5 +122,12 @@ fn shifts(input: &Input, repeat: u64) {
             black_box(&mut numbers),
         );
         black_box(&answer);
+    }
+}
+
+fn draws(input: &Input, repeat: u64) {
+    let mut table = vec![0; PLACES];
+    for _ in 0..repeat {
+        black_box(&draw_up(black_box(&input.plan), black_box(&mut table)));
     }
 }
