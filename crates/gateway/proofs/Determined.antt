@@ -5,8 +5,8 @@ use mathlib.Core.List.{List}
 use Prim.Native.Nat.{ℕ}
 use lib.IntN.{ℤ}
 use Rattle.planfile.specs.Reader.{nameFound}
-use Rattle.gateway.specs.Calls.{HostJudgeEffect, HostSlackEffect, HostStartEffect, HostStepEffect, HostShiftEffect, HostReadEffect, HostWriteEffect, HostImportEffect, HostExportEffect, HostEndEffect, judgeCall, startCall, stepCall, shiftCall, outcomeCall, slackCall, readCall, writeCall, importCall, exportCall, endCall}
-use Rattle.gateway.specs.Answers.{HostReads, HostWrites, HostShows, HostJudges, HostMeasures, HostStarts, HostSteps, HostShifts, HostEnds, HostImports, HostExports, HostTells}
+use Rattle.gateway.specs.Calls.{HostJudgeEffect, HostSlackEffect, HostStartEffect, HostStepEffect, HostShiftEffect, HostDrawEffect, HostShortageEffect, HostReadEffect, HostWriteEffect, HostImportEffect, HostExportEffect, HostEndEffect, judgeCall, drawCall, shortageCall, startCall, stepCall, shiftCall, outcomeCall, slackCall, readCall, writeCall, importCall, exportCall, endCall}
+use Rattle.gateway.specs.Answers.{HostReads, HostWrites, HostShows, HostJudges, HostMeasures, HostStarts, HostSteps, HostShifts, HostDraws, HostExplains, HostEnds, HostImports, HostExports, HostTells}
 
 -- `gateway_read`.
 pub one-read : (file plan table : List ℕ) (was r s : ℕ) (words others cells other-cells : List ℕ) (offset other : ℕ) → HostReads file plan table was r words cells offset
@@ -82,6 +82,22 @@ one-step plan table run v grants r s words others left other d e =
 pub some-step : (plan table run : List ℕ) (v : ℕ) (grants : List ℕ)
     → (r : ℕ) × (words : List ℕ) × (left : List ℕ) × HostSteps plan table run v grants r words left
 some-step plan table run v grants = let c = stepCall plan table run v grants in (c .number, c .run, c .grants, refl)
+
+-- `gateway_draw`.
+pub one-draw : (plan table : List ℕ) (r s : ℕ) (left other : List ℕ) → HostDraws plan table r left → HostDraws plan table s other → (r ≡ s) × (left ≡ other)
+one-draw plan table r s left other d e =
+    let same = d ∙ sym e in (ap (λ (x : HostDrawEffect). x .number) same, ap (λ (x : HostDrawEffect). x .table) same)
+
+pub some-draw : (plan table : List ℕ) → (r : ℕ) × (left : List ℕ) × HostDraws plan table r left
+some-draw plan table = let c = drawCall plan table in (c .number, c .table, refl)
+
+-- `gateway_shortage`.
+pub one-shortage : (plan pair : List ℕ) (r s : ℕ) (left other : List ℕ) → HostExplains plan pair r left → HostExplains plan pair s other → (r ≡ s) × (left ≡ other)
+one-shortage plan pair r s left other d e =
+    let same = d ∙ sym e in (ap (λ (x : HostShortageEffect). x .number) same, ap (λ (x : HostShortageEffect). x .pair) same)
+
+pub some-shortage : (plan pair : List ℕ) → (r : ℕ) × (left : List ℕ) × HostExplains plan pair r left
+some-shortage plan pair = let c = shortageCall plan pair in (c .number, c .pair, refl)
 
 -- `gateway_shift`.
 pub one-shift : (plan table run speeds rows numbers : List ℕ) (r s : ℕ) (words others filled other told untold : List ℕ)

@@ -5,6 +5,7 @@ use Rattle.joblist.proofs.Determined as lists
 use Rattle.promises.proofs.Determined as unique
 use Rattle.promises.proofs.Demand2.{judge-is-exact, read-and-written, written-and-read, grants-are-the-rule}
 use Rattle.promises.proofs.NightParts.{kept-in-parts}
+use Rattle.promises.proofs.Timetables.{one-drawing, some-drawing, one-shortage, some-shortage}
 
 -- Two results, each determined, are determined together.
 both : {A B : Type 0} {Promised : A → B → Type 0} → (a : A) × (b : B) × Promised a b
@@ -30,6 +31,8 @@ every-call-is-determined =
       write = λ p table out. both (unique.some-writing p table out) (unique.one-writing p table out);
       judge = λ p table. single (unique.some-verdict p table) (unique.one-verdict p table);
       slack = λ p table. single (unique.some-figure p table) (unique.one-figure p table);
+      draw = λ p table. both (some-drawing p table) (one-drawing p table);
+      shortage = λ p. single (some-shortage p) (one-shortage p);
       start = λ p table. single (unique.some-start p table) (unique.one-start p table);
       step = λ p table run v grants. both (unique.some-step p table run v grants) (unique.one-step p table run v grants);
       shift = λ p table run speeds rows numbers.

@@ -27,12 +27,12 @@ pub mod NightsOfE
 pub mod IdleSlots
 pub mod FoldedNames
 pub mod PromiseLimits
+pub mod Exactly
+pub mod Timetables
 pub mod AllDemands
 pub mod HostNights
 pub mod ReadWords
-pub mod Exactly
 pub mod RefusalOrder
 pub mod JudgeExactly
 pub mod ReaderExactly
 pub mod WrongField
-pub mod Timetables

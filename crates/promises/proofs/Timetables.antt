@@ -12,15 +12,15 @@ use lib.Dec.{leb, ltb, eqb}
 use lib.ListN.{length, replicate, length-replicate}
 use Rattle.base.specs.Sum.{sum, on}
 use Rattle.base.specs.Fill.{filled}
-use Rattle.base.specs.Below.{every}
+use Rattle.base.specs.Below.{every, least, greatest}
 use Rattle.base.proofs.SumLaws.{sum-ext, sum-mono, sum-add, sum-swap}
 use Rattle.base.proofs.Choice.{on-mono}
 use Rattle.base.proofs.Below.{every-at, every-all, least-attained}
 use Rattle.base.proofs.Logic.{if-true, if-less, both, below-or-last}
 use Rattle.plan.specs.Edition.{places}
-use Rattle.plan.specs.Refusal.{unsound, releasesDiffer, noTimetable}
-use Rattle.plan.specs.Report.{Report, isNone, numberOf, doneNumber, orElse, first, fault}
-use Rattle.plan.specs.Rules.{hi, lo, counted, release, size, deadline, isHi, rulesHold}
+use Rattle.plan.specs.Refusal.{unsound, bufferTooShort, releasesDiffer, noTimetable}
+use Rattle.plan.specs.Report.{Report, isNone, isOneOf, numberOf, doneNumber, orElse, first, fault}
+use Rattle.plan.specs.Rules.{hi, lo, noPlan, counted, release, size, deadline, isHi, nameAllowed, namesHold, namesDiffer, gradesHold, boundsHold, rulesHold}
 use Rattle.plan.specs.Boundaries.{insert, boundariesTo, boundary, intervals, firstRelease}
 use Rattle.plan.specs.declared.kinds.Plan.{Plan}
 use Rattle.plan.proofs.Reports.{none-empty, none-first, none-plain, empty-none, or-some, or-none}
@@ -35,7 +35,7 @@ use Rattle.desk.specs.declared.answers.Shortage.the-variants.{Nothing, Unsound,
 use Rattle.desk.proofs.Closed.{pairs-carried}
 use Rattle.desk.proofs.Accepted.{drawn-accepted}
 use Rattle.promises.specs.Grounds.{SoundJobs, OneRelease, SomeTable, DrawDecided, draw-short, draw-unsound, draw-releases, draw-none, drawn-up, FirstShort}
-use Rattle.promises.proofs.Cases.{job, planWith, tableOf, P5}
+use Rattle.promises.proofs.Cases.{job, planWith, tableOf, capitalMirror, smallMirror, tableE, P5}
 use Rattle.promises.proofs.FloorTail.{Facts, Good, before, tail, rises, before-size, tail-reached, floor-tail, class}
 use Rattle.promises.proofs.CallAsSlot.{factsOf, good-plan}
 use Rattle.promises.proofs.Demand2.{judge-is-exact}
@@ -258,15 +258,41 @@ pub P5-short : pairFault (planWith (job 1 hi 0 8 10 ∷ job 2 hi 0 4 16 ∷ job 
 unfolding pairFault first sum every boundariesTo insert
 P5-short = refl
 
--- Two answers that the desk's promises allow are equal.
-pub one-drawing : (p : Plan) (table left left′ : List ℕ) (r r′ : ℕ) → DrawsUp p table r left → DrawsUp p table r′ left′ → (r ≡ r′) × (left ≡ left′)
-one-drawing p table left left′ r r′ a b = (a .0 ∙ sym (b .0), a .1 ∙ sym (b .1))
+-- The desk: 22 although rules 4 to 9 are broken; 21 although releases differ; 28 although too much is asked; 29; then it is done.
+pub draw-order : (numberOf (drawFault noPlan []) ≡ bufferTooShort)
+    × (numberOf (drawFault (planWith (job capitalMirror lo 0 60 5 ∷ job smallMirror hi 1 0 10 ∷ [])) tableE) ≡ unsound)
+    × (numberOf (drawFault (planWith (job capitalMirror lo 0 60 5 ∷ job smallMirror hi 1 80 10 ∷ [])) tableE) ≡ releasesDiffer)
+    × (numberOf (drawFault (planWith (job capitalMirror lo 0 60 5 ∷ job smallMirror hi 0 80 10 ∷ [])) tableE) ≡ noTimetable)
+    × (drawFault (planWith (P5 .jobs)) tableE ≡ [])
+unfolding tableOf sum first every least greatest nameAllowed namesHold namesDiffer gradesHold boundsHold rulesHold insert boundariesTo oneRelease pairFault shortageOf drawFault
+draw-order = (refl, refl, refl, refl, refl)
+
+-- The desk is refused only by 22, 21, 28 and 29.
+pub draw-numbers : (p : Plan) (table : List ℕ) → isOneOf (doneNumber ∷ bufferTooShort ∷ unsound ∷ releasesDiffer ∷ noTimetable ∷ []) (numberOf (drawFault p table)) ≡ true
+draw-numbers p table = told (numberOf (drawFault p table)) (draw-exactly p table)
+  where
+    told : (number : ℕ) → DrawDecided p table number → isOneOf (doneNumber ∷ bufferTooShort ∷ unsound ∷ releasesDiffer ∷ noTimetable ∷ []) number ≡ true
+    told number (draw-short short) = refl
+    told number (draw-unsound long sound) = refl
+    told number (draw-releases long sound differ) = refl
+    told number (draw-none long sound one none) = refl
+    told number (drawn-up long sound one some) = refl
+
+-- One result meets each of the desk's promises.
+pub one-drawing : (p : Plan) (table : List ℕ) (r s : ℕ) (left other : List ℕ) → DrawsUp p table r left → DrawsUp p table s other → (r ≡ s) × (left ≡ other)
+one-drawing p table r s left other a b = (a .0 ∙ sym (b .0), a .1 ∙ sym (b .1))
+
+pub some-drawing : (p : Plan) (table : List ℕ) → (r : ℕ) × (left : List ℕ) × DrawsUp p table r left
+some-drawing p table = (numberOf (drawFault p table), tableLeft p table, (refl, refl))
 
 -- A left inverse of `shortageView`.
 abbrev shortageFrom : Report → Shortage
-shortageFrom (number ∷ D ∷ E ∷ a ∷ c ∷ rest) = Pair (record { 0 = D }) (record { 0 = E }) (record { 0 = a }) (record { 0 = c })
+shortageFrom [] = Nothing
 shortageFrom (number ∷ []) = cond (eqb number unsound) Unsound ReleasesDiffer
-shortageFrom report = Nothing
+shortageFrom (number ∷ D ∷ []) = Nothing
+shortageFrom (number ∷ D ∷ E ∷ []) = Nothing
+shortageFrom (number ∷ D ∷ E ∷ a ∷ []) = Nothing
+shortageFrom (number ∷ D ∷ E ∷ a ∷ c ∷ rest) = Pair (record { 0 = D }) (record { 0 = E }) (record { 0 = a }) (record { 0 = c })
 
 shortage-back : (s : Shortage) → shortageFrom (shortageView s) ≡ s
 shortage-back Nothing = refl
@@ -276,3 +302,16 @@ shortage-back (Pair D E a c) = refl
 
 pub one-shortage : (p : Plan) (s t : Shortage) → TellsShortage p s → TellsShortage p t → s ≡ t
 one-shortage p s t a b = sym (shortage-back s) ∙ ap shortageFrom (a ∙ sym b) ∙ shortage-back t
+
+pub some-shortage : (p : Plan) → (s : Shortage) × TellsShortage p s
+unfolding shortageOf
+some-shortage p =
+    if-true (rulesHold p)
+    (λ held. if-true (oneRelease p)
+    (λ one. if-true (isNone (pairFault p))
+    (λ e. (Nothing, rw (held, one) (sym (none-empty (pairFault p) e))))
+    (λ e.
+    let w = named-pair p e in
+    (Pair (record { 0 = w .0 }) (record { 0 = w .1 }) (record { 0 = asked p (w .0) (w .1) }) (record { 0 = carries p (w .0) (w .1) }), rw (held, one) (sym (w .2)))))
+    (λ differ. (ReleasesDiffer, rw (held, differ) refl)))
+    (λ broken. (Unsound, rw broken refl))

@@ -27,6 +27,7 @@ use Rattle.joblist.specs.declared.export.Exported.{Exported}
 use Rattle.judge.specs.Constraints.{Figure2}
 use Rattle.judge.specs.Verdict.{judged}
 use Rattle.judge.specs.Answers.{Judges, Measures}
+use Rattle.desk.specs.Answers.{TellsShortage, DrawsUp}
 use Rattle.dispatch.specs.Dues.{slowAfter, due}
 use Rattle.dispatch.specs.Order.{order, serve}
 use Rattle.dispatch.specs.Step.{stepped}
@@ -49,6 +50,8 @@ pub record EveryCallIsDetermined : Type 0 where
   pub write : (p : Plan) (table : Table) (out : Bytes) → ExactlyOne {A = Written × Bytes} (λ r. Writes p table out (r .0) (r .1))
   pub judge : (p : Plan) (table : Table) → ExactlyOne (Judges p table)
   pub slack : (p : Plan) (table : Table) → ExactlyOne (Measures p table)
+  pub draw : (p : Plan) (table : Table) → ExactlyOne {A = ℕ × Table} (λ r. DrawsUp p table (r .0) (r .1))
+  pub shortage : (p : Plan) → ExactlyOne (TellsShortage p)
   pub start : (p : Plan) (table : Table) → ExactlyOne (Starts p table)
   pub step : (p : Plan) (table : Table) (run : Run) (v : Speed) (grants : Row)
       → ExactlyOne {A = Stepped × Row} (λ r. Steps p table run v grants (r .0) (r .1))
