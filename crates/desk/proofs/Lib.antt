@@ -6,3 +6,4 @@ pub mod Stages
 pub mod Closed
 pub mod Accepted
 pub mod CodeLaws
+pub mod Alone
