@@ -1,23 +1,21 @@
 -- The desk's timetable is accepted by the judge, if the releases are one and the closed form holds.
 use mathlib.Core.Path.{_≡_, refl, sym, _∙_, ap}
-use mathlib.Core.Logic.{_⊎_, inl, inr, ⊎-elim}
-use mathlib.Core.Bool.{Bool, true, false, _&&_}
-use mathlib.Core.List.{List, [], _++_}
+use mathlib.Core.Logic.{_⊎_, ⊎-elim}
+use mathlib.Core.Bool.{true, false, _&&_}
+use mathlib.Core.List.{List, []}
 use Prim.Native.Nat.{ℕ, suc, _+_, _*_, _≤_, _<_}
 use native.Mathlib.Decide.{decLt}
 use native.Mathlib.Omega.{arith}
-use borrow.Author.Tests.{le-leb, leb-true, leb-false, eqb-true}
-use lib.Dec.{leb, eqb}
-use lib.ListN.{length, getD, drop, replicate, length-replicate, length-append, getD-replicate, List·getD-append}
-use Rattle.base.specs.Sum.{sum, on}
+use borrow.Author.Tests.{le-leb, leb-false, eqb-true}
+use lib.Dec.{leb}
+use lib.ListN.{length, drop, replicate, length-replicate, length-append, getD-replicate, List·getD-append}
 use Rattle.base.proofs.SumLaws.{sum-none}
 use Rattle.base.proofs.Below.{every-at, greatest-upper}
 use Rattle.base.proofs.FillLaws.{filled-at, filled-length}
-use Rattle.base.proofs.Choice.{on-zero}
 use Rattle.base.proofs.Logic.{if-less, if-same}
 use Rattle.plan.specs.Edition.{mostJobs, mostIntervals, places}
-use Rattle.plan.specs.Rules.{counted, release, size, deadline, isHi, rulesHold}
-use Rattle.plan.specs.Boundaries.{boundaries, boundary, intervals, firstRelease}
+use Rattle.plan.specs.Rules.{counted, release, deadline, rulesHold}
+use Rattle.plan.specs.Boundaries.{boundary, intervals, firstRelease}
 use Rattle.plan.specs.Table.{sound}
 use Rattle.plan.specs.declared.kinds.Plan.{Plan}
 use Rattle.plan.proofs.PresentInterval.{boundary-rises, deadline-is-boundary, first-boundary, last-boundary}
@@ -29,8 +27,7 @@ use Rattle.judge.proofs.Exact.{exact}
 use Rattle.desk.specs.Timetable.{Draft, classPlaced, allRoom, cleared, timetable}
 use Rattle.desk.specs.Pairs.{pairFault}
 use Rattle.desk.specs.Desk.{oneRelease}
-use Rattle.desk.proofs.Pouring.{Whole}
-use Rattle.desk.proofs.Kept.{Good, rises, earlier}
+use Rattle.desk.proofs.Kept.{Good, rises}
 use Rattle.desk.proofs.Fits.{floor-held}
 use Rattle.desk.proofs.Stages.{ground, state, Ends, Stage, class-placed, then-hi, all-full}
 use Rattle.desk.proofs.Closed.{enough}

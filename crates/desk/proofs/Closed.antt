@@ -1,21 +1,21 @@
 -- The closed form over the deadlines of each class gives it over all boundaries.
 use mathlib.Core.Path.{_≡_, refl, sym, _∙_, ap}
 use mathlib.Core.Logic.{_≢_}
-use mathlib.Core.Bool.{Bool, true, false, not, _&&_, _||_, true≢false, or-true}
+use mathlib.Core.Bool.{Bool, true, false, not, _&&_, true≢false, or-true}
 use mathlib.Core.List.{[]}
 use Prim.Native.Nat.{ℕ, zero, suc, _+_, _*_, _-_, _≤_, _<_}
 use native.Mathlib.Nat.{mul-add, mul-zero, mul-le-mul-left, mul-le-mul-right}
 use native.Mathlib.Omega.{arith}
 use borrow.Author.Tests.{le-leb, lt-leb, ltb-false, not-true, not-false, eq-eqb}
-use lib.Dec.{leb, ltb, eqb}
+use lib.Dec.{leb, eqb}
 use Rattle.base.specs.Sum.{sum, on}
 use Rattle.base.specs.Below.{every}
 use Rattle.base.proofs.SumLaws.{sum-ext}
 use Rattle.base.proofs.Below.{every-at}
 use Rattle.base.proofs.Logic.{if-true, if-less, if-same}
-use Rattle.plan.specs.Rules.{counted, size, deadline, isHi}
+use Rattle.plan.specs.Rules.{counted, size, deadline}
 use Rattle.plan.specs.Boundaries.{boundary, intervals}
-use Rattle.plan.specs.Report.{isNone, first}
+use Rattle.plan.specs.Report.{first}
 use Rattle.plan.specs.declared.kinds.Plan.{Plan}
 use Rattle.plan.proofs.Reports.{empty-none, none-first, none-plain}
 use Rattle.judge.specs.Constraints.{intervalLength}

@@ -7,7 +7,7 @@ use native.Mathlib.Numerals.{add-one}
 use native.Mathlib.Omega.{arith}
 use borrow.Author.Tests.{not-true, ne-eqb}
 use lib.Dec.{ltb, eqb}
-use lib.ListN.{length, getD, take, replicate, length-replicate}
+use lib.ListN.{length, getD, replicate, length-replicate}
 use Rattle.base.specs.Below.{every}
 use Rattle.base.specs.Fill.{filled}
 use Rattle.base.specs.Sum.{sum, on}
@@ -21,7 +21,6 @@ use Rattle.plan.specs.Rules.{counted, rulesHold}
 use Rattle.plan.specs.Boundaries.{boundaries, boundary, intervals, firstRelease}
 use Rattle.plan.specs.Columns.{Columns, PutsColumns, sizesFit}
 use Rattle.plan.specs.Report.{Report, isNone, fault, first}
-use Rattle.plan.specs.declared.boundaries.Boundaries.{Boundaries}
 use Rattle.plan.specs.declared.kinds.Outline.{Outline}
 use Rattle.plan.specs.declared.kinds.Plan.{Plan}
 use Rattle.plan.proofs.BoundaryOrder.{boundaries-few}
@@ -31,7 +30,7 @@ use Rattle.plan.proofs.Soundness.{rules-parts, rules-bounded}
 use Rattle.judge.specs.Slack.{through}
 use Rattle.judge.proofs.HandFault.{boundaries-some}
 use Rattle.desk.specs.Timetable.{Draft, turn, placing, jobTurn}
-use Rattle.desk.specs.Pairs.{sizesDue, isDeadline, isEnd, pairAt, pairFault}
+use Rattle.desk.specs.Pairs.{sizesDue, isEnd, pairAt, pairFault}
 use Rattle.desk.specs.Desk.{oneRelease}
 use Rattle.desk.specs.inner.Lists.{JobColumns, isOf, dueSize, isDueAt, endAt, pairIn, pairsFrom}
 

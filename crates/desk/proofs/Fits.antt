@@ -1,6 +1,6 @@
 -- If the closed form holds, each job fits when its turn comes, and in the end the floor rule holds.
 use mathlib.Core.Path.{_≡_, refl, sym, _∙_, ap}
-use mathlib.Core.Logic.{_≢_, _⊎_, inl, inr, ⊎-elim}
+use mathlib.Core.Logic.{_⊎_, inl, inr, ⊎-elim}
 use mathlib.Core.Bool.{Bool, true, false, not, _&&_}
 use Prim.Native.Nat.{ℕ, zero, suc, _+_, _*_, _-_, _≤_, _<_}
 use native.Mathlib.Nat.{mul-le-mul-left, mul-zero}
@@ -9,10 +9,10 @@ use borrow.Author.Tests.{le-leb, lt-leb, leb-true}
 use lib.Dec.{leb}
 use Rattle.base.specs.Sum.{sum, on}
 use Rattle.base.proofs.SumLaws.{sum-ext, sum-mono, sum-none, sum-add, sum-split, sum-swap}
-use Rattle.base.proofs.Choice.{on-mono, on-none, on-ext, on-sum, on-less}
+use Rattle.base.proofs.Choice.{on-mono, on-none, on-sum, on-less}
 use Rattle.base.proofs.Logic.{if-same, if-less, if-true, and-left, both, below-or-last}
 use Rattle.desk.proofs.Sums.{sum-room}
-use Rattle.desk.proofs.Kept.{Ground, Good, State, loLoad, hiLoad, allLoad, Kept, rises, load-parts}
+use Rattle.desk.proofs.Kept.{Ground, Good, State, loLoad, hiLoad, Kept, rises, load-parts}
 
 -- Two numbers under a condition are at most a third, if their sum is.
 on-two : (c : Bool) (x y z : ℕ) → x + y ≤ z → on c x + on c y ≤ on c z
@@ -115,7 +115,7 @@ module _ (g : Ground) (good : Good g) (s : State) (kept : Kept g s) (within : Wi
       ap (λ r. sum (s .room) m + r) (sym (sum-add (loLoad g s) (hiLoad g s D) m))
       ∙ sym (sum-add (s .room) (λ j. loLoad g s j + hiLoad g s D j) m)
       ∙ sum-ext _ _ m (λ j b.
-        ap (λ r. s .room j + r) (sym (load-parts g good s D j (λ i c e f. none i j c e f (omega arith)))) ∙ kept .room j (omega arith))
+      ap (λ r. s .room j + r) (sym (load-parts g good s D j (λ i c e f. none i j c e f (omega arith)))) ∙ kept .room j (omega arith))
 
   placed-within : (k : ℕ) → loPlaced k ≤ loSizes g (g .b k)
   placed-within k = sum-mono _ _ (g .N) (λ i h. on-mono (not (g .hi i) && leb (g .dl i) (g .b k)) _ _ (λ c. within i h))

@@ -1,15 +1,14 @@
 -- What placing the units of one job does: a closed form of its row and of the rooms after it.
 use mathlib.Core.Path.{_≡_, refl, sym, _∙_, ap, ap₂}
 use mathlib.Core.Logic.{_≢_}
-use mathlib.Core.Bool.{Bool, true, false}
-use mathlib.Core.List.{List}
+use mathlib.Core.Bool.{Bool}
 use Prim.Native.Nat.{ℕ, zero, suc, _+_, _*_, _-_, _≤_, _<_, min}
 use native.Mathlib.Omega.{arith}
-use lib.ListN.{length, getD, set, length-set}
+use lib.ListN.{length, getD, length-set}
 use lib.Seq.{getD-set-same, getD-set-other}
 use Rattle.base.specs.Sum.{sum}
-use Rattle.base.proofs.SumLaws.{sum-ext, sum-none, sum-split, sum-mono}
-use Rattle.base.proofs.Logic.{by-order, if-less, if-same, below-or-last}
+use Rattle.base.proofs.SumLaws.{sum-ext, sum-split}
+use Rattle.base.proofs.Logic.{by-order, below-or-last}
 use Rattle.plan.specs.Edition.{mostJobs, mostIntervals, places}
 use Rattle.judge.specs.Constraints.{units}
 use Rattle.judge.specs.Slack.{through}
@@ -140,8 +139,8 @@ module _ (back : Bool) (m i amount : ℕ) (draft : Draft) (span : m ≤ mostInte
   placing-all fits =
       sym (sum-turned back (units (after .table) i) m)
       ∙ sum-ext _ _ m (λ q b.
-        all .done (turn back m q) (turn-below back m q b) (rw (turn-twice back m q b) b) .1
-        ∙ ap (λ k. min (room draft (turn back m q)) (amount - before k)) (turn-twice back m q b))
+      all .done (turn back m q) (turn-below back m q b) (rw (turn-twice back m q b) b) .1
+      ∙ ap (λ k. min (room draft (turn back m q)) (amount - before k)) (turn-twice back m q b))
       ∙ poured-before m
       ∙ omega (arith, sum-turned back (room draft) m)
 

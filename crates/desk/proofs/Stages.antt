@@ -1,8 +1,7 @@
 -- What the desk keeps from turn to turn, for a plan whose jobs have one release and for which the closed form holds.
 use mathlib.Core.Path.{_≡_, refl, sym, _∙_, ap}
 use mathlib.Core.Logic.{_≢_, _⊎_, inl, inr, ⊎-elim}
-use mathlib.Core.Bool.{Bool, true, false, not, cond, _&&_, true≢false, false≢true}
-use mathlib.Core.List.{List}
+use mathlib.Core.Bool.{Bool, true, false, not, _&&_, true≢false, false≢true}
 use Prim.Native.Nat.{ℕ, zero, suc, _+_, _*_, _-_, _≤_, _<_}
 use native.Mathlib.Omega.{arith}
 use borrow.Author.Tests.{eqb-true, eq-eqb, not-true}
@@ -228,8 +227,11 @@ module _ (p : Plan) (ends : Ends p) where
             let e : intervals p ≡ m + (intervals p - m) = omega (arith, m-last) in
             ap (sum (units (after .table) i)) e
             ∙ sum-split (units (after .table) i) m (intervals p - m)
-            ∙ omega (arith, placing-all back m i (size p i) draft span room-for (stage .whole) fits,
-              sum-none (λ j. units (after .table) i (m + j)) (intervals p - m) (λ j b. past (m + j) (omega arith) (omega arith)))
+            ∙ omega (
+              arith,
+              placing-all back m i (size p i) draft span room-for (stage .whole) fits,
+              sum-none (λ j. units (after .table) i (m + j)) (intervals p - m) (λ j b. past (m + j) (omega arith) (omega arith)),
+            )
 
         other-row : (l : ℕ) → l ≢ i → sum (units (after .table) l) (intervals p) ≡ sum (units (draft .table) l) (intervals p)
         other-row l n = sum-ext _ _ (intervals p) (λ j b. same l j n (omega (arith, few)))

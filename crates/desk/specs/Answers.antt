@@ -2,7 +2,7 @@
 use mathlib.Core.Path.{_≡_}
 use mathlib.Core.List.{[], _∷_}
 use Rattle.plan.specs.Kinds.{Number, Table}
-use Rattle.plan.specs.Refusal.{unsound, bufferTooShort, releasesDiffer, noTimetable}
+use Rattle.plan.specs.Refusal.{unsound, releasesDiffer, noTimetable}
 use Rattle.plan.specs.Report.{Report, numberOf}
 use Rattle.plan.specs.declared.kinds.Plan.{Plan}
 use Rattle.desk.specs.Desk.{shortageOf, drawFault, tableLeft}

@@ -8,7 +8,7 @@ ghost use mathlib.Core.Path.{_≡_};
 ghost use Prim.Native.Nat.{suc, _*_, _-_, _≤_, _<_, min};
 ghost use lib.ListN.{length, getD};
 ghost use Rattle.base.specs.Fill.{filled};
-ghost use Rattle.plan.specs.Edition.{mostJobs, mostIntervals, mostBoundaries, places};
+ghost use Rattle.plan.specs.Edition.{mostJobs, mostIntervals, places};
 ghost use Rattle.desk.specs.Timetable.{turn, placing};
 ghost use Rattle.desk.specs.inner.Overs.{PlacesDue, PlacesClass};
 

@@ -150,4 +150,3 @@ module _ (p : Plan) (table : List ℕ) where
       behind k q r e l b =
           moved (mostIntervals * (counted p + q) + r) (mostIntervals * counted p + k) (omega arith)
           (clear (counted p + q) r (omega arith) (omega arith) (inl (omega arith)))
-

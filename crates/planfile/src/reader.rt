@@ -15,7 +15,7 @@ use plan::kinds::Plan;
 use plan::refusal::Refusal;
 ghost use mathlib.Core.Path.{_≡_};
 ghost use mathlib.Core.List.{[]};
-ghost use lib.ListN.{length, replicate};
+ghost use lib.ListN.{length};
 ghost use Rattle.plan.specs.Edition.{places};
 ghost use Rattle.planfile.specs.Reader.{readFile, leaves};
 ghost use Rattle.planfile.specs.Answers.{readView, Reads};

@@ -4,27 +4,25 @@ use mathlib.Core.Path.{_≡_, refl, sym, _∙_, ap, ap₂, subst}
 use mathlib.Core.Logic.{_↔_, _⊎_, inl, inr, ⊎-elim}
 use mathlib.Core.Bool.{Bool, true, false, not, _&&_, _||_, true≢false, or-true, and-false}
 use mathlib.Core.List.{List, [], _∷_}
-use Prim.Native.Nat.{ℕ, _+_, _*_, _-_, _/_, _%_, _≤_, _<_}
-use native.Mathlib.Nat.{div-add-mod, mod-lt}
+use Prim.Native.Nat.{ℕ, _-_, _≤_, _<_}
 use native.Mathlib.Omega.{arith}
 use borrow.Author.Tests.{leb-true, ltb-true, eqb-true, eqb-false, not-true, le-leb, lt-leb, lt-ltb, le-ltb, eq-eqb, ne-eqb}
 use lib.Dec.{leb, ltb, eqb}
-use lib.ListN.{length, getD, take}
+use lib.ListN.{length}
 use Rattle.base.specs.Below.{every}
 use Rattle.base.proofs.Below.{every-at, every-all}
 use Rattle.base.proofs.Logic.{both, and-left, and-right, if-true, if-less, if-same}
-use Rattle.plan.specs.Edition.{nameBytes, mostJobs, mostIntervals, mostRate, mostDeadline, mostSize, places, mostSpeeds}
+use Rattle.plan.specs.Edition.{nameBytes, mostJobs, mostRate, mostDeadline, mostSize, places, mostSpeeds}
 use Rattle.plan.specs.Rules.{jobsOf, lo, hi, byteOf, counted, jobOf, name, release, size, deadline, isHi, nameAllowed, gradeAllowed, windowAllowed, sizeAllowed, sameName, ratesHold, countHolds, namesHold, namesDiffer, gradesHold, boundsHold, rulesHold}
-use Rattle.plan.specs.Boundaries.{intervals, firstRelease, lastDeadline}
-use Rattle.plan.specs.Table.{noStray, sound}
+use Rattle.plan.specs.Boundaries.{firstRelease, lastDeadline}
+use Rattle.plan.specs.Table.{sound}
 use Rattle.plan.specs.Refusal.{clockAtEnd, speedAboveNormal, unsound, bufferTooShort, noSuchJob, cannotEnd, tooManySpeeds}
 use Rattle.plan.specs.Report.{Report, orElse, fault}
 use Rattle.plan.specs.declared.kinds.Plan.{Plan}
-use Rattle.plan.proofs.BoundaryOrder.{boundaries-few}
 use Rattle.plan.proofs.Soundness.{rules-parts, sound-parts}
 use Rattle.plan.proofs.Stray.{no-stray-held, no-stray-told}
 use Rattle.planwriter.specs.Writing as writing
-use Rattle.planwriter.specs.Writing.{wrote, written, writer}
+use Rattle.planwriter.specs.Writing.{wrote, writer}
 use Rattle.dispatch.specs.declared.Run.{Run}
 use Rattle.dispatch.specs.Dues.{carriedOf, endedOf}
 use Rattle.dispatch.specs.Step as step
@@ -33,7 +31,7 @@ use Rattle.dispatch.specs.Shift.{rowStart, shiftFault, shifted}
 use Rattle.dispatch.proofs.SlotLimits.{slot-answer}
 use Rattle.dispatch.proofs.ShiftLimits.{shift-answer}
 use Rattle.dispatch.proofs.WordLimits.{word-answer}
-use Rattle.promises.specs.Grounds.{Rule4, Rule5, Rule6, Rule7, Rule8, Rule9, NoStray, SoundPlan, SoundJobs, SoundRun, writtenLength, WriterDecided, table-short, plan-unsound, output-short, file-written, StepDecided, run-unsound, buffer-short, at-end, too-fast, slot-done, ShiftDecided, shift-unsound, too-many, shift-short, shift-done, Asked, OutcomeDecided, not-asked, all-carried, told-of, dropped, late, waiting, EndDecided, word-unsound, no-such-job, cannot-end, word-done}
+use Rattle.promises.specs.Grounds.{Rule4, Rule5, Rule6, Rule7, Rule8, Rule9, SoundPlan, SoundJobs, SoundRun, writtenLength, WriterDecided, table-short, plan-unsound, output-short, file-written, StepDecided, run-unsound, buffer-short, at-end, too-fast, slot-done, ShiftDecided, shift-unsound, too-many, shift-short, shift-done, Asked, OutcomeDecided, not-asked, all-carried, told-of, dropped, late, waiting, EndDecided, word-unsound, no-such-job, cannot-end, word-done}
 use Rattle.promises.proofs.Progress.{sound-after}
 use Rattle.promises.proofs.SameSlot.{same-word}
 use Rattle.promises.specs.Night.{EndCall, Call, word, answerOf, runAfter, clockAt, Allowed}

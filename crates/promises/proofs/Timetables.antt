@@ -3,20 +3,19 @@
 use mathlib.Core.Path.{_≡_, refl, sym, _∙_, ap}
 use mathlib.Core.Logic.{_≢_, _↔_, _⊎_, inl, inr, ⊎-elim}
 use mathlib.Core.Bool.{Bool, true, false, not, cond, _&&_, true≢false, false≢true, and-false}
-use mathlib.Core.List.{List, [], _∷_}
+use mathlib.Core.List.{List, [], _∷_, _++_}
 use Prim.Native.Nat.{ℕ, zero, suc, _+_, _*_, _-_, _≤_, _<_}
-use native.Mathlib.Nat.{mul-add, mul-zero}
+use native.Mathlib.Nat.{mul-add}
 use native.Mathlib.Omega.{arith}
-use borrow.Author.Tests.{le-leb, lt-leb, le-ltb, lt-ltb, ltb-true, ltb-false, leb-true, eqb-true, eq-eqb, not-true, not-false}
-use lib.Dec.{leb, ltb, eqb}
-use lib.ListN.{length, replicate, length-replicate}
+use borrow.Author.Tests.{le-leb, lt-leb, le-ltb, lt-ltb, ltb-true, ltb-false, eqb-true, eq-eqb, not-true, not-false}
+use lib.Dec.{leb, eqb}
+use lib.ListN.{length, drop, replicate, length-replicate}
 use Rattle.base.specs.Sum.{sum, on}
 use Rattle.base.specs.Fill.{filled}
 use Rattle.base.specs.Below.{every, least, greatest}
-use Rattle.base.proofs.SumLaws.{sum-ext, sum-mono, sum-add, sum-swap}
-use Rattle.base.proofs.Choice.{on-mono}
+use Rattle.base.proofs.SumLaws.{sum-mono, sum-add, sum-swap}
 use Rattle.base.proofs.Below.{every-at, every-all, least-attained}
-use Rattle.base.proofs.Logic.{if-true, if-less, both, below-or-last}
+use Rattle.base.proofs.Logic.{if-true, if-less, both}
 use Rattle.plan.specs.Edition.{places}
 use Rattle.plan.specs.Refusal.{unsound, bufferTooShort, releasesDiffer, noTimetable}
 use Rattle.plan.specs.Report.{Report, isNone, isOneOf, numberOf, doneNumber, orElse, first, fault}
@@ -27,16 +26,19 @@ use Rattle.plan.proofs.Reports.{none-empty, none-first, none-plain, empty-none,
 use Rattle.judge.specs.Verdict.{judged}
 use Rattle.judge.specs.Slack.{through}
 use Rattle.desk.specs.Timetable.{placing, turnsAt, classPlaced, allRoom, timetable}
-use Rattle.desk.specs.Pairs.{sizesDue, asked, carries, isEnd, isShort, pairAt, pairFault}
-use Rattle.desk.specs.Desk.{oneRelease, jobsFault, shortageOf, drawFault, tableAfter, tableLeft}
+use Rattle.desk.specs.Pairs.{asked, carries, isEnd, isShort, pairAt, pairFault}
+use Rattle.desk.specs.Desk.{oneRelease, jobsFault, shortageOf, drawFault, tableLeft}
 use Rattle.desk.specs.Answers.{shortageView, TellsShortage, DrawsUp}
 use Rattle.desk.specs.declared.answers.Shortage.{Shortage}
 use Rattle.desk.specs.declared.answers.Shortage.the-variants.{Nothing, Unsound, ReleasesDiffer, Pair}
-use Rattle.desk.proofs.Closed.{pairs-carried}
 use Rattle.desk.proofs.Accepted.{drawn-accepted}
-use Rattle.promises.specs.Grounds.{SoundJobs, OneRelease, SomeTable, DrawDecided, draw-short, draw-unsound, draw-releases, draw-none, drawn-up, FirstShort}
+use Rattle.desk.proofs.Alone.{timetable-alone}
+use Rattle.plan.proofs.Soundness.{rules-bounded}
+use Rattle.hostmemory.specs.Memory.{shortPlan, planOf}
+use Rattle.gateway.specs.Calls.{drawCall}
+use Rattle.promises.specs.Grounds.{OneRelease, SomeTable, DrawDecided, draw-short, draw-unsound, draw-releases, draw-none, drawn-up, FirstShort}
 use Rattle.promises.proofs.Cases.{job, planWith, tableOf, capitalMirror, smallMirror, tableE, P5}
-use Rattle.promises.proofs.FloorTail.{Facts, Good, before, tail, rises, before-size, tail-reached, floor-tail, class}
+use Rattle.promises.proofs.FloorTail.{Facts, Good, before, tail, rises, tail-reached, floor-tail, class}
 use Rattle.promises.proofs.CallAsSlot.{factsOf, good-plan}
 use Rattle.promises.proofs.Demand2.{judge-is-exact}
 use Rattle.promises.proofs.Exactly.{rules-exactly}
@@ -233,6 +235,34 @@ drawn-is-accepted p table none =
             rw (le-ltb (length table) places long, held, one, pairs) (drawn-accepted p held one pairs table long))
             (λ differ. absurd (false≢true (ap isNone (rw differ at rest))))
 
+-- What the desk leaves: after 22 and 21 the table as it was, after 28 and 29 zeros in its own places, and otherwise the timetable, which does
+-- not depend on what the table held. The places behind the table's own stay in any case.
+pub draw-leaves : (p : Plan) (table : List ℕ)
+    → ((isOneOf (bufferTooShort ∷ unsound ∷ []) (numberOf (drawFault p table)) ≡ true) × (tableLeft p table ≡ table))
+    ⊎ ((isOneOf (releasesDiffer ∷ noTimetable ∷ []) (numberOf (drawFault p table)) ≡ true) × (tableLeft p table ≡ replicate places 0 ++ drop places table))
+    ⊎ ((numberOf (drawFault p table) ≡ doneNumber) × (front : List ℕ) × (length front ≡ places)
+    × ((other : List ℕ) → places ≤ length other → tableLeft p other ≡ front ++ drop places other))
+unfolding drawFault shortageOf tableLeft
+draw-leaves p table =
+    if-less (length table) places
+    (λ short. inl (rw (lt-ltb (length table) places short) (refl, refl)))
+    (λ long. rw (le-ltb (length table) places long)
+    (if-true (rulesHold p)
+    (λ held. inr (if-true (oneRelease p)
+    (λ one. if-true (isNone (pairFault p))
+    (λ e. inr (drawn held one (none-empty (pairFault p) e)))
+    (λ e. let w = named-pair p e in inl (rw (held, one, w .2) (refl, refl))))
+    (λ differ. inl (rw (held, differ) (refl, refl)))))
+    (λ broken. inl (rw broken (refl, refl)))))
+  where
+    drawn : (held : rulesHold p ≡ true) (one : oneRelease p ≡ true) (pairs : pairFault p ≡ [])
+        → (numberOf (orElse (fault (not (rulesHold p)) (unsound ∷ [])) (jobsFault p)) ≡ doneNumber) × (front : List ℕ) × (length front ≡ places)
+        × ((other : List ℕ) → places ≤ length other → tableLeft p other ≡ front ++ drop places other)
+    drawn held one pairs =
+        let bounds = rules-bounded p held in
+        let alone = timetable-alone p (bounds .spans) (omega (arith, bounds .few, bounds .count)) in
+        (rw (held, one, pairs) refl, alone .0, alone .1, λ other long. rw (le-ltb (length other) places long, held, one, pairs) (alone .2 other))
+
 -- A pair is named exactly with 29, which the desk then answers.
 pub pair-with-29 : (p : Plan) (table : List ℕ) → places ≤ length table
     → ((numberOf (drawFault p table) ≡ noTimetable) ↔ ((D E : ℕ) × (shortageOf p ≡ noTimetable ∷ D ∷ E ∷ asked p D E ∷ carries p D E ∷ []) × FirstShort p D E))
@@ -277,6 +307,11 @@ draw-numbers p table = told (numberOf (drawFault p table)) (draw-exactly p table
     told number (draw-releases long sound differ) = refl
     told number (draw-none long sound one none) = refl
     told number (drawn-up long sound one some) = refl
+
+-- The same of the calls for hosts.
+pub host-draw-numbers : (plan table : List ℕ) → isOneOf (doneNumber ∷ bufferTooShort ∷ unsound ∷ releasesDiffer ∷ noTimetable ∷ []) (drawCall plan table .number) ≡ true
+unfolding drawCall
+host-draw-numbers plan table = if-true (shortPlan plan) (λ short. rw short refl) (λ long. rw long (draw-numbers (planOf plan) table))
 
 -- One result meets each of the desk's promises.
 pub one-drawing : (p : Plan) (table : List ℕ) (r s : ℕ) (left other : List ℕ) → DrawsUp p table r left → DrawsUp p table s other → (r ≡ s) × (left ≡ other)

@@ -6,7 +6,7 @@ use mathlib.Core.Bool.{true, false}
 use mathlib.Core.List.{List, [], _∷_}
 use Prim.Native.Nat.{ℕ, _≤_, _<_}
 use lib.ListN.{length, take}
-use Rattle.plan.specs.Kinds.{Bytes, Row, Table}
+use Rattle.plan.specs.Kinds.{Row, Table}
 use Rattle.plan.specs.Edition.{nameBytes, mostJobs, mostIntervals, mostRate, mostDeadline, mostSize, places, mostSpeeds}
 use Rattle.plan.specs.Refusal.{clockAtEnd, speedAboveNormal, unsound, bufferTooShort, noSuchJob, cannotEnd, tooManySpeeds, releasesDiffer, noTimetable}
 use Rattle.plan.specs.Report.{Report, doneNumber}
