@@ -1,5 +1,6 @@
 -- Laws of finite sums, for any length.
 use mathlib.Core.Path.{_≡_, refl, sym, _∙_, ap, ap₂}
+use mathlib.Core.Logic.{_≢_}
 use Prim.Native.Nat.{ℕ, zero, suc, _+_, _*_, _≤_, _<_}
 use native.Mathlib.Nat.{suc-mul, add-zero, add-suc}
 use native.Mathlib.Numerals.{add-one}
@@ -72,3 +73,25 @@ same-terms f g (suc n) h e k l =
     below-or-last k n l
     (λ m. same-terms f g n (λ j b. h j (omega arith)) (omega (arith, less, h n (omega arith))) k m)
     (λ q. rw q (omega (arith, less, h n (omega arith))))
+
+-- A sum, its first term apart.
+pub sum-front : (f : ℕ → ℕ) (n : ℕ) → sum f (suc n) ≡ f 0 + sum (λ k. f (suc k)) n
+unfolding sum
+sum-front f zero = omega arith
+sum-front f (suc n) = omega (arith, sum-front f n)
+
+-- A sum in which one term is larger by r is larger by r.
+pub sum-raised : (f g : ℕ → ℕ) (n i r : ℕ) → i < n → ((k : ℕ) → k < n → k ≢ i → g k ≡ f k) → g i ≡ f i + r → sum g n ≡ sum f n + r
+unfolding sum
+sum-raised f g (suc n) i r h same more =
+    below-or-last i n h
+    (λ l. omega (arith, sum-raised f g n i r l (λ k b. same k (omega arith)) more, same n (omega arith) (λ e. absurd (omega (arith, e)))))
+    (λ e. omega (arith, sum-ext g f n (λ k b. same k (omega arith) (λ q. absurd (omega (arith, q, e)))), rw e at more))
+
+-- Terms that are at most others, one of them by r less, sum to r less at least.
+pub sum-room : (f g : ℕ → ℕ) (n i r : ℕ) → i < n → ((k : ℕ) → k < n → f k ≤ g k) → f i + r ≤ g i → sum f n + r ≤ sum g n
+unfolding sum
+sum-room f g (suc n) i r h less more =
+    below-or-last i n h
+    (λ l. omega (arith, sum-room f g n i r l (λ k b. less k (omega arith)) more, less n (omega arith)))
+    (λ e. omega (arith, sum-mono f g n (λ k b. less k (omega arith)), rw e at more))

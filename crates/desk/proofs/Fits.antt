@@ -8,10 +8,9 @@ use native.Mathlib.Omega.{arith}
 use borrow.Author.Tests.{le-leb, lt-leb, leb-true}
 use lib.Dec.{leb}
 use Rattle.base.specs.Sum.{sum, on}
-use Rattle.base.proofs.SumLaws.{sum-ext, sum-mono, sum-none, sum-add, sum-split, sum-swap}
+use Rattle.base.proofs.SumLaws.{sum-ext, sum-mono, sum-none, sum-add, sum-split, sum-swap, sum-room}
 use Rattle.base.proofs.Choice.{on-mono, on-none, on-sum, on-less}
 use Rattle.base.proofs.Logic.{if-same, if-less, if-true, and-left, both, below-or-last}
-use Rattle.desk.proofs.Sums.{sum-room}
 use Rattle.desk.proofs.Kept.{Ground, Good, State, loLoad, hiLoad, Kept, rises, load-parts}
 
 -- Two numbers under a condition are at most a third, if their sum is.

@@ -1,6 +1,6 @@
 -- What the desk keeps while it places one job after the other, for jobs and intervals given as functions: no room is
--- passed over. So a LO job has nothing before an interval that the LO jobs leave room in, and a HI job nothing after one that the
--- jobs up to its deadline leave room in.
+-- passed over. Where the LO jobs leave room in an interval, a LO job due after its start has nothing before it; where the LO jobs and
+-- the HI jobs due by a HI job's deadline leave room in one, that job has nothing after it.
 use mathlib.Core.Path.{_≡_, refl, sym, _∙_, ap}
 use mathlib.Core.Logic.{_≢_}
 use mathlib.Core.Bool.{Bool, true, false, not, _&&_, true≢false}
@@ -9,10 +9,9 @@ use native.Mathlib.Omega.{arith}
 use borrow.Author.Tests.{le-leb, lt-leb}
 use lib.Dec.{leb}
 use Rattle.base.specs.Sum.{sum, on}
-use Rattle.base.proofs.SumLaws.{sum-ext, sum-mono, sum-none, sum-add}
+use Rattle.base.proofs.SumLaws.{sum-ext, sum-mono, sum-none, sum-add, sum-raised}
 use Rattle.base.proofs.Choice.{on-mono, on-none}
 use Rattle.base.proofs.Logic.{if-same, if-less, if-true, and-left}
-use Rattle.desk.proofs.Sums.{sum-raised}
 
 -- N jobs with deadlines, sizes and grades; K intervals with their boundaries and capacities.
 pub record Ground : Type 0 where

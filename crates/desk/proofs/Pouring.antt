@@ -1,4 +1,4 @@
--- What placing the units of one job does: a closed form of its row and of the rooms after it.
+-- What placing the units of one job does: its row in one formula, and the rooms after it.
 use mathlib.Core.Path.{_≡_, refl, sym, _∙_, ap, ap₂}
 use mathlib.Core.Logic.{_≢_}
 use mathlib.Core.Bool.{Bool}

@@ -1,6 +1,6 @@
 -- When a timetable exists, in closed form: for each time D that is a HI deadline or the common release, and each
 -- time E that is a LO deadline or the common release, the link can carry what is asked of it by D and E.
--- (promises/proofs/Desk: exactly then some table is accepted.)
+-- (promises/proofs/Timetables, `closed-form-decides`: exactly then some table is accepted.)
 use mathlib.Core.Bool.{Bool, true, false, not, _&&_, _||_}
 use mathlib.Core.List.{[], _∷_}
 use Prim.Native.Nat.{ℕ, suc, _+_, _*_, _-_}
@@ -15,26 +15,26 @@ use Rattle.plan.specs.Boundaries.{boundary, intervals}
 use Rattle.plan.specs.declared.kinds.Plan.{Plan}
 use Rattle.desk.specs.Timetable.{inClass}
 
--- The sizes of the jobs of a class that are due at or before a time, together.
-abbrev pub sizesDue : (p : Plan) (back : Bool) (t : Time) → Amount
-sizesDue p back t = sum (λ i. on (inClass p back i && leb (deadline p i) t) (size p i)) (counted p)
+-- The sizes of the LO jobs, or of the HI jobs, that are due at or before a time, together.
+abbrev pub sizesDue : (p : Plan) (lo : Bool) (t : Time) → Amount
+sizesDue p lo t = sum (λ i. on (inClass p lo i && leb (deadline p i) t) (size p i)) (counted p)
 
--- A time is the deadline of a counted job of a class.
-abbrev pub isDeadline : (p : Plan) (back : Bool) (t : Time) → Bool
-isDeadline p back t = not (every (λ i. not (inClass p back i && eqb (deadline p i) t)) (counted p))
+-- A time is the deadline of a counted LO job, or of a HI job.
+abbrev pub isDeadline : (p : Plan) (lo : Bool) (t : Time) → Bool
+isDeadline p lo t = not (every (λ i. not (inClass p lo i && eqb (deadline p i) t)) (counted p))
 
 -- What is asked of the link by D and E: the HI jobs due by D, and the LO jobs due by E.
 abbrev pub asked : (p : Plan) (D E : Time) → Amount
 asked p D E = sizesDue p false D + sizesDue p true E
 
--- What the link surely carries of it: n in each slot up to E, and d in each from there to D. The times begin with
--- the first boundary, the common release.
+-- What the link carries if it keeps n up to E and drops to d from there to D. The times begin with the first
+-- boundary, the common release.
 abbrev pub carries : (p : Plan) (D E : Time) → Amount
 carries p D E = p .n .0 * (E - boundary p 0) + p .d .0 * (D - E)
 
--- Boundary m is the common release, or a deadline of the class.
-abbrev pub isEnd : (p : Plan) (back : Bool) (m : ℕ) → Bool
-isEnd p back m = eqb m 0 || isDeadline p back (boundary p m)
+-- Boundary m is the common release, or the deadline of a LO job, or of a HI job.
+abbrev pub isEnd : (p : Plan) (lo : Bool) (m : ℕ) → Bool
+isEnd p lo m = eqb m 0 || isDeadline p lo (boundary p m)
 
 -- More is asked by boundaries m and k than the link carries.
 abbrev pub isShort : (p : Plan) (m k : ℕ) → Bool

@@ -10,7 +10,7 @@ ghost use Rattle.plan.specs.Report.{isNone, numberOf};
 ghost use Rattle.desk.specs.Answers.{shortageView};
 
 // Nothing is short; or rules 4 to 9 do not hold; or releases differ; or the first pair of times by which
-// no timetable exists, HI deadline and LO deadline, with what is asked and what the link carries.
+// no timetable exists, a HI and a LO deadline or the common release for either, with what is asked and what the link carries.
 pub enum Shortage {
     Nothing,
     Unsound,

@@ -15,10 +15,9 @@ ghost use Rattle.base.specs.Sum.{sum, on};
 ghost use Rattle.base.specs.Fill.{filled};
 ghost use Rattle.base.specs.Below.{every};
 ghost use Rattle.plan.specs.Edition.{mostJobs, mostBoundaries};
-ghost use Rattle.plan.specs.Boundaries.{lastSlot};
 ghost use Rattle.plan.specs.Report.{first};
 ghost use Rattle.desk.specs.Answers.{shortageView};
-ghost use Rattle.desk.specs.inner.Lists.{isOf, dueSize, isDueAt, endAt, mostSum, pairIn, pairsFrom};
+ghost use Rattle.desk.specs.inner.Lists.{isOf, dueSize, isDueAt, endAt, mostInColumn, mostSum, pairIn, pairsFrom};
 
 // Whether a grade is of the class that is taken from the back, LO, or of the one from the front, HI.
 pub(crate) fn is_of(back: bool, grade: u32) -> bool
@@ -30,7 +29,7 @@ pub(crate) fn is_of(back: bool, grade: u32) -> bool
 
 // The size if it is wanted, otherwise 0.
 fn wanted_size(wanted: bool, size: u32) -> Units
-    ensures { λ r. ⌜ (r .0 ≡ on wanted size) × (r .0 ≤ lastSlot) ⌝ }
+    ensures { λ r. ⌜ (r .0 ≡ on wanted size) × (r .0 ≤ mostInColumn) ⌝ }
 {
     if wanted { Units(size as u64) } else { Units(0) }
 }
@@ -45,7 +44,7 @@ fn sizes_due(
     deadlines: &[u32; Edition::MOST_JOBS],
 ) -> Units
     requires { ⌜ jobs ≤ mostJobs ⌝ }
-    ensures { λ r. ⌜ (r .0 ≡ sum (dueSize back (now (grades .entry)) (now (sizes .entry)) (now (deadlines .entry)) time) jobs) × (r .0 ≤ jobs * lastSlot) ⌝ }
+    ensures { λ r. ⌜ (r .0 ≡ sum (dueSize back (now (grades .entry)) (now (sizes .entry)) (now (deadlines .entry)) time) jobs) × (r .0 ≤ jobs * mostInColumn) ⌝ }
 {
     let mut total = Units(0);
     let mut i = 0;

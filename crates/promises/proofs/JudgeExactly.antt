@@ -25,14 +25,14 @@ use Rattle.judge.proofs.HandFault.{hand-sound}
 use Rattle.judge.proofs.FirstLocation.{every-place-is-the-first}
 
 -- A search is empty if every report is, and otherwise gives the first that is not.
-first-none : (f : ℕ → Report) (n : ℕ) → ((k : ℕ) → k < n → f k ≡ []) → first f n ≡ []
+pub first-none : (f : ℕ → Report) (n : ℕ) → ((k : ℕ) → k < n → f k ≡ []) → first f n ≡ []
 first-none f n none = none-empty (first f n) (none-first f n ∙ every-all (λ k. isNone (f k)) n (λ k l. ap isNone (none k l)))
 
 first-is : (f : ℕ → Report) (n k number : ℕ) (rest : Report) → k < n → ((j : ℕ) → j < k → f j ≡ []) → f k ≡ number ∷ rest → first f n ≡ number ∷ rest
 first-is f n k number rest l before e = sym (found-here f k n number rest (first-none f k before) l e)
 
 -- The report of a fault that is absent, and of one that is present.
-absent : (t : Bool) (report : Report) → t ≡ false → fault t report ≡ []
+pub absent : (t : Bool) (report : Report) → t ≡ false → fault t report ≡ []
 absent t report e = ap (λ b. fault b report) e
 
 present : (t : Bool) (report : Report) → t ≡ true → fault t report ≡ report

@@ -28,11 +28,11 @@ pub mod IdleSlots
 pub mod FoldedNames
 pub mod PromiseLimits
 pub mod Exactly
+pub mod JudgeExactly
 pub mod Timetables
 pub mod AllDemands
 pub mod HostNights
 pub mod ReadWords
 pub mod RefusalOrder
-pub mod JudgeExactly
 pub mod ReaderExactly
 pub mod WrongField

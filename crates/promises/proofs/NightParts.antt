@@ -11,7 +11,7 @@ use native.Mathlib.Omega.{arith}
 use lib.Dec.{eqb}
 use lib.ListN.{length, getD, set, take, drop, length-set}
 use Rattle.base.specs.Sum.{sum, on}
-use Rattle.base.proofs.SumLaws.{sum-ext, sum-split, sum-step, sum-start}
+use Rattle.base.proofs.SumLaws.{sum-ext, sum-start, sum-front}
 use Rattle.plan.specs.Refusal.{clockAtEnd, speedAboveNormal, unsound, bufferTooShort}
 use Rattle.plan.specs.Report.{Report, doneNumber, numberOf}
 use Rattle.plan.specs.Rules.{counted}
@@ -118,13 +118,6 @@ pub slot-number-done : (p : Plan) (table : List ℕ) (run : Run) (v : ℕ) (gran
     → eqb (numberOf (stepped p table run v grants .answer)) doneNumber ≡ isDone (stepped p table run v grants .answer)
 slot-number-done p table run v grants =
     number-tells (clockAtEnd ∷ speedAboveNormal ∷ unsound ∷ bufferTooShort ∷ []) (stepped p table run v grants .answer) refl (step-numbers p table run v grants)
-
--- A sum, its first term apart.
-sum-front : (f : ℕ → ℕ) (n : ℕ) → sum f (suc n) ≡ f 0 + sum (λ j. f (suc j)) n
-sum-front f n =
-    let one : suc n ≡ 1 + n = omega arith in
-    ap (sum f) one ∙ sum-split f 1 n
-    ∙ ap₂ _+_ (sum-step f 0 ∙ ap (λ s. s + f 0) (sum-start f) ∙ zero-add (f 0)) (sum-ext _ _ n (λ j l. let next : 1 + j ≡ suc j = omega arith in ap f next))
 
 -- What the calls of a shift, from the one numbered k on, gave to a job stands in the rows that have number 0.
 had-from : (p q : Plan) (table : List ℕ) (k : ℕ) (speeds : List ℕ) (run : Run) (rows numbers : List ℕ) (earlier : List Call) (i : ℕ)

@@ -1,8 +1,8 @@
 -- The three demands, in full. `all-demands-are-met` (proofs/AllDemands) proves them.
 --
 -- What they rest on: `reader` (planfile/specs/Reader), `writer` (planwriter/specs/Writing),
--- `judged` and `Figure2` (judge/specs), `stepped`, `order`, `serve` and `due` (dispatch/specs),
--- `Kept` (Night, beside this file), `callsOf` and `AllowedParts` (NightParts).
+-- `judged` and `Figure2` (judge/specs), `drawFault`, `tableLeft` and `shortageOf` (desk/specs/Desk), `stepped`, `order`, `serve` and `due`
+-- (dispatch/specs), `Kept` (Night, beside this file), `callsOf` and `AllowedParts` (NightParts).
 use mathlib.Core.Path.{_≡_}
 use mathlib.Core.Bool.{true}
 use mathlib.Core.List.{List, [], _++_}

@@ -2,11 +2,11 @@
 -- a run, and what each answer says: its ground holds, and no ground that is tested before it does.
 use mathlib.Core.Path.{_≡_}
 use mathlib.Core.Logic.{_≢_, _⊎_}
-use mathlib.Core.Bool.{true, false}
+use mathlib.Core.Bool.{Bool, true, false}
 use mathlib.Core.List.{List, [], _∷_}
 use Prim.Native.Nat.{ℕ, _≤_, _<_}
 use lib.ListN.{length, take}
-use Rattle.plan.specs.Kinds.{Row, Table}
+use Rattle.plan.specs.Kinds.{Row, Table, Time}
 use Rattle.plan.specs.Edition.{nameBytes, mostJobs, mostIntervals, mostRate, mostDeadline, mostSize, places, mostSpeeds}
 use Rattle.plan.specs.Refusal.{clockAtEnd, speedAboveNormal, unsound, bufferTooShort, noSuchJob, cannotEnd, tooManySpeeds, releasesDiffer, noTimetable}
 use Rattle.plan.specs.Report.{Report, doneNumber}
@@ -15,6 +15,7 @@ use Rattle.plan.specs.Boundaries.{boundary, intervals, firstRelease, lastDeadli
 use Rattle.plan.specs.Table.{allotment}
 use Rattle.plan.specs.declared.kinds.Plan.{Plan}
 use Rattle.judge.specs.Verdict.{judged}
+use Rattle.desk.specs.Timetable.{inClass}
 use Rattle.desk.specs.Pairs.{asked, carries, isEnd}
 use Rattle.planwriter.specs.Writing as writing
 use Rattle.planwriter.specs.Writing.{written}
@@ -148,6 +149,14 @@ OneRelease p = (i k : ℕ) → i < counted p → k < counted p → release p i �
 -- Some table whatever is accepted for a plan's rates and jobs.
 abbrev pub SomeTable : Plan → Type 0
 SomeTable p = (table : Table) × (judged p table ≡ [])
+
+-- A time of the closed form: the common release, or the deadline of a counted LO job, or of a HI job.
+abbrev pub IsTime : (p : Plan) (lo : Bool) (t : Time) → Type 0
+IsTime p lo t = (t ≡ firstRelease p) ⊎ ((i : ℕ) × (i < counted p) × (inClass p lo i ≡ true) × (deadline p i ≡ t))
+
+-- The closed form: by no two times more is asked than the link carries.
+abbrev pub ClosedForm : Plan → Type 0
+ClosedForm p = (D E : Time) → IsTime p false D → IsTime p true E → asked p D E ≤ carries p D E
 
 -- What the number of the desk says, by case in its order.
 pub data DrawDecided (p : Plan) (table : List ℕ) : ℕ → Type 0 where

@@ -32,12 +32,16 @@ dueSize back grades sizes deadlines t i = on (isOf back (getD grades i 0) && leb
 abbrev pub isDueAt : (back : Bool) (grades deadlines : List ℕ) (t : Time) (i : ℕ) → Bool
 isDueAt back grades deadlines t i = isOf back (getD grades i 0) && eqb (getD deadlines i 0) t
 
--- One more than the sizes of a class that are due at or before time m of some, if m is 0 or a job of the class is due
--- then; otherwise 0.
+-- One more than the sizes of a class that are due at or before entry m of `times`, if m is 0 or a job of the class is
+-- due then; otherwise 0.
 abbrev pub endAt : (jobs : ℕ) (back : Bool) (times grades sizes deadlines : List ℕ) (m : ℕ) → ℕ
 endAt jobs back times grades sizes deadlines m =
     on (eqb m 0 || not (every (λ i. not (isDueAt back grades deadlines (getD times m 0) i)) jobs))
     (suc (sum (dueSize back grades sizes deadlines (getD times m 0)) jobs))
+
+-- The greatest number that a column holds, of 32 bits.
+abbrev pub mostInColumn : ℕ
+mostInColumn = 4_294_967_295
 
 -- More than any sum of sizes.
 abbrev pub mostSum : ℕ
@@ -49,6 +53,6 @@ pairIn n d start D E high low =
     fault (not (eqb high 0) && not (eqb low 0) && ltb (n * (E - start) + d * (D - E)) (high - 1 + (low - 1)))
     (noTimetable ∷ D ∷ E ∷ (high - 1 + (low - 1)) ∷ (n * (E - start) + d * (D - E)) ∷ [])
 
--- The first such pair with a time D.
+-- The report of time D with entry k of `times`.
 abbrev pub pairsFrom : (n d : ℕ) (times : Times) (D : Time) (high : ℕ) (lows : List ℕ) (k : ℕ) → Report
 pairsFrom n d times D high lows k = pairIn n d (getD times 0 0) D (getD times k 0) high (getD lows k 0)

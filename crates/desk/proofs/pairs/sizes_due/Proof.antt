@@ -8,15 +8,14 @@ use lib.Dec.{leb}
 use lib.ListN.{getD}
 use Rattle.base.specs.Sum.{sum, on}
 use Rattle.base.proofs.SumLaws.{sum-start}
-use Rattle.plan.specs.Boundaries.{lastSlot}
 use Rattle.judge.proofs.RunningSums.{sum-next}
-use Rattle.desk.specs.inner.Lists.{dueSize}
+use Rattle.desk.specs.inner.Lists.{dueSize, mostInColumn}
 use Rattle.desk.proofs.pairs.sizes_due.Statement.{statement}
 use Rattle.desk.proofs.pairs.sizes_due.Tie as tie
 
 abbrev Inv-loop : tie.InvT-loop
 Inv-loop jobs back time grades sizes deadlines total₀ i₀ total i =
-    (i ≤ jobs) × (total .0 ≡ sum (dueSize back grades sizes deadlines time) i) × (total .0 ≤ i * lastSlot)
+    (i ≤ jobs) × (total .0 ≡ sum (dueSize back grades sizes deadlines time) i) × (total .0 ≤ i * mostInColumn)
 
 abbrev μ-loop : tie.MeasureT-loop
 μ-loop jobs back time grades sizes deadlines total₀ i₀ total i = jobs - i
