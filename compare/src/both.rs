@@ -4,6 +4,8 @@
 
 use std::fmt;
 
+use reference::refusal::DONE;
+
 use crate::buffer::{Lent, Spot};
 use crate::tally::{Call, Tally};
 
@@ -25,12 +27,15 @@ pub enum Part {
     Number,
     /// A word of one of the buffers, which are counted from 0 in the order of the call's pointers.
     Word(usize, Spot),
-    /// The offset, where read or import answers this number. It is the last buffer of both.
-    Offset(u32),
+    /// A word of the last buffer, where the call answers this number: the offset of read and import, the
+    /// pair of shortage.
+    Last(u32, usize),
     /// A word of what the wrapper makes of the answer.
     Wrapped(usize),
     /// A word of what single calls come to at the speeds of shifts.
     Singly(usize),
+    /// What the judge says of a timetable that was drawn up.
+    Judged,
 }
 
 /// Which word of the wrapper's answer to read and import is the offset.
@@ -64,8 +69,8 @@ impl Both {
         match self.spoilt_part(call) {
             Some(Part::Number) => got += 1,
             Some(Part::Word(k, spot)) => buffers[k].spoil(spot),
-            Some(Part::Offset(number)) if number == counted => {
-                buffers[buffers.len() - 1].spoil(Spot::First)
+            Some(Part::Last(number, word)) if number == counted => {
+                buffers[buffers.len() - 1].spoil(Spot::At(word))
             }
             _ => (),
         }
@@ -110,6 +115,13 @@ impl Both {
             singly[word] += 1;
         }
         equal(Call::Shift, "single calls", singly, shifted)
+    }
+
+    /// Compares what the judge says of a timetable that was drawn up with what it has to say.
+    pub fn agree_drawn(&mut self, verdict: u32) -> Result<(), Difference> {
+        let is_spoilt = self.spoilt_part(Call::Draw) == Some(Part::Judged);
+        let judged = u64::from(verdict) + u64::from(is_spoilt);
+        equal(Call::Draw, "the judge", vec![judged], vec![DONE.into()])
     }
 
     fn spoilt_part(&self, call: Call) -> Option<Part> {

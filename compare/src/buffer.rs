@@ -46,6 +46,8 @@ pub enum Spot {
     First,
     Last,
     FirstAfter,
+    /// So many words after the first one.
+    At(usize),
 }
 
 pub const SPOTS: [Spot; 4] = [Spot::LastBefore, Spot::First, Spot::Last, Spot::FirstAfter];
@@ -195,6 +197,7 @@ impl<T: Word> Lent for Buffer<T> {
             Spot::First => self.begins,
             Spot::Last => self.begins + self.lent - 1,
             Spot::FirstAfter => self.begins + self.lent,
+            Spot::At(word) => self.begins + word,
         };
         self.archive[at] = self.archive[at].spoilt();
     }

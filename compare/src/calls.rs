@@ -118,6 +118,23 @@ impl Both {
         self.finish(Call::Slack, got, expected, &mut [plan, table, slack, location])
     }
 
+    pub fn draw(&mut self, memory: &mut Memory) -> Result<u32, Difference> {
+        let Memory { plan, table, .. } = memory;
+        let (places, length) = (table.archive_mut(), table.lent());
+        let got = unsafe { gateway_draw(plan.archive(), plan.lent(), places, length) };
+        let expected = model::draw(plan.model(), table.model_mut());
+        self.finish(Call::Draw, got, expected, &mut [plan, table])
+    }
+
+    pub fn shortage(&mut self, memory: &mut Memory) -> Result<u32, Difference> {
+        memory.pair.renew();
+        let Memory { plan, pair, .. } = memory;
+        let (words, length) = (pair.archive_mut(), pair.lent());
+        let got = unsafe { gateway_shortage(plan.archive(), plan.lent(), words, length) };
+        let expected = model::shortage(plan.model(), pair.model_mut());
+        self.finish(Call::Shortage, got, expected, &mut [plan, pair])
+    }
+
     pub fn start(&mut self, memory: &mut Memory) -> Result<u32, Difference> {
         memory.location.renew();
         let Memory {

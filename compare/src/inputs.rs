@@ -1,18 +1,19 @@
-//! All calls on one input: on a plan file with speeds, on a plan in hand with a run and speeds, on
-//! texts of job lists, and on a list in hand.
+//! All calls on one input: on a plan file with speeds, on a plan in hand with a run and speeds, on one
+//! for the desk, on texts of job lists, and on a list in hand.
 
 use gateway::{Plan, Run};
 use reference::edition::{LARGEST_FILE, MOST_JOBS, TABLE_PLACES};
-use reference::generate::{damaged_input, file, hand, job_list, job_text, quoted_list};
+use reference::generate::{damaged_input, desk_input, file, hand, job_list, job_text, quoted_list};
 use reference::generate::{fixed_files, fixed_hands, fixed_lists, fixed_texts};
 use reference::generate::{shift_input, words, Prng, Purpose};
-use reference::generate::{FileInput, HandInput, Lent, ListInput, ShiftInput};
+use reference::generate::{DeskInput, FileInput, HandInput, Lent, ListInput, ShiftInput};
 use reference::joblist::import;
 use reference::reader::reader;
 use reference::refusal::{DONE, TOO_SHORT};
 
 use crate::both::{Both, Difference};
 use crate::buffer::Buffer;
+use crate::desks::{answer, fixed_desks, on_desk};
 use crate::lists::{on_list, on_text};
 use crate::memory::Memory;
 use crate::night::{night, standings, Course, Wrapped};
@@ -35,6 +36,7 @@ const SHORTS_OF_A_PLAN: usize = 2;
 pub struct Fixed {
     files: Vec<FileInput>,
     hands: Vec<HandInput>,
+    desks: Vec<DeskInput>,
     texts: Vec<Vec<u8>>,
     lists: Vec<ListInput>,
 }
@@ -44,6 +46,7 @@ impl Fixed {
         Fixed {
             files: fixed_files(),
             hands: fixed_hands(),
+            desks: fixed_desks(),
             texts: fixed_texts(),
             lists: fixed_lists(),
         }
@@ -63,9 +66,15 @@ impl Fixed {
         Some(at as u64)
     }
 
-    /// The longest of the four lists counts.
+    /// The first input whose desk answers this number.
+    pub fn first_drawn_as(&self, number: u8) -> Option<u64> {
+        let at = self.desks.iter().position(|input| answer(input) == number)?;
+        Some(at as u64)
+    }
+
+    /// The longest of the lists counts.
     pub fn count(&self) -> u64 {
-        let plans = self.files.len().max(self.hands.len());
+        let plans = self.files.len().max(self.hands.len()).max(self.desks.len());
         plans.max(self.texts.len()).max(self.lists.len()) as u64
     }
 
@@ -73,6 +82,7 @@ impl Fixed {
         Input {
             file: self.files.get(at).cloned(),
             hand: self.hands.get(at).cloned(),
+            desk: self.desks.get(at).cloned(),
             texts: self.texts.get(at).cloned().into_iter().collect(),
             list: self.lists.get(at).cloned(),
         }
@@ -84,6 +94,7 @@ impl Fixed {
 pub struct Input {
     pub file: Option<FileInput>,
     pub hand: Option<HandInput>,
+    pub desk: Option<DeskInput>,
     pub texts: Vec<Vec<u8>>,
     pub list: Option<ListInput>,
 }
@@ -134,6 +145,7 @@ impl Source {
             Source::Drawn(Kind::Every, seed) => Input {
                 file: Some(file(*seed, number)),
                 hand: Some(hand(*seed, number)),
+                desk: Some(desk_input(*seed, number)),
                 texts: vec![job_text(*seed, number), quoted_list(*seed, number).1],
                 list: Some(job_list(*seed, number)),
             },
@@ -162,6 +174,9 @@ impl Source {
         }
         if let Some(hand) = &input.hand {
             on_hand(both, prng, hand, origin)?;
+        }
+        if let Some(desk) = &input.desk {
+            on_desk(both, prng, desk)?;
         }
         for text in &input.texts {
             on_text(both, prng, text)?;

@@ -7,6 +7,7 @@ mod both;
 mod buffer;
 mod calls;
 mod cases;
+mod desks;
 mod inputs;
 mod lists;
 mod memory;

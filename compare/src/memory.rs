@@ -6,7 +6,7 @@ use reference::edition::{MOST_JOBS, TABLE_PLACES};
 use reference::generate::{Lent, Prng, ShiftInput};
 
 use crate::buffer::Buffer;
-use crate::words::{JOB_COUNT, LIST_WORDS, LOCATION_WORDS, PLAN_WORDS, RUN_WORDS};
+use crate::words::{JOB_COUNT, LIST_WORDS, LOCATION_WORDS, PAIR_WORDS, PLAN_WORDS, RUN_WORDS};
 
 pub struct Memory {
     pub plan: Buffer<u64>,
@@ -14,6 +14,7 @@ pub struct Memory {
     pub run: Buffer<u32>,
     pub grants: Buffer<u32>,
     pub location: Buffer<u64>,
+    pub pair: Buffer<u64>,
     pub out: Buffer<u8>,
     pub written: Buffer<usize>,
     pub offset: Buffer<usize>,
@@ -23,7 +24,7 @@ pub struct Memory {
 }
 
 impl Memory {
-    /// Known words everywhere; plan, run and location are as long as they must be, or longer.
+    /// Known words everywhere; plan, run, location and pair are as long as they must be, or longer.
     pub fn known(prng: &mut Prng, lent: &Lent) -> Memory {
         let mut spare = || prng.pick(&[0, 0, 1, 5]);
         Memory {
@@ -32,6 +33,7 @@ impl Memory {
             run: Buffer::known("run", RUN_WORDS + spare()),
             grants: Buffer::known("grants", lent.grants),
             location: Buffer::known("location", LOCATION_WORDS + spare()),
+            pair: Buffer::known("pair", PAIR_WORDS + spare()),
             out: Buffer::known("out", lent.output),
             written: Buffer::known("written", 1),
             offset: Buffer::known("offset", 1),
@@ -57,6 +59,7 @@ impl Memory {
         self.run.lend_all();
         self.grants.lend_all();
         self.location.lend_all();
+        self.pair.lend_all();
         self.out.lend_all();
     }
 
@@ -75,6 +78,9 @@ impl Memory {
         }
         if prng.once_in(2) {
             self.location.lend(LOCATION_WORDS);
+        }
+        if prng.once_in(2) {
+            self.pair.lend(PAIR_WORDS);
         }
         if prng.once_in(2) {
             self.grants.lend(jobs);

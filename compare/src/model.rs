@@ -1,11 +1,12 @@
 //! What `gateway.h` says of each call, in terms of the reference: the number that it answers, and
 //! what it leaves in each lent buffer.
 
+use reference::desk::{draw_up, shortage as shortage_of, Shortage};
 use reference::joblist::{export as export_jobs, import as import_jobs, JobList};
 use reference::judge::judge as judge_plan;
 use reference::lookup::name_lookup;
 use reference::reader::reader;
-use reference::refusal::{Refusal, DONE, TOO_SHORT, UNSOUND};
+use reference::refusal::{Refusal, DONE, NO_TIMETABLE, TOO_SHORT, UNSOUND};
 use reference::run::{end as end_job, outcome as outcome_of, start as start_run, step as step_run};
 use reference::run::{Outcome, Run};
 use reference::shift::shift as shift_run;
@@ -13,7 +14,7 @@ use reference::slack::{slack_figure, SlackFigure};
 use reference::writer::writer;
 
 use crate::words::{list_of, plan_of, run_of, words_of_list, words_of_plan, words_of_run};
-use crate::words::{LIST_WORDS, LOCATION_WORDS, PLAN_WORDS, RUN_WORDS};
+use crate::words::{LIST_WORDS, LOCATION_WORDS, PAIR_WORDS, PLAN_WORDS, RUN_WORDS};
 
 /// Results that are no refusals.
 pub const NONE_ESSENTIAL: u32 = 256;
@@ -71,6 +72,29 @@ pub fn slack(plan: &[u64], table: &[u32], slack: &mut i64, location: &mut [u64])
         }
         Err(refusal) => put_refusal(location, &refusal),
     }
+}
+
+pub fn draw(plan: &[u64], table: &mut [u32]) -> u32 {
+    if plan.len() < PLAN_WORDS {
+        return TOO_SHORT.into();
+    }
+    draw_up(&plan_of(plan), table).into()
+}
+
+pub fn shortage(plan: &[u64], pair: &mut [u64]) -> u32 {
+    if plan.len() < PLAN_WORDS || pair.len() < PAIR_WORDS {
+        return TOO_SHORT.into();
+    }
+    let (number, words) = match shortage_of(&plan_of(plan)) {
+        Shortage::TimetableExists => (DONE, [0; PAIR_WORDS]),
+        Shortage::Refused(number) => (number, [0; PAIR_WORDS]),
+        Shortage::At(short) => {
+            let times = [short.essential.into(), short.other.into()];
+            (NO_TIMETABLE, [times[0], times[1], short.asked, short.carries])
+        }
+    };
+    pair[..PAIR_WORDS].copy_from_slice(&words);
+    number.into()
 }
 
 pub fn start(plan: &[u64], table: &[u32], run: &mut [u32], location: &mut [u64]) -> u32 {

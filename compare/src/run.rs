@@ -7,7 +7,7 @@ use crate::both::Both;
 use crate::cases;
 use crate::inputs::{Drawn, Fixed, Source};
 use crate::report::Report;
-use crate::show::{show_file, show_hand, show_list, show_text};
+use crate::show::{show_desk, show_file, show_hand, show_list, show_text};
 
 /// A line on standard error after every this many inputs.
 const INPUTS_TO_A_LINE: u64 = 100_000;
@@ -73,6 +73,7 @@ pub fn once_more(source: &Source, number: u64) -> Result<String, String> {
     let input = source.input(number);
     input.file.iter().for_each(show_file);
     input.hand.iter().for_each(show_hand);
+    input.desk.iter().for_each(show_desk);
     input.texts.iter().for_each(|text| show_text(text));
     input.list.iter().for_each(show_list);
     let mut both = Both {

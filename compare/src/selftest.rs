@@ -1,13 +1,14 @@
 //! Shows that the comparison sees wrong answers: words of each call's answers are changed on purpose,
 //! one at a time, and each has to be noticed.
 
-use reference::refusal::{DONE, HEADER, JOB_COUNT, LINE, TIMES_OR_SIZE};
+use reference::refusal::{DONE, HEADER, JOB_COUNT, LINE, NO_TIMETABLE, TIMES_OR_SIZE};
 use reference::refusal::{ROW_ORDER, TOO_SHORT, VERSION};
 
 use crate::both::{Both, Part, Spoil, WRAPPED_OFFSET};
 use crate::buffer::SPOTS;
 use crate::inputs::{Fixed, Source};
 use crate::tally::{Call, CALLS};
+use crate::words::PAIR_WORDS;
 
 /// Inputs in which every call is made and done.
 const INPUTS: [u64; 3] = [0, 1, 2];
@@ -16,19 +17,22 @@ const INPUTS: [u64; 3] = [0, 1, 2];
 fn pointers(call: Call) -> usize {
     match call {
         Call::Name => 1,
-        Call::End | Call::Outcome => 2,
+        Call::Draw | Call::Shortage | Call::End | Call::Outcome => 2,
         Call::Judge | Call::Import | Call::Export => 3,
         Call::Read | Call::Write | Call::Slack | Call::Start | Call::Step => 4,
         Call::Shift => 6,
     }
 }
 
-/// The number, the wrapper's answer, what single calls come to, and of each buffer the first and last
-/// word and the words of the border next to them.
+/// The number, the wrapper's answer, what single calls come to, what the judge says of a timetable, and
+/// of each buffer the first and last word and the words of the border next to them.
 fn parts(call: Call) -> Vec<Part> {
     let mut parts = vec![Part::Number, Part::Wrapped(0)];
     if call == Call::Shift {
         parts.push(Part::Singly(0));
+    }
+    if call == Call::Draw {
+        parts.push(Part::Judged);
     }
     for pointer in 0..pointers(call) {
         parts.extend(SPOTS.map(|spot| Part::Word(pointer, spot)));
@@ -36,10 +40,18 @@ fn parts(call: Call) -> Vec<Part> {
     parts
 }
 
+/// The words of a pair by which there is no timetable, and those that the wrapper makes of them.
+fn pair_parts() -> impl Iterator<Item = Part> {
+    let last = |word| Part::Last(NO_TIMETABLE.into(), word);
+    (0..PAIR_WORDS).flat_map(move |word| [last(word), Part::Wrapped(1 + word)])
+}
+
 /// How many changed words were noticed, or one that was not.
 pub fn self_test() -> Result<String, String> {
     let fixed = Fixed::new();
     let offsets = [reads(&fixed)?, imports(&fixed)?].concat();
+    let short = fixed.first_drawn_as(NO_TIMETABLE);
+    let short = short.ok_or("no fixed desk is without a timetable")?;
     let fixed = Source::Fixed(fixed);
     if let Some(seen) = first_seen(&fixed, &INPUTS, None) {
         return Err(format!("a difference where nothing was changed: {}", seen));
@@ -51,9 +63,13 @@ pub fn self_test() -> Result<String, String> {
         }
     }
     for (call, number, input) in offsets {
-        for part in [Part::Offset(number), Part::Wrapped(WRAPPED_OFFSET)] {
+        for part in [Part::Last(number, 0), Part::Wrapped(WRAPPED_OFFSET)] {
             noticed += notice(&fixed, &[input], Spoil { call, part })?;
         }
+    }
+    for part in pair_parts() {
+        let call = Call::Shortage;
+        noticed += notice(&fixed, &[short], Spoil { call, part })?;
     }
     Ok(format!(
         "compare: {} wrong words noticed, and no difference where nothing was changed",

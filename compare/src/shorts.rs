@@ -7,7 +7,7 @@ use crate::both::{Both, Difference};
 use crate::buffer::Buffer;
 use crate::memory::{Memory, Shift};
 use crate::tally::Call;
-use crate::words::{LOCATION_WORDS, PLAN_WORDS, RUN_WORDS};
+use crate::words::{LOCATION_WORDS, PAIR_WORDS, PLAN_WORDS, RUN_WORDS};
 
 /// The buffers that have a least length.
 #[derive(Clone, Copy, Debug, PartialEq, Eq)]
@@ -19,11 +19,12 @@ pub enum Which {
     Rows,
     Numbers,
     Location,
+    Pair,
     Out,
 }
 
 /// Each call on a plan in memory with each buffer that it asks for.
-pub const SHORTS: [(Call, Which); 26] = [
+pub const SHORTS: [(Call, Which); 30] = [
     (Call::Write, Which::Plan),
     (Call::Write, Which::Table),
     (Call::Write, Which::Out),
@@ -33,6 +34,10 @@ pub const SHORTS: [(Call, Which); 26] = [
     (Call::Slack, Which::Plan),
     (Call::Slack, Which::Table),
     (Call::Slack, Which::Location),
+    (Call::Draw, Which::Plan),
+    (Call::Draw, Which::Table),
+    (Call::Shortage, Which::Plan),
+    (Call::Shortage, Which::Pair),
     (Call::Start, Which::Plan),
     (Call::Start, Which::Table),
     (Call::Start, Which::Run),
@@ -73,6 +78,8 @@ pub fn short(
         Call::Write => both.write(memory)?,
         Call::Judge => both.judge(memory)?,
         Call::Slack => both.slack(memory)?,
+        Call::Draw => both.draw(memory)?,
+        Call::Shortage => both.shortage(memory)?,
         Call::Start => both.start(memory)?,
         Call::Step => both.step(memory, SPEED)?,
         Call::Shift => both.shift(memory, shift)?,
@@ -109,6 +116,7 @@ fn lend_short(prng: &mut Prng, memory: &mut Memory, shift: &mut Shift, which: Wh
         Which::Rows => shift.rows.lent(),
         Which::Numbers => shift.numbers.lent(),
         Which::Location => LOCATION_WORDS,
+        Which::Pair => PAIR_WORDS,
         Which::Out => memory.exact,
     };
     if needed == 0 {
@@ -123,6 +131,7 @@ fn lend_short(prng: &mut Prng, memory: &mut Memory, shift: &mut Shift, which: Wh
         Which::Rows => shift.rows.lend(length),
         Which::Numbers => shift.numbers.lend(length),
         Which::Location => memory.location.lend(length),
+        Which::Pair => memory.pair.lend(length),
         Which::Out => memory.out.lend(length),
     }
     true

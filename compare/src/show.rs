@@ -1,7 +1,8 @@
 //! An input as people read it.
 
+use reference::desk::shortage;
 use reference::edition::{MOST_INTERVALS, TABLE_PLACES};
-use reference::generate::{FileInput, HandInput, Lent, ListInput};
+use reference::generate::{DeskInput, FileInput, HandInput, Lent, ListInput};
 use reference::joblist::import;
 use reference::plan::{Job, Plan};
 use reference::reader::reader;
@@ -38,6 +39,13 @@ pub fn show_hand(input: &HandInput) {
     let ended: Vec<usize> = (0..run.ended.len()).filter(|&i| run.ended[i]).collect();
     println!("ended marks at {:?}", ended);
     show_rest(&input.lent, &input.speeds);
+}
+
+pub fn show_desk(input: &DeskInput) {
+    println!("plan in hand for the desk, before its words are twisted");
+    show_plan(&input.plan);
+    println!("lent: {} places of the table", input.table.len());
+    println!("why there is no timetable: {:?}", shortage(&input.plan));
 }
 
 pub fn show_text(text: &[u8]) {

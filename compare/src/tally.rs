@@ -5,8 +5,8 @@ use std::fmt;
 
 use reference::refusal::{
     ABOVE_RATE, AT_LAST_DEADLINE, CANNOT_END, DONE, FLOOR_RULE, HEADER, JOB_COUNT, LINE,
-    NO_SUCH_POSITION, OUTSIDE_WINDOW, ROW_ORDER, TIMES_OR_SIZE, TOO_MANY_SPEEDS, TOO_SHORT,
-    UNSOUND, VERSION,
+    NO_SUCH_POSITION, NO_TIMETABLE, OUTSIDE_WINDOW, RELEASES_DIFFER, ROW_ORDER, TIMES_OR_SIZE,
+    TOO_MANY_SPEEDS, TOO_SHORT, UNSOUND, VERSION,
 };
 
 use crate::model::{DISCARDED, ENDED, MET, MISSED, NONE_ESSENTIAL, OPEN};
@@ -19,6 +19,8 @@ pub enum Call {
     Write,
     Judge,
     Slack,
+    Draw,
+    Shortage,
     Start,
     Step,
     Shift,
@@ -28,12 +30,14 @@ pub enum Call {
     Export,
 }
 
-pub const CALLS: [Call; 12] = [
+pub const CALLS: [Call; 14] = [
     Call::Read,
     Call::Name,
     Call::Write,
     Call::Judge,
     Call::Slack,
+    Call::Draw,
+    Call::Shortage,
     Call::Start,
     Call::Step,
     Call::Shift,
@@ -58,6 +62,8 @@ impl fmt::Display for Call {
             Call::Write => "write",
             Call::Judge => "judge",
             Call::Slack => "slack",
+            Call::Draw => "draw",
+            Call::Shortage => "shortage",
             Call::Start => "start",
             Call::Step => "step",
             Call::Shift => "shift",
@@ -89,6 +95,9 @@ fn numbers(call: Call) -> Vec<u32> {
         Call::Write | Call::Export => wide([DONE, UNSOUND, TOO_SHORT]),
         Call::Judge | Call::Start => judged(FLOOR_RULE),
         Call::Slack => [judged(ABOVE_RATE), vec![NONE_ESSENTIAL]].concat(),
+        Call::Draw | Call::Shortage => {
+            wide([DONE, UNSOUND, TOO_SHORT, RELEASES_DIFFER, NO_TIMETABLE])
+        }
         Call::Step => wide([DONE].into_iter().chain(AT_LAST_DEADLINE..=TOO_SHORT)),
         Call::Shift => wide([DONE, UNSOUND, TOO_SHORT, TOO_MANY_SPEEDS]),
         Call::End => wide([DONE, UNSOUND, TOO_SHORT, NO_SUCH_POSITION, CANNOT_END]),
@@ -180,9 +189,9 @@ impl Tally {
 /// One line for each call that was made: its inputs, then each number with how often it came.
 impl fmt::Display for Tally {
     fn fmt(&self, f: &mut fmt::Formatter<'_>) -> fmt::Result {
-        writeln!(f, "call      inputs  answers, each with how often it came")?;
+        writeln!(f, "call       inputs  answers, each with how often it came")?;
         for call in CALLS.into_iter().filter(|&call| self.inputs(call) > 0) {
-            write!(f, "{:<7} {:>8}", call, self.inputs(call))?;
+            write!(f, "{:<8} {:>8}", call, self.inputs(call))?;
             for (number, count) in self.of(call) {
                 write!(f, "  {}: {}", shown(call, number), count)?;
             }

@@ -45,6 +45,9 @@ pub fn marks() -> impl Iterator<Item = usize> {
 /// What a refusal names.
 pub const LOCATION_WORDS: usize = 2;
 
+/// Two times by which there is no timetable, what is asked by them and what the link carries.
+pub const PAIR_WORDS: usize = 4;
+
 /// Where the words of a job begin in a plan.
 pub fn job_at(position: usize) -> usize {
     HEAD_WORDS + JOB_WORDS * position

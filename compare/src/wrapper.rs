@@ -5,7 +5,7 @@
 
 use gateway::{export_jobs, import_jobs, Grade, Job, Location, Outcome, Plan, Refusal, Run};
 use reference::edition::{HI, LO, MOST_INTERVALS, MOST_JOBS, NAME_BYTES, TABLE_PLACES};
-use reference::refusal::{DONE, TOO_SHORT, UNSOUND};
+use reference::refusal::{DONE, NO_TIMETABLE, TOO_SHORT, UNSOUND};
 
 use crate::both::{Both, Difference};
 use crate::buffer::Buffer;
@@ -14,7 +14,7 @@ use crate::model::{DISCARDED, ENDED, MET, MISSED, NONE_ESSENTIAL, OPEN};
 use crate::tally::Call;
 use crate::words::{
     job_at, listed_at, run_of, DEADLINE, FLOOR, GRADE, JOB_COUNT, JOB_WORDS, LISTED_COUNT,
-    LOCATION_WORDS, NAME, NORMAL_RATE, RELEASE, RUN_WORDS, SIZE,
+    LOCATION_WORDS, NAME, NORMAL_RATE, PAIR_WORDS, RELEASE, RUN_WORDS, SIZE,
 };
 
 fn is_done(number: u32) -> bool {
@@ -202,6 +202,38 @@ pub fn slack(both: &mut Both, plan: &Plan, number: u32, memory: &Memory) -> Resu
     let mut bare = place_words(number, memory);
     bare.push(memory.slack.contents()[0] as u64);
     both.agree(Call::Slack, wrapped, bare)
+}
+
+/// Draws up a timetable once more, in the table that the plan had before.
+pub fn draw(
+    both: &mut Both,
+    mut plan: Plan,
+    number: u32,
+    memory: &Memory,
+) -> Result<(), Difference> {
+    let mut wrapped = vec![number_of(&plan.draw_up())];
+    let mut bare = vec![number.into()];
+    wrapped.extend(plan.table().iter().map(|&units| u64::from(units)));
+    bare.extend(memory.own_places().iter().map(|&units| u64::from(units)));
+    both.agree(Call::Draw, wrapped, bare)
+}
+
+pub fn shortage(
+    both: &mut Both,
+    plan: &Plan,
+    number: u32,
+    memory: &Memory,
+) -> Result<(), Difference> {
+    let wrapped = match plan.shortage() {
+        Ok(None) => [DONE.into(), 0, 0, 0, 0],
+        Ok(Some(short)) => {
+            let times = [short.essential.into(), short.other.into()];
+            [NO_TIMETABLE.into(), times[0], times[1], short.asked, short.carries]
+        }
+        Err(refusal) => [refusal.number().into(), 0, 0, 0, 0],
+    };
+    let bare = [&[number.into()], &memory.pair.contents()[..PAIR_WORDS]].concat();
+    both.agree(Call::Shortage, wrapped.to_vec(), bare)
 }
 
 /// Starts once more; gives the run if there is one.

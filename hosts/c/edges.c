@@ -1,11 +1,12 @@
 /* What gateway.h says at the edges: buffers of length 0 that are NULL, offsets of files and texts that end early, a job list inside a plan,
- * jobs that have ended, shifts, speeds above 16 bits, answers in words. It prints each sentence that does not hold; the exit status is then 1. */
+ * timetables, jobs that have ended, shifts, speeds above 16 bits, answers in words. It prints each sentence that does not hold; the exit status is then 1. */
 #include <stdio.h>
 #include <string.h>
 
 #include "gateway.h"
 
-/* The jobs and the slots of the plan for shifts, and what stands before a shift in each byte that it may write, and so in each word. */
+/* The jobs and the slots of the plan for shifts, and what stands before a shift or a desk's call in each byte that it may write, and so in each
+ * word. */
 #define SHIFT_JOBS 2
 #define SLOTS 3
 #define MARK 0xEE
@@ -18,6 +19,9 @@ static uint32_t run[GATEWAY_RUN_WORDS];
 static uint32_t grants[GATEWAY_MOST_JOBS];
 static uint64_t location[GATEWAY_LOCATION_WORDS];
 static uint64_t list[GATEWAY_LIST_WORDS];
+/* A place and a word more than the desk writes. */
+static uint32_t drawn[GATEWAY_TABLE_PLACES + 1];
+static uint64_t pair[GATEWAY_PAIR_WORDS + 1];
 /* One speed more than a shift may have, with a row and a number for each. */
 static uint16_t speeds[GATEWAY_MOST_SPEEDS + 1];
 static uint32_t rows[GATEWAY_ROWS_PLACES + GATEWAY_MOST_JOBS];
@@ -186,6 +190,91 @@ static void list_inside_a_plan(void)
     expect(memcmp(plan, before, sizeof plan) == 0, "import: the plan is what it was");
 }
 
+/* The desk's calls with so many places or words, all of them marks before. */
+static uint32_t draw(size_t places)
+{
+    memset(drawn, MARK, sizeof drawn);
+    return gateway_draw(plan, GATEWAY_PLAN_WORDS, drawn, places);
+}
+
+static uint32_t explain(size_t words)
+{
+    memset(pair, MARK, sizeof pair);
+    return gateway_shortage(plan, GATEWAY_PLAN_WORDS, pair, words);
+}
+
+static int is_marked(const void *from, size_t size)
+{
+    const uint8_t *bytes = from;
+    for (size_t at = 0; at < size; at++)
+        if (bytes[at] != MARK)
+            return 0;
+    return 1;
+}
+
+/* The first job has these units in the first interval and no job any others. The place beyond stays. */
+static int is_drawn(uint32_t units)
+{
+    for (size_t at = 1; at < GATEWAY_TABLE_PLACES; at++)
+        if (drawn[at] != 0)
+            return 0;
+    return drawn[GATEWAY_INDEX_ALLOTMENT(0, 0)] == units && drawn[GATEWAY_TABLE_PLACES] == MARKED;
+}
+
+/* The pair is this one. The word beyond stays. */
+static int is_explained(uint64_t hi_time, uint64_t lo_time, uint64_t asked, uint64_t carries)
+{
+    return pair[GATEWAY_INDEX_PAIR_HI_TIME] == hi_time && pair[GATEWAY_INDEX_PAIR_LO_TIME] == lo_time && pair[GATEWAY_INDEX_PAIR_ASKED] == asked
+        && pair[GATEWAY_INDEX_PAIR_CARRIES] == carries && is_marked(pair + GATEWAY_PAIR_WORDS, sizeof pair[0]);
+}
+
+static void desk_of_nothing(void)
+{
+    too_short(draw(GATEWAY_TABLE_PLACES - 1), "draw: a place too few");
+    too_short(gateway_draw(NULL, 0, drawn, GATEWAY_TABLE_PLACES), "draw: no plan");
+    too_short(gateway_draw(plan, GATEWAY_PLAN_WORDS - 1, drawn, GATEWAY_TABLE_PLACES), "draw: a word too few for a plan");
+    too_short(gateway_draw(plan, GATEWAY_PLAN_WORDS, NULL, 0), "draw: no table");
+    expect(is_marked(drawn, sizeof drawn), "draw: buffers that are too short leave the table");
+    too_short(explain(GATEWAY_PAIR_WORDS - 1), "shortage: a word too few");
+    too_short(gateway_shortage(NULL, 0, pair, GATEWAY_PAIR_WORDS), "shortage: no plan");
+    too_short(gateway_shortage(plan, GATEWAY_PLAN_WORDS - 1, pair, GATEWAY_PAIR_WORDS), "shortage: a word too few for a plan");
+    too_short(gateway_shortage(plan, GATEWAY_PLAN_WORDS, NULL, 0), "shortage: no pair");
+    expect(is_marked(pair, sizeof pair), "shortage: buffers that are too short leave the pair");
+}
+
+/* The job has one slot, in which the floor carries one unit. */
+static void desk_of_one_job(void)
+{
+    size_t places = GATEWAY_TABLE_PLACES + 1, words = GATEWAY_PAIR_WORDS + 1;
+    expect(draw(places) == GATEWAY_DONE && is_drawn(1), "draw: the job has its unit, all other places are 0");
+    expect(memcmp(drawn, table, sizeof table) == 0, "draw: the table is the plan's");
+    expect(explain(words) == GATEWAY_DONE && is_explained(0, 0, 0, 0), "shortage: there is none, and the pair is four zeros");
+    plan[GATEWAY_INDEX_JOB_SIZE(0)] = 2;
+    expect(draw(places) == GATEWAY_NO_TIMETABLE && is_drawn(0), "draw: 29 leaves zeros");
+    expect(explain(words) == GATEWAY_NO_TIMETABLE && is_explained(1, 0, 2, 1), "shortage: two units by 1, and one is carried");
+    plan[GATEWAY_INDEX_JOB_SIZE(0)] = 0;
+    expect(draw(places) == GATEWAY_UNSOUND && is_marked(drawn, sizeof drawn), "draw: 21 leaves the table");
+    expect(explain(words) == GATEWAY_UNSOUND && is_explained(0, 0, 0, 0), "shortage: 21 comes with four zeros");
+    too_short(draw(GATEWAY_TABLE_PLACES - 1), "draw: 22 comes before 21");
+    plan[GATEWAY_INDEX_JOB_SIZE(0)] = 1;
+}
+
+/* The second job is released a slot later, and asks for too much. */
+static void desk_of_two_releases(void)
+{
+    size_t places = GATEWAY_TABLE_PLACES + 1, words = GATEWAY_PAIR_WORDS + 1;
+    plan[GATEWAY_INDEX_JOB_COUNT] = 2;
+    plan[GATEWAY_INDEX_JOB_NAME(1)] = UINT64_C(0x6D6972726F722D42);
+    plan[GATEWAY_INDEX_JOB_RELEASE(1)] = 1;
+    plan[GATEWAY_INDEX_JOB_SIZE(1)] = 9;
+    plan[GATEWAY_INDEX_JOB_DEADLINE(1)] = 2;
+    expect(draw(places) == GATEWAY_RELEASES_DIFFER && is_drawn(0), "draw: 28 comes before 29 and leaves zeros");
+    expect(explain(words) == GATEWAY_RELEASES_DIFFER && is_explained(0, 0, 0, 0), "shortage: 28 comes with four zeros");
+    plan[GATEWAY_INDEX_JOB_NAME(1)] = plan[GATEWAY_INDEX_JOB_NAME(0)];
+    expect(draw(places) == GATEWAY_UNSOUND && explain(words) == GATEWAY_UNSOUND, "draw: 21 comes before 28");
+    plan[GATEWAY_INDEX_JOB_COUNT] = 1;
+}
+
 /* A second job beside the first, to be carried in three slots; a run at its beginning, marks in all places that a shift may write, and speeds at the
  * normal rate, which is 2. */
 static void lay_out_a_shift(void)
@@ -315,7 +404,7 @@ static void speeds_and_words(void)
     expect(gateway_speed(3, plan) == 2 && gateway_speed(UINT64_C(65537), plan) == 2, "speed: the normal rate if more is measured");
     plan[GATEWAY_INDEX_NORMAL_RATE] = UINT64_MAX;
     expect(gateway_speed(UINT64_MAX, plan) == UINT16_MAX, "speed: at most 65,535 whatever the plan says");
-    expect(gateway_words(GATEWAY_TOO_MANY_SPEEDS + 1) == gateway_words(GATEWAY_ENDED + 1), "words: a number that is no answer");
+    expect(gateway_words(GATEWAY_NO_TIMETABLE + 1) == gateway_words(GATEWAY_ENDED + 1), "words: a number that is no answer");
 }
 
 int main(void)
@@ -333,6 +422,9 @@ int main(void)
     importing_of_nothing();
     exporting_of_nothing();
     list_inside_a_plan();
+    desk_of_nothing();
+    desk_of_one_job();
+    desk_of_two_releases();
     shifts_of_nothing();
     order_of_a_shifts_refusals();
     refused_speeds_of_a_shift();

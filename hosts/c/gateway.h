@@ -1,6 +1,6 @@
-/* For hosts in C and C++: plan files, judging, slots and job lists, on memory that the host lends.
+/* For hosts in C and C++: plan files, judging, timetables, slots and job lists, on memory that the host lends.
  *
- * Every call answers a number: 0 when it is done, a refusal's number from 1 to 27 (enum gateway_refusal), or a number from 256 on for the
+ * Every call answers a number: 0 when it is done, a refusal's number from 1 to 29 (enum gateway_refusal), or a number from 256 on for the
  * results that are named below. Every buffer is a pointer and then its length, counted in elements. What a call is not said to change stays.
  *
  * No call relies on checks by the host: every content of the lent memory means exactly one plan, run or job list, or is refused by 21. What
@@ -80,6 +80,16 @@ extern "C" {
  * with any other answer of judge and start 0 and 0. */
 #define GATEWAY_LOCATION_WORDS 2
 
+/* A pair says why jobs with one release have no timetable, in four words of 64 bits: a time for the HI jobs; a time for the LO jobs; the units that
+ * are asked by them, which are the sizes of the HI jobs due by the one time and of the LO jobs due by the other; and the units that the link
+ * carries: the normal rate in each slot from the release to the LO jobs' time, and the floor in each from there to the HI jobs' time, if that is
+ * later. */
+#define GATEWAY_PAIR_WORDS 4
+#define GATEWAY_INDEX_PAIR_HI_TIME 0
+#define GATEWAY_INDEX_PAIR_LO_TIME 1
+#define GATEWAY_INDEX_PAIR_ASKED 2
+#define GATEWAY_INDEX_PAIR_CARRIES 3
+
 enum gateway_refusal {
     GATEWAY_DONE = 0,
     GATEWAY_WRONG_VERSION = 1,
@@ -108,7 +118,9 @@ enum gateway_refusal {
     GATEWAY_WRONG_HEADER = 24,
     GATEWAY_NO_SUCH_JOB = 25,
     GATEWAY_CANNOT_END = 26,
-    GATEWAY_TOO_MANY_SPEEDS = 27
+    GATEWAY_TOO_MANY_SPEEDS = 27,
+    GATEWAY_RELEASES_DIFFER = 28,
+    GATEWAY_NO_TIMETABLE = 29
 };
 
 /* Results that are no refusals. */
@@ -154,6 +166,19 @@ uint32_t gateway_judge(const uint64_t *plan, size_t plan_length, const uint32_t 
  * Answers 0, GATEWAY_NONE_ESSENTIAL, or what gateway_judge answers but for 18.
  * 22 for plan or location: *slack and location stay. Any other refusal: *slack is 0, location as with gateway_judge. None essential: all are 0. */
 uint32_t gateway_slack(const uint64_t *plan, size_t plan_length, const uint32_t *table, size_t table_length, int64_t *slack, uint64_t *location, size_t location_length);
+
+/* Draws up a timetable for a plan's rates and jobs, which must have one release; gateway_judge accepts it.
+ * In: plan. Out: the table, and what stood there before is not looked at. Answers, in this order, 22 (plan or table too short), 21 (a rule from 4 to
+ * 9 is broken), 28 (not all jobs have one release), 29 (gateway_judge accepts no table whatever for these rates and jobs) or 0.
+ * 22 and 21: the table stays. 28 and 29: GATEWAY_TABLE_PLACES places of it are 0. Places beyond are not touched, ever. */
+uint32_t gateway_draw(const uint64_t *plan, size_t plan_length, uint32_t *table, size_t table_length);
+
+/* Why gateway_draw draws up no timetable.
+ * In: plan. Out: the pair. Answers, in this order, 22 (plan or pair too short), 21, 28 or 29 as gateway_draw does, or 0 if there is a timetable.
+ * 29: the first pair by which more is asked than the link carries. Its times are the release or a deadline, the one of a HI job and the other of a
+ *   LO job. The first pair is that with the least time for the HI jobs, and among several that with the least time for the LO jobs.
+ * 22: the pair stays. Any other answer: its four words are 0. Words beyond are not touched, ever. */
+uint32_t gateway_shortage(const uint64_t *plan, size_t plan_length, uint64_t *pair, size_t pair_length);
 
 /* Judges a plan, and starts its run if it is accepted.
  * In: plan and table. Out: the run (its clock is the first release, all else in it is 0), and location as with gateway_judge.
@@ -244,10 +269,12 @@ static inline const char *gateway_words(uint32_t answer)
         "the job list does not begin with its header",
         "there is no such job",
         "the job is not running: it is not yet released, or it is over already",
-        "a shift has too many speeds"
+        "a shift has too many speeds",
+        "the jobs have not all the same release",
+        "no timetable exists for these rates and jobs"
     };
     static const char *const results[] = { "no job is essential", "met", "discarded", "missed", "open", "ended" };
-    if (answer <= GATEWAY_TOO_MANY_SPEEDS)
+    if (answer <= GATEWAY_NO_TIMETABLE)
         return refusals[answer];
     if (answer >= GATEWAY_NONE_ESSENTIAL && answer <= GATEWAY_ENDED)
         return results[answer - GATEWAY_NONE_ESSENTIAL];

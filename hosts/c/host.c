@@ -7,7 +7,10 @@
  * no job has, and runs the plan at the floor in shifts. It prints what each word is answered and how each transfer ends; the exit status is as
  * with --check.
  * With --import it reads a job list as text, and says which jobs it has and whether they are exported as the same text. Then the exit status is
- * 0 for a text that is taken and 1 for any other. With --refusals it prints what each refusal says. */
+ * 0 for a text that is taken and 1 for any other.
+ * With --draw and two rates it reads a job list as text and draws up a timetable. It prints its rows, what the judge and the slack figure say of them
+ * and how long the plan's file is; or why there is no timetable. The exit status is 0 for a timetable and 1 for none.
+ * With --refusals it prints what each refusal says. */
 #include <stdio.h>
 #include <stdlib.h>
 #include <string.h>
@@ -316,9 +319,52 @@ static int import(void)
     return 0;
 }
 
+static void print_rows(void)
+{
+    for (size_t i = 0; i < plan[GATEWAY_INDEX_JOB_COUNT]; i++) {
+        for (size_t j = 0; j < GATEWAY_MOST_INTERVALS; j++) {
+            uint32_t units = table[GATEWAY_INDEX_ALLOTMENT(i, j)];
+            if (units > 0)
+                printf("job %u, interval %u: %u\n", (unsigned)i, (unsigned)j, (unsigned)units);
+        }
+    }
+}
+
+static int print_shortage(void)
+{
+    uint64_t pair[GATEWAY_PAIR_WORDS];
+    uint32_t refused = gateway_shortage(plan, GATEWAY_PLAN_WORDS, pair, GATEWAY_PAIR_WORDS);
+    printf("refused %u: %s", (unsigned)refused, gateway_words(refused));
+    if (refused == GATEWAY_NO_TIMETABLE)
+        printf(" (HI by %u, LO by %u: %llu asked, %llu carried)", (unsigned)pair[GATEWAY_INDEX_PAIR_HI_TIME], (unsigned)pair[GATEWAY_INDEX_PAIR_LO_TIME],
+            (unsigned long long)pair[GATEWAY_INDEX_PAIR_ASKED], (unsigned long long)pair[GATEWAY_INDEX_PAIR_CARRIES]);
+    putchar('\n');
+    return 1;
+}
+
+/* A word that is no number is taken for 0, which no rate may be. */
+static int draw(const char *normal_rate, const char *floor)
+{
+    size_t length = read_text(), written;
+    uint32_t refused = gateway_import(text, length, plan + GATEWAY_INDEX_JOB_COUNT, GATEWAY_LIST_WORDS, &offset);
+    if (refused != GATEWAY_DONE)
+        return print_refused(refused);
+    plan[GATEWAY_INDEX_NORMAL_RATE] = strtoul(normal_rate, NULL, 10);
+    plan[GATEWAY_INDEX_FLOOR] = strtoul(floor, NULL, 10);
+    refused = gateway_draw(plan, GATEWAY_PLAN_WORDS, table, GATEWAY_TABLE_PLACES);
+    if (refused != GATEWAY_DONE)
+        return print_shortage();
+    print_rows();
+    print_verdict(gateway_judge(plan, GATEWAY_PLAN_WORDS, table, GATEWAY_TABLE_PLACES, location, GATEWAY_LOCATION_WORDS));
+    print_slack();
+    refused = gateway_write(plan, GATEWAY_PLAN_WORDS, table, GATEWAY_TABLE_PLACES, again, GATEWAY_LARGEST_FILE, &written);
+    printf("written: %u bytes\n", (unsigned)written);
+    return refused != GATEWAY_DONE;
+}
+
 static int print_refusals(void)
 {
-    for (uint32_t number = GATEWAY_WRONG_VERSION; number <= GATEWAY_TOO_MANY_SPEEDS; number++)
+    for (uint32_t number = GATEWAY_WRONG_VERSION; number <= GATEWAY_NO_TIMETABLE; number++)
         printf("%u %s\n", (unsigned)number, gateway_words(number));
     return 0;
 }
@@ -333,8 +379,11 @@ int main(int count, char **words)
         return end_all();
     if (count == 2 && strcmp(words[1], "--import") == 0)
         return import();
+    if (count == 4 && strcmp(words[1], "--draw") == 0)
+        return draw(words[2], words[3]);
     if (count == 2 && strcmp(words[1], "--refusals") == 0)
         return print_refusals();
-    fputs("usage: host-c < PLAN-AND-SPEEDS\n       host-c --check < PLAN\n       host-c --end < PLAN\n       host-c --import < JOBS\n       host-c --refusals\n", stderr);
+    fputs("usage: host-c < PLAN-AND-SPEEDS\n       host-c --check < PLAN\n       host-c --end < PLAN\n       host-c --import < JOBS\n       host-c --draw NORMAL FLOOR < JOBS\n       host-c --refusals\n",
+        stderr);
     return 2;
 }

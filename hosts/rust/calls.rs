@@ -15,6 +15,8 @@ pub const RUN_WORDS: usize = MARK_WORDS + 2 * MOST_JOBS;
 // The job count and each job: what a plan has from its count on.
 pub const LIST_WORDS: usize = 1 + JOB_WORDS * MOST_JOBS;
 pub const LOCATION_WORDS: usize = 2;
+// Two times, the units that are asked by them, and those that the link carries.
+pub const PAIR_WORDS: usize = 4;
 
 #[link(name = "gateway", kind = "static")]
 extern "C" {
@@ -23,6 +25,8 @@ extern "C" {
     pub fn gateway_name(file: *const u8, file_length: usize, position: usize) -> usize;
     pub fn gateway_judge(plan: *const u64, plan_length: usize, table: *const u32, table_length: usize, location: *mut u64, location_length: usize) -> u32;
     pub fn gateway_slack(plan: *const u64, plan_length: usize, table: *const u32, table_length: usize, slack: *mut i64, location: *mut u64, location_length: usize) -> u32;
+    pub fn gateway_draw(plan: *const u64, plan_length: usize, table: *mut u32, table_length: usize) -> u32;
+    pub fn gateway_shortage(plan: *const u64, plan_length: usize, pair: *mut u64, pair_length: usize) -> u32;
     pub fn gateway_start(plan: *const u64, plan_length: usize, table: *const u32, table_length: usize, run: *mut u32, run_length: usize, location: *mut u64, location_length: usize) -> u32;
     pub fn gateway_step(plan: *const u64, plan_length: usize, table: *const u32, table_length: usize, run: *mut u32, run_length: usize, speed: u16, grants: *mut u32, grants_length: usize) -> u32;
     pub fn gateway_shift(plan: *const u64, plan_length: usize, table: *const u32, table_length: usize, run: *mut u32, run_length: usize, speeds: *const u16, speeds_length: usize, rows: *mut u32, rows_length: usize, numbers: *mut u8, numbers_length: usize) -> u32;

@@ -1,4 +1,4 @@
-//! A safe wrapper over `libgateway.a`, without dependencies: plan files, judging, slots and job lists.
+//! A safe wrapper over `libgateway.a`, without dependencies: plan files, judging, timetables, slots and job lists.
 //!
 //! A [`Plan`] and a [`Run`] own the memory that the library works on. Every refusal is a [`Refusal`] with its number, its location or its offset
 //! in the file or text, and its words. Plans and runs can be stored and sent as the words that the library keeps them in, and jobs as
@@ -36,6 +36,7 @@ const FLOOR: usize = 1;
 const JOB_COUNT: usize = 2;
 
 const DONE: u32 = 0;
+const NO_TIMETABLE: u32 = refusal::NO_TIMETABLE as u32;
 const NONE_ESSENTIAL: u32 = 256;
 const MET: u32 = 257;
 const DISCARDED: u32 = 258;
@@ -74,6 +75,8 @@ pub mod refusal {
     pub const NO_SUCH_JOB: u8 = 25;
     pub const CANNOT_END: u8 = 26;
     pub const TOO_MANY_SPEEDS: u8 = 27;
+    pub const RELEASES_DIFFER: u8 = 28;
+    pub const NO_TIMETABLE: u8 = 29;
 
     /// What a refusal's number says, as `gateway_words` of `gateway.h` says it.
     pub fn words(number: u8) -> &'static str {
@@ -106,6 +109,8 @@ pub mod refusal {
             NO_SUCH_JOB => "there is no such job",
             CANNOT_END => "the job is not running: it is not yet released, or it is over already",
             TOO_MANY_SPEEDS => "a shift has too many speeds",
+            RELEASES_DIFFER => "the jobs have not all the same release",
+            NO_TIMETABLE => "no timetable exists for these rates and jobs",
             _ => "the library gives no such number",
         }
     }
@@ -257,6 +262,20 @@ pub struct Slack {
     pub deadline: u32,
 }
 
+/// Why jobs with one release have no timetable: two times by which more is asked than the link carries. They are the release or a deadline, the
+/// one of a HI job and the other of a LO job.
+#[derive(Clone, Copy, Debug, PartialEq, Eq)]
+pub struct Shortage {
+    /// The time of the HI jobs.
+    pub essential: u32,
+    /// The time of the LO jobs.
+    pub other: u32,
+    /// The sizes of the HI jobs due by the one time and of the LO jobs due by the other.
+    pub asked: u64,
+    /// The normal rate in each slot from the release to the LO jobs' time, and the floor in each from there to the HI jobs' time, if that is later.
+    pub carries: u64,
+}
+
 #[derive(Clone, Copy, Debug, PartialEq, Eq)]
 pub enum Outcome {
     Met,
@@ -359,6 +378,26 @@ impl Plan {
             DONE => Ok(Some(Slack { units, interval: location[0] as usize, deadline: location[1] as u32 })),
             NONE_ESSENTIAL => Ok(None),
             _ => Err(Refusal::new(number, location)),
+        }
+    }
+
+    /// Draws up a timetable for the plan's rates and jobs, which must have one release; it takes the place of the table, and the judge accepts it.
+    /// 21 if a rule from 4 to 9 is broken: the table stays. 28 if not all jobs have one release, 29 if there is no timetable: the table is empty then.
+    pub fn draw_up(&mut self) -> Result<(), Refusal> {
+        // SAFETY: each pointer is valid for the length beside it; the two parts of the plan are separate fields, borrowed for writing.
+        done(unsafe { gateway_draw(self.words.as_ptr(), PLAN_WORDS, self.table.as_mut_ptr(), TABLE_PLACES) })
+    }
+
+    /// Why [`draw_up`](Plan::draw_up) is refused by 29: the first such times, by those of the HI jobs and then by those of the LO jobs. None if there
+    /// is a timetable; 21 and 28 as there. The plan's table is not looked at.
+    pub fn shortage(&self) -> Result<Option<Shortage>, Refusal> {
+        let mut pair = [0; PAIR_WORDS];
+        // SAFETY: each pointer is valid for the length beside it; pair is fresh.
+        let number = unsafe { gateway_shortage(self.words.as_ptr(), PLAN_WORDS, pair.as_mut_ptr(), PAIR_WORDS) };
+        match number {
+            DONE => Ok(None),
+            NO_TIMETABLE => Ok(Some(Shortage { essential: pair[0] as u32, other: pair[1] as u32, asked: pair[2], carries: pair[3] })),
+            _ => Err(Refusal::nowhere(number as u8)),
         }
     }
 

@@ -7,9 +7,12 @@
 //! that no job has, and runs the plan at the floor in shifts. It prints what each word is answered and how each transfer ends; the exit status
 //! is as with `--check`.
 //! With `--import` it reads a job list as text, and says which jobs it has and whether they are exported as the same text. Then the exit status
-//! is 0 for a text that is taken and 1 for any other. With `--refusals` it prints what each refusal says.
+//! is 0 for a text that is taken and 1 for any other.
+//! With `--draw` and two rates it reads a job list as text and draws up a timetable. It prints its rows, what the judge and the slack figure say of
+//! them and how long the plan's file is; or why there is no timetable. The exit status is 0 for a timetable and 1 for none.
+//! With `--refusals` it prints what each refusal says.
 
-use gateway::{refusal, Grade, Job, Plan, Refusal, Run, LARGEST_FILE, MOST_SPEEDS};
+use gateway::{refusal, Grade, Job, Plan, Refusal, Run, LARGEST_FILE, MOST_INTERVALS, MOST_SPEEDS};
 use std::io::{self, Read, Write};
 use std::process::ExitCode;
 
@@ -211,8 +214,49 @@ fn import(text: &[u8], out: &mut impl Write) -> io::Result<bool> {
     Ok(true)
 }
 
+fn write_rows(plan: &Plan, out: &mut impl Write) -> io::Result<()> {
+    for job in 0..plan.job_count() {
+        for interval in 0..MOST_INTERVALS {
+            match plan.allotment(job, interval) {
+                None | Some(0) => (),
+                Some(units) => writeln!(out, "job {job}, interval {interval}: {units}")?,
+            }
+        }
+    }
+    Ok(())
+}
+
+fn shortage_line(plan: &Plan, refused: Refusal) -> String {
+    match plan.shortage() {
+        Ok(Some(short)) => format!("{refused} (HI by {}, LO by {}: {} asked, {} carried)", short.essential, short.other, short.asked, short.carries),
+        Ok(None) => "there is a timetable".to_string(),
+        Err(refusal) => refusal.to_string(),
+    }
+}
+
+/// A word that is no number is taken for 0, which no rate may be.
+fn draw(text: &[u8], rates: [&str; 2], out: &mut impl Write) -> io::Result<bool> {
+    let [normal_rate, floor] = rates.map(|word| word.parse().unwrap_or_default());
+    let mut plan = match gateway::import_jobs(text).and_then(|jobs| Plan::new(normal_rate, floor, &jobs)) {
+        Ok(plan) => plan,
+        Err(refusal) => return writeln!(out, "{refusal}").map(|()| false),
+    };
+    if let Err(refusal) = plan.draw_up() {
+        return writeln!(out, "{}", shortage_line(&plan, refusal)).map(|()| false);
+    }
+    write_rows(&plan, out)?;
+    match plan.judge() {
+        Ok(()) => writeln!(out, "accepted")?,
+        Err(refusal) => writeln!(out, "{refusal}")?,
+    }
+    writeln!(out, "{}", slack_line(&plan))?;
+    let file = plan.write();
+    writeln!(out, "written: {} bytes", file.as_ref().map_or(0, Vec::len))?;
+    Ok(file.is_ok())
+}
+
 fn write_refusals(out: &mut impl Write) -> io::Result<()> {
-    (refusal::WRONG_VERSION..=refusal::TOO_MANY_SPEEDS).try_for_each(|number| writeln!(out, "{number} {}", refusal::words(number)))
+    (refusal::WRONG_VERSION..=refusal::NO_TIMETABLE).try_for_each(|number| writeln!(out, "{number} {}", refusal::words(number)))
 }
 
 fn read_input() -> io::Result<Vec<u8>> {
@@ -239,9 +283,10 @@ fn main() -> io::Result<ExitCode> {
             end_all(&input[..file_length(&input)], &mut out)?
         }
         ["--import"] => import(&read_input()?, &mut out)?,
+        ["--draw", normal_rate, floor] => draw(&read_input()?, [normal_rate, floor], &mut out)?,
         ["--refusals"] => write_refusals(&mut out).map(|()| true)?,
         _ => {
-            eprintln!("usage: host-rust < PLAN-AND-SPEEDS\n       host-rust --check < PLAN\n       host-rust --end < PLAN\n       host-rust --import < JOBS\n       host-rust --refusals");
+            eprintln!("usage: host-rust < PLAN-AND-SPEEDS\n       host-rust --check < PLAN\n       host-rust --end < PLAN\n       host-rust --import < JOBS\n       host-rust --draw NORMAL FLOOR < JOBS\n       host-rust --refusals");
             return Ok(ExitCode::from(2));
         }
     };

@@ -3,6 +3,7 @@
 //!
 //! Archive and model are compared in these calls too, so both have to give the written answer.
 
+mod desk;
 mod ended;
 mod files;
 mod idle;
@@ -72,6 +73,11 @@ pub fn all() -> Result<u64, String> {
     judged::plans(cases)?;
     judged::words(cases)?;
     judged::shorts(cases)?;
+    desk::timetables(cases)?;
+    desk::most_jobs(cases)?;
+    desk::short_pairs(cases)?;
+    desk::refused(cases)?;
+    desk::shorts(cases)?;
     slots::done(cases)?;
     slots::refused(cases)?;
     slots::shorts(cases)?;

@@ -4,4 +4,5 @@
 #include <stddef.h>
 void exit(int status);
 void *realloc(void *from, size_t size);
+unsigned long strtoul(const char *text, char **end, int base);
 #endif

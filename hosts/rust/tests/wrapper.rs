@@ -1,6 +1,6 @@
 //! The wrapper as a project of one's own sees it: what goes in comes out, and what no plan, run or job list can be is refused in words.
 
-use gateway::{export_jobs, import_jobs, index, refusal, Grade, Job, Outcome, Plan, Refusal, Run};
+use gateway::{export_jobs, import_jobs, index, refusal, Grade, Job, Outcome, Plan, Refusal, Run, Shortage};
 use gateway::{LONGEST_LIST, MOST_JOBS, MOST_SPEEDS, PLAN_WORDS, RUN_WORDS, TABLE_PLACES};
 
 const OTHER: usize = 0;
@@ -179,6 +179,76 @@ fn units_that_did_not_go_are_granted_again() {
     while run.step(&plan, 1).is_ok() {}
     assert_eq!(run.outcome(&plan, ESSENTIAL), Ok(Outcome::Met));
     assert!(run.is_below_floor());
+}
+
+/// The plan of case P5 in docs/RULES.md without its table, but with this size of the first job.
+fn p5_of_size(size: u64) -> Plan {
+    let job = |name: &[u8; 8], grade, size, deadline| Job { name: *name, grade, release: 0, size, deadline };
+    let jobs = [
+        job(b"catalog1", Grade::Hi, size, 10),
+        job(b"catalog2", Grade::Hi, 4, 16),
+        job(b"images-1", Grade::Lo, 6, 4),
+        job(b"images-2", Grade::Lo, 10, 12),
+    ];
+    Plan::new(2, 1, &jobs).unwrap()
+}
+
+/// The jobs' units in the first four intervals.
+fn rows_of(plan: &Plan) -> Vec<[u32; 4]> {
+    (0..plan.job_count()).map(|job| [0, 1, 2, 3].map(|interval| plan.allotment(job, interval).unwrap())).collect()
+}
+
+fn is_empty(plan: &Plan) -> bool {
+    plan.table().iter().all(|&units| units == 0)
+}
+
+#[test]
+fn a_timetable_takes_the_place_of_the_table() {
+    let mut plan = p5_of_size(8);
+    let words = *plan.words();
+    for place in [(0, 0), (3, 3), (31, 62)] {
+        assert!(plan.allot(place.0, place.1, u32::MAX));
+    }
+    assert_eq!(plan.draw_up(), Ok(()));
+    assert_eq!(rows_of(&plan), [[2, 6, 0, 0], [0, 0, 0, 4], [6, 0, 0, 0], [0, 6, 4, 0]]);
+    assert_eq!((plan.words(), plan.table().iter().sum::<u32>()), (&words, 28));
+    assert_eq!((plan.judge(), plan.shortage()), (Ok(()), Ok(None)));
+    let mut run = plan.start().unwrap();
+    while run.step(&plan, plan.normal_rate()).is_ok() {}
+    assert!((0..4).all(|job| run.outcome(&plan, job) == Ok(Outcome::Met)));
+}
+
+/// From 0 to 4 the link carries 8 units and from 4 to 10 at the floor 6. `images-1` has 6 of them, and 9 are too many for `catalog1`.
+#[test]
+fn jobs_without_a_timetable_are_refused_with_the_times_and_the_units() {
+    let mut plan = p5_of_size(9);
+    plan.allot(0, 0, 9);
+    assert_eq!(plan.shortage(), Ok(Some(Shortage { essential: 10, other: 4, asked: 15, carries: 14 })));
+    assert_eq!(plan.allotment(0, 0), Some(9));
+    assert_eq!(plan.draw_up().unwrap_err().to_string(), "refused 29: no timetable exists for these rates and jobs");
+    assert!(is_empty(&plan));
+}
+
+#[test]
+fn jobs_of_several_releases_are_refused() {
+    let mut plan = plan_e();
+    let refused = plan.shortage().unwrap_err();
+    assert_eq!((refused.to_string().as_str(), refused.offset()), ("refused 28: the jobs have not all the same release", None));
+    assert!(!is_empty(&plan));
+    assert_eq!(plan.draw_up().unwrap_err().number(), refusal::RELEASES_DIFFER);
+    assert!(is_empty(&plan));
+}
+
+/// Rule 4 comes before releases that differ, and there is no timetable without a job.
+#[test]
+fn rates_or_jobs_that_break_a_rule_leave_the_table() {
+    for (floor, jobs) in [(2, &jobs()[..]), (1, &[])] {
+        let mut plan = Plan::new(2, floor, jobs).unwrap();
+        plan.allot(0, 0, 7);
+        assert_eq!(plan.draw_up().unwrap_err().number(), refusal::UNSOUND);
+        assert_eq!(plan.allotment(0, 0), Some(7));
+        assert_eq!(plan.shortage().unwrap_err().number(), refusal::UNSOUND);
+    }
 }
 
 /// What stands in rows and numbers before a shift.
