@@ -1,4 +1,4 @@
--- The timetable does not depend on what the lent table held, and leaves the places behind the table's own as they were.
+-- The timetable does not depend on what the lent table held, and leaves the places beyond the table's own as they were.
 use mathlib.Core.Path.{_≡_, refl}
 use mathlib.Core.Bool.{Bool, true, false, _&&_}
 use mathlib.Core.List.{List, [], _++_}
@@ -23,7 +23,7 @@ unfolding through
 through-keeps R f g zero a b keeps r = r
 through-keeps R f g (suc n) a b keeps r = keeps n _ _ (omega arith) (through-keeps R f g n a b (λ k x y h. keeps k x y (omega arith)) r)
 
--- Two drafts with the same rooms, the first of which has more places behind the table's own.
+-- Two drafts with the same rooms, the first of which has more places beyond the table's own.
 pub record Longer (rest : List ℕ) (d e : Draft) : Type 0 where
   pub rooms : d .rooms ≡ e .rooms
   pub table : d .table ≡ e .table ++ rest
@@ -71,7 +71,7 @@ both-longer : (p : Plan) → intervals p ≤ mostIntervals → counted p ≤ mos
 both-longer p few fewer rest front own =
     class-longer p few fewer rest false _ _ (class-longer p few fewer rest true _ _ (record { rooms = refl; table = refl; own = own }))
 
--- The table's own places get the same whatever the lent table held, and the places behind them stay.
+-- The table's own places get the same whatever the lent table held, and the places beyond them stay.
 pub timetable-alone : (p : Plan) → intervals p ≤ mostIntervals → counted p ≤ mostJobs
     → (front : List ℕ) × (length front ≡ places) × ((table : List ℕ) → timetable p table ≡ front ++ drop places table)
 unfolding timetable

@@ -17,13 +17,21 @@ use Rattle.plan.specs.Rules.{counted, size, deadline}
 use Rattle.plan.specs.Boundaries.{boundary, intervals}
 use Rattle.plan.specs.Report.{first}
 use Rattle.plan.specs.declared.kinds.Plan.{Plan}
-use Rattle.plan.proofs.Reports.{empty-none, none-first, none-plain}
+use Rattle.plan.proofs.Reports.{none-empty, empty-none, none-first, none-plain}
 use Rattle.judge.specs.Constraints.{intervalLength}
 use Rattle.desk.specs.Timetable.{inClass}
 use Rattle.desk.specs.Pairs.{sizesDue, isDeadline, asked, carries, isEnd, isShort, pairAt, pairFault}
 use Rattle.desk.proofs.Kept.{Good, rises, earlier}
 use Rattle.desk.proofs.Fits.{capTo, Enough}
 use Rattle.desk.proofs.Stages.{ground, Ends}
+
+-- Ends without a report ask no more than the link carries.
+pub pair-carried : (p : Plan) (m k : ℕ) → isEnd p false m ≡ true → isEnd p true k ≡ true → pairAt p m k ≡ []
+    → asked p (boundary p m) (boundary p k) ≤ carries p (boundary p m) (boundary p k)
+pair-carried p m k high low none =
+    let parts : (isEnd p false m && isEnd p true k && isShort p m k) ≡ isShort p m k = rw (high, low) refl in
+    ltb-false (carries p (boundary p m) (boundary p k)) (asked p (boundary p m) (boundary p k))
+    (sym parts ∙ not-true _ (sym (none-plain (isEnd p false m && isEnd p true k && isShort p m k) _ _) ∙ empty-none _ none))
 
 -- Without a fault no pair of ends asks more than the link carries.
 pub pairs-carried : (p : Plan) → pairFault p ≡ [] → (m k : ℕ) → m ≤ intervals p → k ≤ intervals p → isEnd p false m ≡ true → isEnd p true k ≡ true
@@ -32,9 +40,7 @@ unfolding pairFault
 pairs-carried p none m k h g high low =
     let rows = sym (none-first (λ m. first (pairAt p m) (suc (intervals p))) (suc (intervals p))) ∙ empty-none _ none in
     let row = sym (none-first (pairAt p m) (suc (intervals p))) ∙ every-at _ (suc (intervals p)) m rows (omega arith) in
-    let at = sym (none-plain (isEnd p false m && isEnd p true k && isShort p m k) _ _) ∙ every-at _ (suc (intervals p)) k row (omega arith) in
-    let parts : (isEnd p false m && isEnd p true k && isShort p m k) ≡ isShort p m k = rw (high, low) refl in
-    ltb-false (carries p (boundary p m) (boundary p k)) (asked p (boundary p m) (boundary p k)) (sym parts ∙ not-true _ at)
+    pair-carried p m k high low (none-empty _ (every-at _ (suc (intervals p)) k row (omega arith)))
 
 module _ (p : Plan) (ends : Ends p) (good : Good (ground p)) (rates : p .d .0 ≤ p .n .0) where
   -- The capacity up to a boundary is the normal rate's over the time since the first.

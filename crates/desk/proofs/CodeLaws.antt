@@ -29,10 +29,10 @@ use Rattle.plan.proofs.Reports.{first-found, first-ext}
 use Rattle.plan.proofs.Soundness.{rules-parts, rules-bounded}
 use Rattle.judge.specs.Slack.{through}
 use Rattle.judge.proofs.HandFault.{boundaries-some}
-use Rattle.desk.specs.Timetable.{Draft, turn, placing, jobTurn}
+use Rattle.desk.specs.Timetable.{isOf, Draft, turn, placing, jobTurn}
 use Rattle.desk.specs.Pairs.{sizesDue, isEnd, pairAt, pairFault}
 use Rattle.desk.specs.Desk.{oneRelease}
-use Rattle.desk.specs.inner.Lists.{JobColumns, isOf, dueSize, isDueAt, endAt, pairIn, pairsFrom}
+use Rattle.desk.specs.inner.Lists.{JobColumns, dueSize, isDueAt, endAt, pairIn, pairsFrom}
 
 -- `through` as a loop computes it: no step makes nothing of a, and one more step makes the next of what there is.
 pub through-start : {A : Type 0} (step : ℕ → A → A) (a : A) → a ≡ through step 0 a

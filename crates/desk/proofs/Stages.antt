@@ -139,7 +139,7 @@ module _ (p : Plan) (ends : Ends p) where
       only-turn : (l : ℕ) → l < counted p → byPlace back l ≡ q → l ≡ i
       only-turn l h e = sym (turn-twice back (counted p) l h) ∙ ap (turn back (counted p)) e
 
-      -- Nobody is due: the draft stays.
+      -- The job is not due there: the draft stays.
       passed : (inClass p back i && eqb (deadline p i) (boundary p m)) ≡ false → Stage back k (suc q) draft
       passed none = record {
         whole = stage .whole;

@@ -31,7 +31,7 @@ unfoldable pub drawFault : (p : Plan) (table : Table) → Report
 drawFault p table = orElse (fault (ltb (length table) places) (bufferTooShort ∷ [])) (shortageOf p)
 
 -- The table that the desk leaves: the timetable; after 28 and 29 zeros in the table's own places; after 22 and 21
--- the table as it was. Places behind the table's own stay.
+-- the table as it was. Places beyond the table's own stay.
 abbrev pub tableAfter : (p : Plan) (table : Table) (hand jobs : Report) → Table
 tableAfter p table [] [] = timetable p table
 tableAfter p table [] (number ∷ rest) = cleared table

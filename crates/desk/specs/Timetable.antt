@@ -8,17 +8,21 @@ use lib.ListN.{getD, drop, replicate, set}
 use Rattle.base.specs.Fill.{filled}
 use Rattle.plan.specs.Kinds.{Interval, Position, Table}
 use Rattle.plan.specs.Edition.{mostIntervals, places}
-use Rattle.plan.specs.Rules.{counted, size, deadline, isHi}
+use Rattle.plan.specs.Rules.{hi, counted, jobOf, size, deadline}
 use Rattle.plan.specs.Boundaries.{boundary, intervals}
 use Rattle.plan.specs.Table.{place}
 use Rattle.plan.specs.declared.kinds.Plan.{Plan}
 use Rattle.judge.specs.Constraints.{intervalLength}
 use Rattle.judge.specs.Slack.{through}
 
--- The two classes of jobs, by the end from which they are taken: the LO jobs from the back, the HI jobs from
--- the front.
+-- The two classes of jobs, by the end from which they are taken: a grade is of the class from the back unless it is
+-- HI, and of the one from the front if it is.
+abbrev pub isOf : (back : Bool) (grade : ℕ) → Bool
+isOf back grade = cond back (not (eqb grade hi)) (eqb grade hi)
+
+-- Job i is of a class.
 abbrev pub inClass : (p : Plan) (back : Bool) (i : Position) → Bool
-inClass p back i = cond back (not (isHi p i)) (isHi p i)
+inClass p back i = isOf back (jobOf p i .grade)
 
 -- Number k of n numbers in their order, or from the back.
 abbrev pub turn : (back : Bool) (n k : ℕ) → ℕ

@@ -17,7 +17,8 @@ ghost use Rattle.base.specs.Below.{every};
 ghost use Rattle.plan.specs.Edition.{mostJobs, mostBoundaries};
 ghost use Rattle.plan.specs.Report.{first};
 ghost use Rattle.desk.specs.Answers.{shortageView};
-ghost use Rattle.desk.specs.inner.Lists.{isOf, dueSize, isDueAt, endAt, mostInColumn, mostSum, pairIn, pairsFrom};
+ghost use Rattle.desk.specs.Timetable.{isOf};
+ghost use Rattle.desk.specs.inner.Lists.{dueSize, isDueAt, endAt, mostInColumn, mostSum, pairIn, pairsFrom};
 
 // Whether a grade is of the class that is taken from the back, LO, or of the one from the front, HI.
 pub(crate) fn is_of(back: bool, grade: u32) -> bool

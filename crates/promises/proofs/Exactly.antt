@@ -115,36 +115,6 @@ module _ (p : Plan) where
       let all = and-exactly (windowAllowed (release p i) (deadline p i)) (sizeAllowed (size p i)) window units in
       (λ e. let w = all .0 e in (w .0 .0, w .0 .1, w .1 .0, w .1 .1), λ w. all .1 ((w .0, w .1), (w .2, w .3))))
 
--- The test of the table's places.
-module _ (p : Plan) (table : List ℕ) where
-  -- A plan in hand is sound exactly when the facts of `SoundPlan` hold.
-  pub sound-exactly : (sound p table ≡ true) ↔ SoundPlan p table
-  unfolding sound rulesHold
-  sound-exactly = (
-    λ e.
-        let parts = sound-parts p table e in
-        let r = rules-parts p (parts .rules) in
-        record {
-          rates = rule-4 p .0 (r .rates);
-          count = rule-5 p .0 (r .count);
-          names = rule-6 p .0 (r .named);
-          differ = rule-7 p .0 (r .differ);
-          grades = rule-8 p .0 (r .grades);
-          bounds = rule-9 p .0 (r .bounds);
-          clear = no-stray-held p table (parts .clear);
-        },
-    λ f.
-        rw (
-          rule-4 p .1 (f .rates),
-          rule-5 p .1 (f .count),
-          rule-6 p .1 (f .names),
-          rule-7 p .1 (f .differ),
-          rule-8 p .1 (f .grades),
-          rule-9 p .1 (f .bounds),
-        )
-        (no-stray-told p table (f .clear)),
-  )
-
 -- Rules 4 to 9 hold exactly when the facts of `SoundJobs` do.
 pub rules-exactly : (p : Plan) → (rulesHold p ≡ true) ↔ SoundJobs p
 unfolding rulesHold
@@ -160,6 +130,14 @@ rules-exactly p = (
         bounds = rule-9 p .0 (r .bounds);
       },
   λ f. rw (rule-4 p .1 (f .rates), rule-5 p .1 (f .count), rule-6 p .1 (f .names), rule-7 p .1 (f .differ), rule-8 p .1 (f .grades), rule-9 p .1 (f .bounds)) refl,
+)
+
+-- A plan in hand is sound exactly when the facts of `SoundPlan` hold.
+pub sound-exactly : (p : Plan) (table : List ℕ) → (sound p table ≡ true) ↔ SoundPlan p table
+unfolding sound
+sound-exactly p table = (
+  λ e. let parts = sound-parts p table e in record { jobs = rules-exactly p .0 (parts .rules); clear = no-stray-held p table (parts .clear) },
+  λ f. rw (rules-exactly p .1 (f .jobs)) (no-stray-told p table (f .clear)),
 )
 
 -- A plan and a run are sound for a slot exactly when the facts of `SoundRun` hold.

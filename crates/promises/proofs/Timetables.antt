@@ -7,7 +7,7 @@ use mathlib.Core.List.{List, [], _∷_, _++_, append-nil}
 use Prim.Native.Nat.{ℕ, zero, suc, _+_, _*_, _-_, _≤_, _<_}
 use native.Mathlib.Nat.{mul-add}
 use native.Mathlib.Omega.{arith}
-use borrow.Author.Tests.{le-leb, lt-leb, le-ltb, lt-ltb, ltb-true, ltb-false, eqb-true, eq-eqb, not-true, not-false}
+use borrow.Author.Tests.{le-leb, lt-leb, le-ltb, lt-ltb, ltb-true, eqb-true, eq-eqb, not-true, not-false}
 use lib.Dec.{leb, ltb, eqb}
 use lib.ListN.{length, drop, replicate, length-replicate}
 use Rattle.base.specs.Sum.{sum, on}
@@ -33,7 +33,7 @@ use Rattle.desk.specs.Desk.{oneRelease, jobsFault, shortageOf, drawFault, table
 use Rattle.desk.specs.Answers.{shortageView, TellsShortage, DrawsUp}
 use Rattle.desk.specs.declared.answers.Shortage.{Shortage}
 use Rattle.desk.specs.declared.answers.Shortage.the-variants.{Nothing, Unsound, ReleasesDiffer, Pair}
-use Rattle.desk.proofs.Closed.{pairs-carried}
+use Rattle.desk.proofs.Closed.{pair-carried, pairs-carried}
 use Rattle.desk.proofs.Accepted.{drawn-accepted}
 use Rattle.desk.proofs.Alone.{timetable-alone}
 use Rattle.plan.proofs.Soundness.{rules-bounded}
@@ -231,17 +231,11 @@ named-pair p some =
         low = (omega (arith, inner .1), refl, pair .2);
         short = pair .3;
         before = λ a c h g order e e′.
-            not-short a c e e′ (⊎-elim
+            pair-carried p a c e e′ (⊎-elim
             (λ less. none-empty _ (every-at _ (suc (intervals p)) c (sym (none-first (pairAt p a) (suc (intervals p))) ∙ empty-none _ (outer .4 a less)) (omega arith)))
             (λ v. ap (λ b. pairAt p b c) (v .0) ∙ inner .4 c (v .1)) order);
       },
     )
-  where
-    not-short : (a c : ℕ) → isEnd p false a ≡ true → isEnd p true c ≡ true → pairAt p a c ≡ [] → asked p (boundary p a) (boundary p c) ≤ carries p (boundary p a) (boundary p c)
-    not-short a c e e′ none =
-        let parts : (isEnd p false a && isEnd p true c && isShort p a c) ≡ isShort p a c = rw (e, e′) refl in
-        ltb-false (carries p (boundary p a) (boundary p c)) (asked p (boundary p a) (boundary p c))
-        (sym parts ∙ not-true _ (sym (none-plain (isEnd p false a && isEnd p true c && isShort p a c) _ _) ∙ empty-none _ none))
 
 -- The number of the desk has its ground.
 draw-decided : (p : Plan) (table : List ℕ) → DrawDecided p table (numberOf (drawFault p table))
@@ -334,7 +328,7 @@ drawn-is-accepted p table none =
             (λ differ. absurd (false≢true (ap isNone (rw differ at rest))))
 
 -- What the desk leaves: after 22 and 21 the table as it was, after 28 and 29 zeros in its own places, and otherwise the timetable, which does
--- not depend on what the table held. The places behind the table's own stay in any case.
+-- not depend on what the table held. The places beyond the table's own stay in any case.
 pub draw-leaves : (p : Plan) (table : List ℕ)
     → ((isOneOf (bufferTooShort ∷ unsound ∷ []) (numberOf (drawFault p table)) ≡ true) × (tableLeft p table ≡ table))
     ⊎ ((isOneOf (releasesDiffer ∷ noTimetable ∷ []) (numberOf (drawFault p table)) ≡ true) × (tableLeft p table ≡ replicate places 0 ++ drop places table))
@@ -409,7 +403,7 @@ first-is-named p D E held one f =
         let same = one-pair p (w .0) (w .1) D E (w .3) f in
         w .2 ∙ ap₂ (λ a c. noTimetable ∷ a ∷ c ∷ asked p a c ∷ carries p a c ∷ []) (same .0) (same .1)
 
--- The jobs of P5 give the rows of P5, whatever stood in the table, and the places behind them stay.
+-- The jobs of P5 give the rows of P5, whatever stood in the table, and the places beyond them stay.
 P5-of-sevens : timetable (planWith (P5 .jobs)) (replicate places 7) ≡ tableOf (P5 .rows)
 unfolding timetable classPlaced turnsAt placing allRoom through filled boundariesTo insert tableOf
 P5-of-sevens = refl

@@ -54,16 +54,6 @@ Rule9 p = (i : ℕ) → i < counted p → (release p i < deadline p i) × (deadl
 abbrev pub NoStray : Plan → Table → Type 0
 NoStray p table = (i j : ℕ) → i < mostJobs → j < mostIntervals → (counted p ≤ i) ⊎ (intervals p ≤ j) → allotment mostIntervals table i j ≡ 0
 
--- A plan and its table are sound, for judge and writer; 21 is its negation.
-pub record SoundPlan (p : Plan) (table : List ℕ) : Type 0 where
-  pub rates : Rule4 p
-  pub count : Rule5 p
-  pub names : Rule6 p
-  pub differ : Rule7 p
-  pub grades : Rule8 p
-  pub bounds : Rule9 p
-  pub clear : NoStray p table
-
 -- Rules 4 to 9 hold of a plan's rates and jobs, for the desk; 21 is its negation.
 pub record SoundJobs (p : Plan) : Type 0 where
   pub rates : Rule4 p
@@ -72,6 +62,11 @@ pub record SoundJobs (p : Plan) : Type 0 where
   pub differ : Rule7 p
   pub grades : Rule8 p
   pub bounds : Rule9 p
+
+-- A plan and its table are sound, for judge and writer; 21 is its negation.
+pub record SoundPlan (p : Plan) (table : List ℕ) : Type 0 where
+  pub jobs : SoundJobs p
+  pub clear : NoStray p table
 
 -- A plan and a run are sound, for step and outcome; 21 is its negation. Names and the table are
 -- not asked about.

@@ -1,6 +1,6 @@
 -- The desk's definitions over the columns of the jobs, as its internal functions have them.
 use mathlib.Core.Path.{_≡_}
-use mathlib.Core.Bool.{Bool, not, cond, _&&_, _||_}
+use mathlib.Core.Bool.{Bool, not, _&&_, _||_}
 use mathlib.Core.List.{List, [], _∷_}
 use Prim.Native.Nat.{ℕ, suc, _+_, _*_, _-_, _^_, _<_}
 use lib.Dec.{leb, ltb, eqb}
@@ -9,9 +9,11 @@ use Rattle.base.specs.Sum.{sum, on}
 use Rattle.base.specs.Below.{every}
 use Rattle.plan.specs.Kinds.{Time, Times}
 use Rattle.plan.specs.Refusal.{noTimetable}
-use Rattle.plan.specs.Report.{Report, fault, first}
-use Rattle.plan.specs.Rules.{hi, counted, jobOf, size, deadline}
+use Rattle.plan.specs.Report.{Report, fault}
+use Rattle.plan.specs.Rules.{counted, jobOf, size, deadline}
+use Rattle.plan.specs.Columns.{columnValues}
 use Rattle.plan.specs.declared.kinds.Plan.{Plan}
+use Rattle.desk.specs.Timetable.{isOf}
 
 -- The columns hold the numbers of a plan's counted jobs, each at the job's position.
 pub record JobColumns (p : Plan) (jobs : ℕ) (grades sizes deadlines : List ℕ) : Type 0 where
@@ -19,10 +21,6 @@ pub record JobColumns (p : Plan) (jobs : ℕ) (grades sizes deadlines : List ℕ
   pub grade : (i : ℕ) → i < counted p → getD grades i 0 ≡ jobOf p i .grade
   pub size : (i : ℕ) → i < counted p → getD sizes i 0 ≡ size p i
   pub deadline : (i : ℕ) → i < counted p → getD deadlines i 0 ≡ deadline p i
-
--- A grade is of the class that is taken from the back, or of the one from the front.
-abbrev pub isOf : (back : Bool) (grade : ℕ) → Bool
-isOf back grade = cond back (not (eqb grade hi)) (eqb grade hi)
 
 -- The size of job i if it is of a class and due at or before a time, otherwise 0.
 abbrev pub dueSize : (back : Bool) (grades sizes deadlines : List ℕ) (t : Time) (i : ℕ) → ℕ
@@ -41,7 +39,7 @@ endAt jobs back times grades sizes deadlines m =
 
 -- The greatest number that a column holds, of 32 bits.
 abbrev pub mostInColumn : ℕ
-mostInColumn = 4_294_967_295
+mostInColumn = columnValues - 1
 
 -- More than any sum of sizes.
 abbrev pub mostSum : ℕ

@@ -1,5 +1,6 @@
 -- The contracts of the desk's functions over columns: they hold for every plan whose columns and boundaries are lent.
 use mathlib.Core.Path.{_≡_}
+use mathlib.Core.Bool.{Bool}
 use mathlib.Core.List.{List, []}
 use Prim.Native.Nat.{ℕ}
 use Rattle.plan.specs.Kinds.{Table, Times}
@@ -9,7 +10,6 @@ use Rattle.plan.specs.Report.{numberOf}
 use Rattle.plan.specs.declared.kinds.Outline.{Outline}
 use Rattle.plan.specs.declared.kinds.Plan.{Plan}
 use Rattle.plan.specs.declared.kinds.Slots.{Slots}
-use mathlib.Core.Bool.{Bool}
 use Rattle.desk.specs.Timetable.{Draft, turnsAt, classPlaced}
 use Rattle.desk.specs.Desk.{jobsFault, tableAfter}
 use Rattle.desk.specs.Answers.{shortageView}
