@@ -41,5 +41,7 @@ pub const HEAD_BYTES: usize = 5;
 pub const JOB_LENGTH: u8 = 21;
 /// Length byte in front of each row.
 pub const ROW_LENGTH: u8 = 14;
+/// Length byte in front of each reading of a log.
+pub const READING_LENGTH: u8 = 16;
 /// Bytes of the largest file.
 pub const LARGEST_FILE: usize = 30_956;

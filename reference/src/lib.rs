@@ -1,4 +1,5 @@
-//! The reference program: every call on plans, runs and job lists, written by the plainest means.
+//! The reference program: every call on plans, runs, job lists and meter logs, written by the plainest
+//! means.
 //!
 //! `generate` makes test inputs out of a seed, on which other programs are compared with this one.
 
@@ -8,6 +9,7 @@ pub mod generate;
 pub mod joblist;
 pub mod judge;
 pub mod lookup;
+pub mod meter;
 pub mod plan;
 pub mod program;
 pub mod reader;

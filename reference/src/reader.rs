@@ -21,7 +21,7 @@ pub struct Answer {
     pub plan: Plan,
 }
 
-/// The first fault of a file or of a job list's text: its number, and where the field or the line
+/// The first fault of a file, a log or a job list's text: its number, and where the field or the line
 /// begins that it is told of. For bytes after the last row this is the first of them.
 #[derive(Clone, Copy, Debug, PartialEq, Eq)]
 pub struct Fault {
@@ -34,13 +34,13 @@ pub fn fault<T>(number: u8, offset: usize) -> Result<T, Fault> {
 }
 
 /// A file with the place of its next unread byte.
-struct Bytes<'a> {
-    file: &'a [u8],
-    next: usize,
+pub(crate) struct Bytes<'a> {
+    pub(crate) file: &'a [u8],
+    pub(crate) next: usize,
 }
 
 impl<'a> Bytes<'a> {
-    fn left(&self) -> usize {
+    pub(crate) fn left(&self) -> usize {
         self.file.len() - self.next
     }
 
@@ -55,7 +55,7 @@ impl<'a> Bytes<'a> {
     }
 
     /// The next field of so many bytes as a number, highest byte first.
-    fn number(&mut self, length: usize) -> Result<u64, Fault> {
+    pub(crate) fn number(&mut self, length: usize) -> Result<u64, Fault> {
         let field = self.field(length)?;
         Ok(field
             .iter()
@@ -146,7 +146,8 @@ pub fn contents(file: &[u8]) -> Result<Contents, Fault> {
     })
 }
 
-fn read_head(bytes: &mut Bytes) -> Result<(), Fault> {
+/// Reads the version and the length field, with which every kind of file begins.
+pub(crate) fn read_head(bytes: &mut Bytes) -> Result<(), Fault> {
     // A missing version byte has a number of its own, unlike every other missing field.
     if bytes.file.first() != Some(&VERSION) {
         return fault(refusal::VERSION, 0);
@@ -216,8 +217,8 @@ fn read_job(bytes: &mut Bytes, earlier: &[Job]) -> Result<Job, Fault> {
     Ok(job)
 }
 
-/// Reads the length byte of a job or a row, which has only one right value.
-fn read_length_byte(bytes: &mut Bytes, right: u8) -> Result<(), Fault> {
+/// Reads the length byte of a job, a row or a reading, which has only one right value.
+pub(crate) fn read_length_byte(bytes: &mut Bytes, right: u8) -> Result<(), Fault> {
     let at = bytes.next;
     if bytes.byte()? != right {
         return fault(refusal::LENGTH_BYTE, at);

@@ -32,6 +32,8 @@ pub const CANNOT_END: u8 = 26;
 pub const TOO_MANY_SPEEDS: u8 = 27;
 pub const RELEASES_DIFFER: u8 = 28;
 pub const NO_TIMETABLE: u8 = 29;
+pub const NOT_FINITE: u8 = 30;
+pub const LOWEST_RATE: u8 = 31;
 
 /// A refusal with its places, listed in the order in which they are named.
 ///

@@ -44,6 +44,10 @@ here file at = got at at
 abbrev pub fileLength : Parser ℕ
 fileLength file at = got (length file) at
 
+-- Whether the file ends here; consumes no bytes.
+abbrev pub atEnd : Parser Bool
+atEnd file at = got (leb (length file) at) at
+
 -- Consumes no bytes, and refuses with the number, at the field that begins at `from`, if the test is
 -- false.
 abbrev pub test : (ok : Bool) (number : Number) (from : Offset) → Parser (Unit {0})

@@ -1,5 +1,5 @@
 -- Reading a job list: its header, then a line for each job. Each refusal says at which offset.
-use mathlib.Core.Bool.{Bool, cond, _&&_}
+use mathlib.Core.Bool.{cond, _&&_}
 use mathlib.Core.List.{List, [], _∷_, _++_}
 use Prim.Native.Nat.{ℕ, zero, suc}
 use lib.Dec.{leb}
@@ -12,7 +12,7 @@ use Rattle.plan.specs.Rules.{nameAllowed, isAbsent, gradeAllowed, windowAllowed
 use Rattle.plan.specs.JobLists.{namesOf, listOf}
 use Rattle.plan.specs.declared.kinds.Job.{Job}
 use Rattle.plan.specs.declared.kinds.JobList.{JobList}
-use Rattle.fields.specs.Parsers.{Parsed, got, no, Parser, _>>=_, _>>_, done, here, test}
+use Rattle.fields.specs.Parsers.{Parsed, got, no, Parser, _>>=_, _>>_, done, here, atEnd, test}
 use Rattle.text.specs.Text.{text}
 use Rattle.csv.specs.Grammar.{comma, lineEnd}
 use Rattle.csv.specs.Items.{exactly, nameItem, gradeItem, numberItem}
@@ -61,10 +61,6 @@ oneJob earlier = do
   test (gradeAllowed (l .grade)) wrongGrade (l .gradeAt)
   test (windowAllowed (l .release) (l .deadline) && sizeAllowed (l .size)) wrongJobBounds (l .releaseAt)
   done (jobOn l)
-
--- Whether the text ends here.
-abbrev pub atEnd : Parser Bool
-atEnd file at = got (leb (length file) at) at
 
 -- Lines up to the end of the text, at most `room` of them, after the jobs that were read. One line more is
 -- refused before its text is looked at.

@@ -17,15 +17,15 @@ refusalAt number offset = record { number = number; offset = offset }
 abbrev pub noRefusal : Refusal
 noRefusal = refusalAt doneNumber 0
 
--- There is no first byte, or it is no version of plan files.
+-- There is no first byte, or it is no version of such files.
 abbrev pub wrongVersion : ℕ
 wrongVersion = 1
 
--- The bytes end inside a field, the length field is wrong, or bytes follow the last row.
+-- The bytes end inside a field, the length field is wrong, or bytes follow the last row of a plan file.
 abbrev pub wrongExtent : ℕ
 wrongExtent = 2
 
--- The length byte of a job or of a row is wrong.
+-- The length byte of a record is wrong.
 abbrev pub wrongRecordLength : ℕ
 wrongRecordLength = 3
 
@@ -122,7 +122,7 @@ noSuchJob = 25
 abbrev pub cannotEnd : ℕ
 cannotEnd = 26
 
--- There are more speeds than a shift may have.
+-- There are more speeds than a shift may have, or more readings than a log may have.
 abbrev pub tooManySpeeds : ℕ
 tooManySpeeds = 27
 
@@ -133,3 +133,11 @@ releasesDiffer = 28
 -- No table is accepted for the rates and the jobs.
 abbrev pub noTimetable : ℕ
 noTimetable = 29
+
+-- The mean or the lowest rate of a reading is no finite number.
+abbrev pub notFinite : ℕ
+notFinite = 30
+
+-- The lowest rate of a reading is below zero or above the mean.
+abbrev pub wrongLowest : ℕ
+wrongLowest = 31

@@ -75,3 +75,8 @@ pub const TOO_MANY_SPEEDS: u8 = 27;
 pub const RELEASES_DIFFER: u8 = 28;
 
 pub const NO_TIMETABLE: u8 = 29;
+
+// Refusals of a reading of the line meter.
+pub const NOT_FINITE: u8 = 30;
+
+pub const WRONG_LOWEST: u8 = 31;

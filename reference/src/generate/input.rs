@@ -62,3 +62,19 @@ pub struct ListInput {
     pub list: JobList,
     pub output: usize,
 }
+
+/// A reading of the meter as the bits of its floats, and a normal rate, which may be any.
+#[derive(Clone, Copy, Debug, PartialEq, Eq)]
+pub struct ReadingInput {
+    pub mean: u64,
+    pub lowest: u64,
+    pub n: u16,
+}
+
+/// A log of the meter, right or wrong, a normal rate, and how many places are lent for the speeds.
+#[derive(Clone, Debug, PartialEq, Eq)]
+pub struct LogInput {
+    pub log: Vec<u8>,
+    pub n: u16,
+    pub list: usize,
+}

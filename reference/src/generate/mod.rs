@@ -9,12 +9,15 @@ mod fields;
 mod fixed_files;
 mod fixed_hands;
 mod fixed_lists;
+mod fixed_meters;
 mod fixed_places;
 mod fixed_texts;
+mod floats;
 mod hand;
 mod input;
 mod joblists;
 mod listhand;
+mod meters;
 mod nights;
 mod prng;
 mod refused;
@@ -37,8 +40,11 @@ pub use bad_inputs::bad_inputs;
 pub use fixed_files::fixed_files;
 pub use fixed_hands::fixed_hands;
 pub use fixed_lists::fixed_lists;
+pub use fixed_meters::{fixed_logs, fixed_readings};
 pub use fixed_texts::fixed_texts;
-pub use input::{DeskInput, FileInput, HandInput, Lent, ListInput, ShiftInput, Word};
+pub use input::{
+    DeskInput, FileInput, HandInput, Lent, ListInput, LogInput, ReadingInput, ShiftInput, Word,
+};
 pub use nights::night;
 pub use prng::{Prng, Purpose};
 
@@ -137,6 +143,16 @@ pub fn quoted_list(seed: u64, number: u64) -> (Vec<Job>, Vec<u8>) {
 pub fn job_list(seed: u64, number: u64) -> ListInput {
     let prng = &mut Prng::new(seed, Purpose::JobList, number);
     listhand::list(prng, limits_of(number).jobs)
+}
+
+/// A reading of the meter with a rate, drawn from the seed and its own number alone.
+pub fn reading_input(seed: u64, number: u64) -> ReadingInput {
+    meters::reading(&mut Prng::new(seed, Purpose::Reading, number))
+}
+
+/// A log of the meter with a rate and a list, drawn from the seed and its own number alone.
+pub fn log_input(seed: u64, number: u64) -> LogInput {
+    meters::log(&mut Prng::new(seed, Purpose::Log, number))
 }
 
 /// A sound list of at most so many jobs, and its text with more quotes than there must be.

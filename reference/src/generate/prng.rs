@@ -16,6 +16,8 @@ pub enum Purpose {
     Words,
     Shift,
     Desk,
+    Reading,
+    Log,
 }
 
 /// The state of one source.

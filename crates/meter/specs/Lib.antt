@@ -1,0 +1,4 @@
+pub mod Speed
+pub mod Log
+pub mod Answers
+pub mod inner

@@ -1,0 +1,2 @@
+-- Definitions that the contracts of inner functions name. No promise rests on them.
+pub mod Parts
