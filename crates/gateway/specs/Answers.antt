@@ -3,10 +3,11 @@
 use mathlib.Core.Path.{_≡_}
 use mathlib.Core.List.{List}
 use Prim.Native.Nat.{ℕ}
+use lib.Ieee.{Float}
 use lib.IntN.{ℤ}
 use Rattle.plan.specs.Kinds.{Bytes, Offset, Position, Row, Speed, Table, Words}
 use Rattle.planfile.specs.Reader.{nameFound}
-use Rattle.gateway.specs.Calls.{judgeCall, drawCall, shortageCall, startCall, stepCall, shiftCall, outcomeCall, slackCall, readCall, writeCall, importCall, exportCall, endCall}
+use Rattle.gateway.specs.Calls.{judgeCall, drawCall, shortageCall, startCall, stepCall, shiftCall, outcomeCall, slackCall, readCall, writeCall, importCall, exportCall, endCall, speedCall, logCall}
 
 -- The contract of `gateway_read`: the number, the lent plan, the table and the offset.
 abbrev pub HostReads : (file : Bytes) (plan : Words) (table : Table) (offset : Offset) (r : ℕ) (plan-left : Words) (table-left : Table) (offset-left : Offset) → Type 0
@@ -72,3 +73,12 @@ HostExports list out length r out-left length-left =
 -- The contract of `gateway_end`: the number and the lent run.
 abbrev pub HostTells : (plan run : Words) (position : Position) (r : ℕ) (run-left : Words) → Type 0
 HostTells plan run position r run-left = record { number = r; run = run-left } ≡ endCall plan run position
+
+-- The contract of `gateway_speed`: the number and the speed, whatever it was before.
+abbrev pub HostMeters : (mean lowest : Float) (n : ℕ) (r : ℕ) (speed-left : Speed) → Type 0
+HostMeters mean lowest n r speed-left = record { number = r; speed = speed-left } ≡ speedCall mean lowest n
+
+-- The contract of `gateway_speeds`: the number, the list, the count and the offset, whatever the last two were before.
+abbrev pub HostReadsLog : (file : Bytes) (n : ℕ) (speeds : List ℕ) (r : ℕ) (speeds-left : List ℕ) (count-left : ℕ) (offset-left : Offset) → Type 0
+HostReadsLog file n speeds r speeds-left count-left offset-left =
+    record { number = r; speeds = speeds-left; count = count-left; offset = offset-left } ≡ logCall file n speeds

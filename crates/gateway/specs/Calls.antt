@@ -3,6 +3,7 @@ use mathlib.Core.Bool.{Bool, not, cond, _||_}
 use mathlib.Core.List.{List, [], _∷_}
 use Prim.Native.Nat.{ℕ}
 use lib.Dec.{ltb}
+use lib.Ieee.{Float}
 use lib.IntN.{ℤ, pos}
 use lib.ListN.{length, set}
 use Rattle.plan.specs.Kinds.{Bytes, Offset, Position, Row, Speed, Table, Words}
@@ -15,6 +16,9 @@ use Rattle.planfile.specs.Reader.{ReadEffect, reader}
 use Rattle.planwriter.specs.Writing as writing
 use Rattle.joblist.specs.Import.{ImportEffect, imported}
 use Rattle.joblist.specs.Export as export
+use Rattle.meter.specs.Speed.{Told, speed, metered}
+use Rattle.meter.specs.Speed as reading
+use Rattle.meter.specs.Log as log
 use Rattle.desk.specs.Desk.{shortageOf, drawFault, tableLeft}
 use Rattle.dispatch.specs.Step.{SlotEffect, WordEffect, Ending, met, endedEarly, discarded, missed, stillOpen, refused, started, stepped, outcome, toldEnded}
 use Rattle.dispatch.specs.Shift.{ShiftEffect, shifted}
@@ -355,3 +359,56 @@ exportWords o = record { number = exportedNumber (o .answer); length = exportedL
 unfoldable pub exportCall : (list : Words) (out : Bytes) (length : ℕ) → HostExportEffect
 exportCall list out length =
     cond (shortList list) (record { number = bufferTooShort; length = length; out = out }) (exportWords (export.exported (listHeld list) out))
+
+-- The effect of the call for a single reading.
+pub record HostSpeedEffect : Type 0 where
+  pub number : ℕ
+  pub speed : ℕ
+
+-- The number of what is told of a reading.
+abbrev pub toldNumber : Told → ℕ
+toldNumber (speed v) = doneNumber
+toldNumber (reading.refused number) = number
+
+-- The speed that is told; 0 after a refusal.
+abbrev pub toldSpeed : Told → ℕ
+toldSpeed (speed v) = v
+toldSpeed (reading.refused number) = 0
+
+-- The effect of what is told of a reading.
+abbrev pub speedWords : Told → HostSpeedEffect
+speedWords t = record { number = toldNumber t; speed = toldSpeed t }
+
+-- The call for a single reading.
+unfoldable pub speedCall : (mean lowest : Float) (n : ℕ) → HostSpeedEffect
+speedCall mean lowest n = speedWords (metered (record { mean = mean; lowest = lowest }) n)
+
+-- The effect of the log reader's call.
+pub record HostLogEffect : Type 0 where
+  pub number : ℕ
+  pub speeds : List ℕ
+  pub count : ℕ
+  pub offset : ℕ
+
+-- The number of the log reader's answer.
+abbrev pub logNumber : log.Answer → ℕ
+logNumber (log.took count) = doneNumber
+logNumber (log.refused report) = numberOf report
+
+-- How many speeds were written; 0 after a refusal.
+abbrev pub logCount : log.Answer → ℕ
+logCount (log.took count) = count
+logCount (log.refused report) = 0
+
+-- The offset of a refusal; 0 if it has none, and if the log was read.
+abbrev pub logOffset : log.Answer → Offset
+logOffset (log.took count) = 0
+logOffset (log.refused report) = firstOf report
+
+-- The effect of the log reader, with count and offset.
+abbrev pub logWords : log.LogEffect → HostLogEffect
+logWords e = record { number = logNumber (e .answer); speeds = e .list; count = logCount (e .answer); offset = logOffset (e .answer) }
+
+-- The log reader's call.
+unfoldable pub logCall : (file : Bytes) (n : ℕ) (speeds : List ℕ) → HostLogEffect
+logCall file n speeds = logWords (log.logRead file n speeds)

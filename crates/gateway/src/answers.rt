@@ -10,8 +10,11 @@ use joblist::import::Answer as Import;
 use judge::answers::Slack;
 use judge::answers::Verdict;
 use judge::answers::number_of;
+use meter::log::Answer as Log;
+use meter::reading::Metered;
 use plan::refusal::BUFFER_TOO_SHORT;
 use plan::refusal::DONE;
+use plan::refusal::WRONG_RATES;
 use planfile::reader::Answer as Reader;
 use planwriter::writer::Written;
 ghost use mathlib.Core.Path.{_≡_};
@@ -22,7 +25,8 @@ ghost use Rattle.planwriter.specs.Answers as written;
 ghost use Rattle.joblist.specs.Answers as lists;
 ghost use Rattle.desk.specs.Answers.{shortageView};
 ghost use Rattle.dispatch.specs.Answers as slots;
-ghost use Rattle.gateway.specs.Calls.{firstOf, secondOf, thirdOf, fourthOf, endingNumber, figureNumber, figureSlack, figureFirst, figureSecond, writtenNumber, writtenLength, exportedNumber, exportedLength};
+ghost use Rattle.meter.specs.Answers as meters;
+ghost use Rattle.gateway.specs.Calls.{firstOf, secondOf, thirdOf, fourthOf, endingNumber, figureNumber, figureSlack, figureFirst, figureSecond, writtenNumber, writtenLength, exportedNumber, exportedLength, toldNumber, toldSpeed, logNumber, logCount, logOffset};
 
 pub const NONE_ESSENTIAL: u32 = 256;
 
@@ -262,5 +266,59 @@ pub(crate) fn carried_of(s: Shortage) -> u64
         Shortage::Unsound => 0,
         Shortage::ReleasesDiffer => 0,
         Shortage::Pair(_, _, _, carried) => carried.0,
+    }
+}
+
+pub(crate) fn metered_number(m: Metered) -> u32
+    ensures { λ r. ⌜ r ≡ toldNumber (meters.meteredView m) ⌝ }
+{
+    match m {
+        Metered::Speed(_) => DONE as u32,
+        Metered::Refused(number) => number as u32,
+    }
+}
+
+// The speed of a reading; 0 if it is refused.
+pub(crate) fn metered_speed(m: Metered) -> u16
+    ensures { λ r. ⌜ r ≡ toldSpeed (meters.meteredView m) ⌝ }
+{
+    match m {
+        Metered::Speed(v) => v,
+        Metered::Refused(_) => 0,
+    }
+}
+
+pub(crate) fn log_number(a: Log) -> u32
+    ensures { λ r. ⌜ r ≡ logNumber (meters.answerView a) ⌝ }
+{
+    match a {
+        Log::Read(_) => DONE as u32,
+        Log::WrongRate => WRONG_RATES as u32,
+        Log::TooShort => BUFFER_TOO_SHORT as u32,
+        Log::Refused(refusal) => refusal.number as u32,
+    }
+}
+
+// The number of a log's speeds; 0 if it is refused.
+pub(crate) fn log_count(a: Log) -> usize
+    ensures { λ r. ⌜ r ≡ logCount (meters.answerView a) ⌝ }
+{
+    match a {
+        Log::Read(count) => count,
+        Log::WrongRate => 0,
+        Log::TooShort => 0,
+        Log::Refused(_) => 0,
+    }
+}
+
+// Where a log is wrong; 0 if it was read, and with a refusal that names no offset.
+pub(crate) fn log_offset(a: Log) -> usize
+    ensures { λ r. ⌜ r ≡ logOffset (meters.answerView a) ⌝ }
+{
+    match a {
+        Log::Read(_) => 0,
+        Log::WrongRate => 0,
+        Log::TooShort => 0,
+        Log::Refused(refusal) => refusal.offset,
     }
 }

@@ -5,4 +5,5 @@ mod drawing;
 mod files;
 mod judging;
 mod lists;
+mod metering;
 mod slots;
