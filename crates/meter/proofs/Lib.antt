@@ -3,3 +3,7 @@ pub mod RateLaws
 pub mod BitLaws
 pub mod SpeedLaws
 pub mod LogLaws
+pub mod SpeedExactly
+pub mod RoundTrip
+pub mod LogTold
+pub mod Determined

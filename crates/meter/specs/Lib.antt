@@ -1,4 +1,5 @@
 pub mod Speed
 pub mod Log
 pub mod Answers
+pub mod Grounds
 pub mod inner
