@@ -3,10 +3,11 @@
 use mathlib.Core.Path.{_≡_, refl, sym, _∙_, ap}
 use mathlib.Core.List.{List}
 use Prim.Native.Nat.{ℕ}
+use lib.Ieee.{Float}
 use lib.IntN.{ℤ}
 use Rattle.planfile.specs.Reader.{nameFound}
-use Rattle.gateway.specs.Calls.{HostJudgeEffect, HostSlackEffect, HostStartEffect, HostStepEffect, HostShiftEffect, HostDrawEffect, HostShortageEffect, HostReadEffect, HostWriteEffect, HostImportEffect, HostExportEffect, HostEndEffect, judgeCall, drawCall, shortageCall, startCall, stepCall, shiftCall, outcomeCall, slackCall, readCall, writeCall, importCall, exportCall, endCall}
-use Rattle.gateway.specs.Answers.{HostReads, HostWrites, HostShows, HostJudges, HostMeasures, HostStarts, HostSteps, HostShifts, HostDraws, HostExplains, HostEnds, HostImports, HostExports, HostTells}
+use Rattle.gateway.specs.Calls.{HostJudgeEffect, HostSlackEffect, HostStartEffect, HostStepEffect, HostShiftEffect, HostDrawEffect, HostShortageEffect, HostReadEffect, HostWriteEffect, HostImportEffect, HostExportEffect, HostEndEffect, HostSpeedEffect, HostLogEffect, judgeCall, drawCall, shortageCall, startCall, stepCall, shiftCall, outcomeCall, slackCall, readCall, writeCall, importCall, exportCall, endCall, speedCall, logCall}
+use Rattle.gateway.specs.Answers.{HostReads, HostWrites, HostShows, HostJudges, HostMeasures, HostStarts, HostSteps, HostShifts, HostDraws, HostExplains, HostEnds, HostImports, HostExports, HostTells, HostMeters, HostReadsLog}
 
 -- `gateway_read`.
 pub one-read : (file plan table : List ℕ) (was r s : ℕ) (words others cells other-cells : List ℕ) (offset other : ℕ) → HostReads file plan table was r words cells offset
@@ -152,3 +153,26 @@ one-end plan run position r s words others d e =
 
 pub some-end : (plan run : List ℕ) (position : ℕ) → (r : ℕ) × (words : List ℕ) × HostTells plan run position r words
 some-end plan run position = let c = endCall plan run position in (c .number, c .run, refl)
+
+-- `gateway_speed`.
+pub one-speed : (mean lowest : Float) (n r s left other : ℕ) → HostMeters mean lowest n r left → HostMeters mean lowest n s other → (r ≡ s) × (left ≡ other)
+one-speed mean lowest n r s left other d e =
+    let same = d ∙ sym e in
+    (ap (λ (x : HostSpeedEffect). x .number) same, ap (λ (x : HostSpeedEffect). x .speed) same)
+
+pub some-speed : (mean lowest : Float) (n : ℕ) → (r : ℕ) × (left : ℕ) × HostMeters mean lowest n r left
+some-speed mean lowest n = let c = speedCall mean lowest n in (c .number, c .speed, refl)
+
+-- `gateway_speeds`.
+pub one-log : (file : List ℕ) (n : ℕ) (speeds : List ℕ) (r s : ℕ) (left other : List ℕ) (count many offset from : ℕ) → HostReadsLog file n speeds r left count offset
+    → HostReadsLog file n speeds s other many from → (r ≡ s) × (left ≡ other) × (count ≡ many) × (offset ≡ from)
+one-log file n speeds r s left other count many offset from d e =
+    let same = d ∙ sym e in (
+      ap (λ (x : HostLogEffect). x .number) same,
+      ap (λ (x : HostLogEffect). x .speeds) same,
+      ap (λ (x : HostLogEffect). x .count) same,
+      ap (λ (x : HostLogEffect). x .offset) same,
+    )
+
+pub some-log : (file : List ℕ) (n : ℕ) (speeds : List ℕ) → (r : ℕ) × (left : List ℕ) × (count : ℕ) × (offset : ℕ) × HostReadsLog file n speeds r left count offset
+some-log file n speeds = let c = logCall file n speeds in (c .number, c .speeds, c .count, c .offset, refl)

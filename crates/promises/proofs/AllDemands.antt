@@ -2,6 +2,7 @@
 use mathlib.Core.Path.{_≡_}
 use Rattle.promises.specs.Demands.{ExactlyOne, EveryCallIsDetermined, VerdictFileAndSlotAreExact, AllDemands}
 use Rattle.joblist.proofs.Determined as lists
+use Rattle.meter.proofs.Determined as meters
 use Rattle.promises.proofs.Determined as unique
 use Rattle.promises.proofs.Demand2.{judge-is-exact, read-and-written, written-and-read, grants-are-the-rule}
 use Rattle.promises.proofs.NightParts.{kept-in-parts}
@@ -41,6 +42,8 @@ every-call-is-determined =
       telling = λ p run position. single (unique.some-end-early p run position) (unique.one-end-early p run position);
       importing = λ text. single (lists.some-import text) (lists.one-import text);
       exporting = λ list out. both (lists.some-export list out) (lists.one-export list out);
+      metering = λ reading n. single (meters.some-speed reading n) (meters.one-speed reading n);
+      logging = λ file n list. both (meters.some-log file n list) (meters.one-log file n list);
     }
 
 verdict-file-and-slot-are-exact : VerdictFileAndSlotAreExact

@@ -35,4 +35,6 @@ pub mod HostNights
 pub mod ReadWords
 pub mod RefusalOrder
 pub mod ReaderExactly
+pub mod LogExactly
+pub mod Metering
 pub mod WrongField

@@ -27,35 +27,35 @@ use Rattle.planfields.specs.Records.{Head, head, jobName, oneJob}
 use Rattle.plan.specs.JobLists.{namesOf}
 use Rattle.planfile.specs.Reader.{allJobs, position, Row, rowJob, oneRow, allRows, Contents, planFrom, Preamble, preamble, planFile, readFile, ReadEffect, leaves, reader}
 use Rattle.planfile.proofs.WholeFile.{reader-long}
-use Rattle.promises.specs.FileFaults.{valueAt, cutAt, unlessAt, fieldFaults, lengthFaults, headFaults, headIn, nameFrom, gradeFrom, releaseFrom, sizeFrom, deadlineFrom, afterJob, jobFrom, jobAt, jobsIn, jobFaultsAt, jobFaults, intervalFrom, unitsFrom, afterRow, rowFrom, rowIn, rowFaultsAt, lowestAt, rowFaults, tableIn, fileJobs, filePlan, rowsFrom, rowsSaid, endOf, fileFault, InsideFile, lastRead, lengthFrom, normalFrom, floorFrom, countFrom}
+use Rattle.promises.specs.FileFaults.{valueAt, cutAt, unlessAt, fieldFaults, lengthFaults, openingFaults, headFaults, headIn, nameFrom, gradeFrom, releaseFrom, sizeFrom, deadlineFrom, afterJob, jobFrom, jobAt, jobsIn, jobFaultsAt, jobFaults, intervalFrom, unitsFrom, afterRow, rowFrom, rowIn, rowFaultsAt, lowestAt, rowFaults, tableIn, fileJobs, filePlan, rowsFrom, rowsSaid, endOf, fileFault, InsideFile, lastRead, lengthFrom, normalFrom, floorFrom, countFrom}
 
 -- A parser's result by a report: the value and the next offset if the report is empty, otherwise the refusal
 -- that it names.
-abbrev settle : {A : Type 0} → Report → A → ℕ → Parsed A
+abbrev pub settle : {A : Type 0} → Report → A → ℕ → Parsed A
 settle [] a next = got a next
 settle (number ∷ []) a next = no (refusalAt number 0)
 settle (number ∷ offset ∷ rest) a next = no (refusalAt number offset)
 
 -- A report is empty, and then the next offset is at most the file's length; or it is `InsideFile`.
-abbrev Inside : (file : List ℕ) → Report → ℕ → Type 0
+abbrev pub Inside : (file : List ℕ) → Report → ℕ → Type 0
 Inside file [] next = next ≤ length file
 Inside file (number ∷ []) next = ⊥
 Inside file (number ∷ offset ∷ []) next = InsideFile file (number ∷ offset ∷ [])
 Inside file (number ∷ offset ∷ more ∷ rest) next = ⊥
 
 -- How far a parser has read.
-abbrev reach : (file : List ℕ) → Report → ℕ → ℕ
+abbrev pub reach : (file : List ℕ) → Report → ℕ → ℕ
 reach file [] next = next
 reach file (number ∷ []) next = lastRead file number 0
 reach file (number ∷ offset ∷ rest) next = lastRead file number offset
 
 -- What a parser gives at an offset, by the faults that it finds; it gives the same in another file of the same
 -- length that agrees as far as it has read.
-record Settles {A : Type 0} (file : List ℕ) (read : Parser A) (at : ℕ) (F : Report) (a : A) (next : ℕ) : Type 0 where
-  is : read file at ≡ settle F a next
-  inside : at ≤ length file → Inside file F next
-  goes : at ≤ length file → at ≤ reach file F next
-  same : at ≤ length file → (other : List ℕ) → length other ≡ length file → take (reach file F next) other ≡ take (reach file F next) file → read other at ≡ settle F a next
+pub record Settles {A : Type 0} (file : List ℕ) (read : Parser A) (at : ℕ) (F : Report) (a : A) (next : ℕ) : Type 0 where
+  pub is : read file at ≡ settle F a next
+  pub inside : at ≤ length file → Inside file F next
+  pub goes : at ≤ length file → at ≤ reach file F next
+  pub same : at ≤ length file → (other : List ℕ) → length other ≡ length file → take (reach file F next) other ≡ take (reach file F next) file → read other at ≡ settle F a next
 
 take-none : (w : ℕ) → take {A = ℕ} w [] ≡ []
 take-none zero = refl
@@ -74,7 +74,7 @@ agree-part : (a b : List ℕ) (at w : ℕ) → take (at + w) a ≡ take (at + w)
 agree-part a b at w e = sym (part-of at w a) ∙ ap (drop at) e ∙ part-of at w b
 
 -- A parser, then the one that its value gives: the first report, or else the second.
-then-settles : {A B : Type 0} {file : List ℕ} {read : Parser A} {at : ℕ} {F : Report} {a : A} {next : ℕ} {rest : A → Parser B} {G : A → Report} {b : A → B} {end : A → ℕ}
+pub then-settles : {A B : Type 0} {file : List ℕ} {read : Parser A} {at : ℕ} {F : Report} {a : A} {next : ℕ} {rest : A → Parser B} {G : A → Report} {b : A → B} {end : A → ℕ}
     → Settles file read at F a next → ((x : A) → x ≡ a → Settles file (rest x) next (G x) (b x) (end x))
     → Settles file (λ f n. onward (read f n) rest f) at (orElse F (G a)) (b a) (end a)
 then-settles {A} {B} {file} {F = F} {a} {next} {rest} {G} {b} {end} e f =
@@ -109,7 +109,7 @@ then-settles {A} {B} {file} {F = F} {a} {next} {rest} {G} {b} {end} e f =
     within (number ∷ offset ∷ more ∷ rest) i = i
 
 -- A parser, then a value made of its value.
-value-settles : {A B : Type 0} {file : List ℕ} {read : Parser A} {at : ℕ} {F : Report} {a : A} {next : ℕ} → Settles file read at F a next → (f : A → B)
+pub value-settles : {A B : Type 0} {file : List ℕ} {read : Parser A} {at : ℕ} {F : Report} {a : A} {next : ℕ} → Settles file read at F a next → (f : A → B)
     → Settles file (λ g n. onward (read g n) (λ x _ m. got (f x) m) g) at F (f a) next
 value-settles {A} {B} {file} {F = F} {a} {next} e f =
     record { is = by F file (e .is); inside = e .inside; goes = e .goes; same = λ h other long agree. by F other (e .same h other long agree) }
@@ -120,12 +120,12 @@ value-settles {A} {B} {file} {F = F} {a} {next} e f =
     by (number ∷ offset ∷ more) file e = rw e refl
 
 -- A parser that is told where it begins.
-here-settles : {B : Type 0} {file : List ℕ} {rest : ℕ → Parser B} {at : ℕ} {F : ℕ → Report} {b : B} {end : ℕ}
+pub here-settles : {B : Type 0} {file : List ℕ} {rest : ℕ → Parser B} {at : ℕ} {F : ℕ → Report} {b : B} {end : ℕ}
     → ((from : ℕ) → from ≡ at → Settles file (rest from) at (F from) b end) → Settles file (λ f n. rest n f n) at (F at) b end
 here-settles {at = at} e = record { is = e at refl .is; inside = e at refl .inside; goes = e at refl .goes; same = e at refl .same }
 
 -- The same with equal reports, values and offsets.
-settles-as : {A : Type 0} {file : List ℕ} {read : Parser A} {at : ℕ} {F G : Report} {a b : A} {m n : ℕ} → Settles file read at F a m → F ≡ G → a ≡ b → m ≡ n
+pub settles-as : {A : Type 0} {file : List ℕ} {read : Parser A} {at : ℕ} {F G : Report} {a b : A} {m n : ℕ} → Settles file read at F a m → F ≡ G → a ≡ b → m ≡ n
     → Settles file read at G b n
 settles-as s p q r = rw r at (rw q at (rw p at s))
 
@@ -139,7 +139,7 @@ module _ (file : List ℕ) where
       by true e false = omega arith
       by false e u = omega arith
 
-  field-settles : (w at : ℕ) → Settles file (field w) at (cutAt file w at) (valueAt file w at) (at + w)
+  pub field-settles : (w at : ℕ) → Settles file (field w) at (cutAt file w at) (valueAt file w at) (at + w)
   unfolding field
   field-settles w at =
       record {
@@ -167,13 +167,13 @@ module _ (file : List ℕ) where
       within h false e = (h, λ _. inl refl)
 
   -- A test on a field that begins before the offset, then a value.
-  passed-settles : {A : Type 0} (ok : Bool) (number from at : ℕ) → from < at → (at ≤ length file → at ≤ lastRead file number from) → (a : A)
+  pub passed-settles : {A : Type 0} (ok : Bool) (number from at : ℕ) → from < at → (at ≤ length file → at ≤ lastRead file number from) → (a : A)
       → Settles file (λ f n. onward (test ok number from f n) (λ _ _ next. got a next) f) at (unlessAt ok number from) a at
   passed-settles true number from at l r a = record { is = refl; inside = λ h. h; goes = λ _. omega arith; same = λ _ other long agree. refl }
   passed-settles false number from at l r a =
       record { is = refl; inside = λ h. (omega arith, λ e. absurd (omega (arith, e))); goes = r; same = λ _ other long agree. refl }
 
-  test-settles : (ok : Bool) (number from at : ℕ) → from < at → (at ≤ length file → at ≤ lastRead file number from) → Settles file (test ok number from) at (unlessAt ok number from) tt at
+  pub test-settles : (ok : Bool) (number from at : ℕ) → from < at → (at ≤ length file → at ≤ lastRead file number from) → Settles file (test ok number from) at (unlessAt ok number from) tt at
   test-settles true number from at l r = record { is = refl; inside = λ h. h; goes = λ _. omega arith; same = λ _ other long agree. refl }
   test-settles false number from at l r =
       record { is = refl; inside = λ h. (omega arith, λ e. absurd (omega (arith, e))); goes = r; same = λ _ other long agree. refl }
@@ -183,22 +183,22 @@ module _ (file : List ℕ) where
   checked-settles w some ok number at r =
       here-settles (λ from is. then-settles (field-settles w at) (λ x _. passed-settles (ok x) number from (at + w) (omega (arith, is)) (λ _. rw is r) x))
 
-  length-settles : (long at : ℕ) → Settles file (recordLength long) at (lengthFaults file long at) tt (at + 1)
+  pub length-settles : (long at : ℕ) → Settles file (recordLength long) at (lengthFaults file long at) tt (at + 1)
   unfolding recordLength
   length-settles long at =
       here-settles (λ from is. then-settles (field-settles 1 at) (λ x _. test-settles (eqb x long) wrongRecordLength from (at + 1) (omega (arith, is)) (λ _. omega (arith, is))))
 
   -- The version byte: where there is none, it is refused at 0 too.
-  version-settles : Settles file (version newestVersion) 0 (unlessAt (leb 1 (length file) && isVersion newestVersion (valueAt file 1 0)) wrongVersion 0) (valueAt file 1 0) 1
+  version-settles : (newest : ℕ) → Settles file (version newest) 0 (unlessAt (leb 1 (length file) && isVersion newest (valueAt file 1 0)) wrongVersion 0) (valueAt file 1 0) 1
   unfolding version field
-  version-settles =
+  version-settles newest =
       record {
-        is = by file (leb 1 (length file)) (isVersion newestVersion (valueAt file 1 0)) refl;
-        inside = λ h. within (leb 1 (length file)) refl (isVersion newestVersion (valueAt file 1 0));
+        is = by file (leb 1 (length file)) (isVersion newest (valueAt file 1 0)) refl;
+        inside = λ h. within (leb 1 (length file)) refl (isVersion newest (valueAt file 1 0));
         goes = λ _. omega arith;
         same = λ _ other long agree.
-            rw (long, first-byte other (rw (one-byte (leb 1 (length file) && isVersion newestVersion (valueAt file 1 0))) at agree))
-            (by other (leb 1 (length file)) (isVersion newestVersion (valueAt file 1 0)) refl);
+            rw (long, first-byte other (rw (one-byte (leb 1 (length file) && isVersion newest (valueAt file 1 0))) at agree))
+            (by other (leb 1 (length file)) (isVersion newest (valueAt file 1 0)) refl);
       }
     where
       one-byte : (t : Bool) → reach file (unlessAt t wrongVersion 0) 1 ≡ 1
@@ -208,11 +208,11 @@ module _ (file : List ℕ) where
       first-byte : (other : List ℕ) → take 1 other ≡ take 1 file → valueAt other 1 0 ≡ valueAt file 1 0
       first-byte other agree = ap (value 0) (agree-part other file 0 1 agree)
 
-      by : (f : List ℕ) (long t : Bool) → isVersion newestVersion (valueAt file 1 0) ≡ t
+      by : (f : List ℕ) (long t : Bool) → isVersion newest (valueAt file 1 0) ≡ t
           → refusedAs wrongVersion
           (onward (cond long (got (valueAt file 1 0) 1) (no (refusalAt wrongExtent 0)))
-          (λ x rest next. onward (test (isVersion newestVersion x) wrongVersion 0 rest next) (λ _ _ at. got x at) rest) f)
-          ≡ settle (unlessAt (long && isVersion newestVersion (valueAt file 1 0)) wrongVersion 0) (valueAt file 1 0) 1
+          (λ x rest next. onward (test (isVersion newest x) wrongVersion 0 rest next) (λ _ _ at. got x at) rest) f)
+          ≡ settle (unlessAt (long && isVersion newest (valueAt file 1 0)) wrongVersion 0) (valueAt file 1 0) 1
       by f false t e = refl
       by f true true e = rw e refl
       by f true false e = rw e refl
@@ -232,10 +232,14 @@ module _ (file : List ℕ) where
           let t = test-settles (eqb (openingBytes + x) (length file)) wrongExtent from openingBytes (omega (arith, is)) (λ h. rw (is, le-leb openingBytes (length file) h) (omega arith)) in
           record { is = t .is; inside = t .inside; goes = t .goes; same = λ h other long agree. rw long (t .same h other long agree) }
 
+  pub opening-settles : (newest : ℕ) → Settles file (opening newest true) 0 (openingFaults newest file) (valueAt file 1 0) openingBytes
+  unfolding opening
+  opening-settles newest = then-settles (version-settles newest) (λ v _. value-settles extent-settles (λ _. v))
+
   head-settles : Settles file (head true) 0 (headFaults file) (headIn file) headerBytes
-  unfolding head opening headFaults
+  unfolding head headFaults
   head-settles =
-      then-settles {B = Head} (then-settles version-settles (λ v _. value-settles extent-settles (λ _. v)))
+      then-settles {B = Head} (opening-settles newestVersion)
       (λ v _. here-settles (λ from is. then-settles (field-settles 2 normalFrom)
       (λ n _. then-settles (field-settles 2 floorFrom)
       (λ d _. then-settles (test-settles (ratesAllowed n d) wrongRates from countFrom (omega (arith, is)) (λ _. omega (arith, is)))

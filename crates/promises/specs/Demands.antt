@@ -24,6 +24,9 @@ use Rattle.planwriter.specs.Answers.{Writes}
 use Rattle.planwriter.specs.declared.writer.Written.{Written}
 use Rattle.joblist.specs.Answers.{Imports, Exports}
 use Rattle.joblist.specs.declared.export.Exported.{Exported}
+use Rattle.meter.specs.Answers.{Meters, ReadsLog}
+use Rattle.meter.specs.declared.reading.Reading.{Reading}
+use Rattle.meter.specs.declared.log.Answer.{Answer}
 use Rattle.judge.specs.Constraints.{Figure2}
 use Rattle.judge.specs.Verdict.{judged}
 use Rattle.judge.specs.Answers.{Judges, Measures}
@@ -61,6 +64,8 @@ pub record EveryCallIsDetermined : Type 0 where
   pub telling : (p : Plan) (run : Run) (position : Position) → ExactlyOne (Tells p run position)
   pub importing : (text : Bytes) → ExactlyOne (Imports text)
   pub exporting : (list : JobList) (out : Bytes) → ExactlyOne {A = Exported × Bytes} (λ r. Exports list out (r .0) (r .1))
+  pub metering : (reading : Reading) (n : ℕ) → ExactlyOne (Meters reading n)
+  pub logging : (file : Bytes) (n : ℕ) (list : List ℕ) → ExactlyOne {A = Answer × List ℕ} (λ r. ReadsLog file n list (r .0) (r .1))
 
 -- What the types of the code say of a plan and its table: all records are there, a name has eight
 -- bytes and a place four.

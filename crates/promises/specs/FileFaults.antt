@@ -12,7 +12,7 @@ use Rattle.base.specs.Sum.{on}
 use Rattle.plan.specs.Kinds.{Bytes, Number, Offset, Position, Table}
 use Rattle.plan.specs.Edition.{mostIntervals, nameBytes, places}
 use Rattle.plan.specs.Versions.{newestVersion, countAllowedIn, rowsAllowedIn}
-use Rattle.plan.specs.Refusal.{wrongVersion, wrongExtent, wrongRecordLength, wrongRates, wrongJobCount, wrongNameByte, nameTaken, wrongGrade, wrongJobBounds, tooManyRows, rowWithoutJob, rowWithoutInterval, rowWithoutUnits, rowOutOfOrder}
+use Rattle.plan.specs.Refusal.{wrongVersion, wrongExtent, wrongRecordLength, wrongRates, wrongJobCount, wrongNameByte, nameTaken, wrongGrade, wrongJobBounds, tooManyRows, rowWithoutJob, rowWithoutInterval, rowWithoutUnits, rowOutOfOrder, notFinite, wrongLowest}
 use Rattle.plan.specs.Report.{Report, orElse, fault, first}
 use Rattle.plan.specs.Rules.{ratesAllowed, nameAllowed, isAbsent, gradeAllowed, windowAllowed, sizeAllowed}
 use Rattle.plan.specs.Boundaries.{intervals}
@@ -23,6 +23,7 @@ use Rattle.fields.specs.Bytes.{value}
 use Rattle.fields.specs.Parsers.{isVersion}
 use Rattle.planfields.specs.Layout.{openingBytes, headerBytes, jobLength, rowLength, rowCountBytes}
 use Rattle.planfields.specs.Records.{Head}
+use Rattle.meter.specs.Log.{readingLength}
 use Rattle.plan.specs.JobLists.{namesOf}
 use Rattle.planfile.specs.Reader.{position, planFrom, Row}
 
@@ -59,14 +60,18 @@ floorFrom = normalFrom + 2
 abbrev pub countFrom : Offset
 countFrom = floorFrom + 2
 
--- The faults of the fields before the jobs. There is no first byte, or it is no version; the length field
--- is cut or is not the number of bytes after it; a rate is cut, or the rates are not allowed; the job
+-- The faults of the opening. There is no first byte, or it is no version up to the newest; the length field is cut or is not
+-- the number of bytes after it.
+abbrev pub openingFaults : (newest : ℕ) (file : Bytes) → Report
+openingFaults newest file =
+    orElse (unlessAt (leb 1 (length file) && isVersion newest (valueAt file 1 0)) wrongVersion 0)
+    (orElse (cutAt file 4 lengthFrom) (unlessAt (eqb (openingBytes + valueAt file 4 lengthFrom) (length file)) wrongExtent lengthFrom))
+
+-- The faults of the fields before the jobs: those of the opening; a rate is cut, or the rates are not allowed; the job
 -- count is cut or not allowed.
 unfoldable pub headFaults : (file : Bytes) → Report
 headFaults file =
-    orElse
-    (orElse (unlessAt (leb 1 (length file) && isVersion newestVersion (valueAt file 1 0)) wrongVersion 0)
-    (orElse (cutAt file 4 lengthFrom) (unlessAt (eqb (openingBytes + valueAt file 4 lengthFrom) (length file)) wrongExtent lengthFrom)))
+    orElse (openingFaults newestVersion file)
     (orElse (cutAt file 2 normalFrom) (orElse (cutAt file 2 floorFrom) (orElse (unlessAt (ratesAllowed (valueAt file 2 normalFrom) (valueAt file 2 floorFrom)) wrongRates normalFrom)
     (fieldFaults file 1 (countAllowedIn (valueAt file 1 0)) wrongJobCount countFrom))))
 
@@ -229,8 +234,8 @@ InsideFile file (number ∷ offset ∷ []) = (offset ≤ length file) × (offset
 InsideFile file (number ∷ offset ∷ more ∷ rest) = ⊥
 
 -- Where the last field ends that is read before a refusal: for 2 the field in hand is not read, except a
--- length field that is there whole; for the others it is read, and for 4, 9 and 14 the fields after it that
--- are tested with it.
+-- length field that is there whole; for the others it is read, and for 4, 9, 14, 30 and 31 the fields after it that
+-- are tested with it; for 27 nothing is.
 abbrev pub lastRead : (file : Bytes) (number : Number) (offset : Offset) → Offset
 lastRead file number offset =
     cond (eqb number wrongExtent) (cond (eqb offset lengthFrom && leb openingBytes (length file)) openingBytes offset)
@@ -238,7 +243,7 @@ lastRead file number offset =
     + (on (eqb number wrongVersion) 1 + on (eqb number wrongRecordLength) 1 + on (eqb number wrongRates) (2 + 2) + on (eqb number wrongJobCount) 1
     + on (eqb number wrongNameByte || eqb number nameTaken) nameBytes + on (eqb number wrongGrade) 1 + on (eqb number wrongJobBounds) (4 + 4 + 4)
     + on (eqb number tooManyRows) rowCountBytes + on (eqb number rowWithoutJob) nameBytes + on (eqb number rowWithoutInterval) 2
-    + on (eqb number rowWithoutUnits) 4 + on (eqb number rowOutOfOrder) (1 + rowLength)))
+    + on (eqb number rowWithoutUnits) 4 + on (eqb number rowOutOfOrder) (1 + rowLength) + on (eqb number notFinite || eqb number wrongLowest) readingLength))
 
 -- The numbers and offsets that faults of the fields before the jobs have. Here and below every number but 2
 -- and 3 tells the field; 3 is a record's length byte; 2 is a field that is cut, or the length field.

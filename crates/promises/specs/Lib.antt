@@ -4,3 +4,4 @@ pub mod Demands
 pub mod HostNight
 pub mod Grounds
 pub mod FileFaults
+pub mod LogFaults
