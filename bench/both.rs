@@ -15,13 +15,14 @@ use std::hint::black_box;
 use std::process::ExitCode;
 use std::time::{Duration, Instant};
 
-use bench::inputs::{Desk, Input, Night, Shape, Slot, LARGEST_FILE};
+use bench::inputs::{logs, readings, Desk, Input, Log, Night, Shape, Slot, LARGEST_FILE, METERED};
 use bench::refusal::TOO_SHORT;
 use bench::words::{plan_words, run_words, shift_words, step_words};
-use bench::{draw_up, judge, read, slack, write, Plan, Slack, Verdict, MOST_JOBS, MOST_SPEEDS, PLACES};
+use bench::{draw_up, judge, read, read_log, slack, speed_of, write, Plan, Reading, Slack, Verdict, MOST_JOBS, MOST_SPEEDS, PLACES};
 use calls::*;
 
 const USAGE: &str = "usage: both count|time usual|full|file|desk JOBS
+       both count|time meter 2|100|1000
        both slots|nights usual|full JOBS
        both stack";
 
@@ -32,6 +33,7 @@ fn main() -> ExitCode {
         ["slots", shape, jobs] => input_of(shape, jobs).map(|(input, _)| count_slots(&input)),
         ["nights", shape, jobs] => input_of(shape, jobs).map(|(input, _)| count_nights(&input)),
         [how, "desk", jobs] => how_of(how).zip(jobs_of(jobs)).map(|(how, jobs)| measure_desks(how, &Input::for_desk(jobs))),
+        [how, "meter", n] => how_of(how).zip(rate_of(n)).map(|(how, n)| measure_meter(how, n)),
         [how, shape, jobs] => how_of(how).zip(input_of(shape, jobs)).map(|(how, (input, judged))| measure(how, &Both::new(input), judged)),
         ["stack"] => Some(stacks()),
         _ => None,
@@ -53,6 +55,10 @@ fn how_of(how: &str) -> Option<How> {
 
 fn jobs_of(jobs: &str) -> Option<usize> {
     jobs.parse().ok().filter(|jobs: &usize| jobs.is_power_of_two() && *jobs <= MOST_JOBS)
+}
+
+fn rate_of(n: &str) -> Option<u16> {
+    n.parse().ok().filter(|n| METERED.contains(n))
 }
 
 /// An input, and whether the judge accepts it.
@@ -226,6 +232,35 @@ impl LentDesk {
 
     fn plain_draw(&self, table: &mut [u32]) -> u32 {
         draw_up(&self.plain, table).err().unwrap_or(0).into()
+    }
+}
+
+fn meter(reading: Reading, n: u16, speed: &mut u16) -> u32 {
+    unsafe { gateway_meter(reading.mean, reading.lowest, n, speed) }
+}
+
+/// What the log reader leaves.
+#[derive(PartialEq)]
+struct Metered {
+    answer: u32,
+    speeds: [u16; MOST_SPEEDS],
+    count: usize,
+}
+
+impl Metered {
+    fn new() -> Metered {
+        Metered { answer: 0, speeds: [7; MOST_SPEEDS], count: 0 }
+    }
+
+    fn read(&mut self, log: &Log, offset: &mut usize) {
+        let Metered { speeds, count, .. } = self;
+        self.answer = unsafe { gateway_speeds(log.bytes.as_ptr(), log.bytes.len(), log.n, speeds.as_mut_ptr(), MOST_SPEEDS, count, offset) };
+    }
+
+    fn plain_read(&mut self, log: &Log) {
+        let read = read_log(&log.bytes, log.n, &mut self.speeds);
+        self.answer = read.err().unwrap_or(0).into();
+        self.count = read.unwrap_or(0);
     }
 }
 
@@ -427,7 +462,31 @@ fn measure_desks(how: How, input: &Input) {
     }
 }
 
-// Makes a call on another stack: rdi is the function, rsi the other stack's top, rdx points to twelve words, of which six go to registers.
+/// Measures the call on a reading, and the log reader on each log for measuring.
+fn measure_meter(how: How, n: u16) {
+    println!("input {n} {MOST_SPEEDS} {MOST_SPEEDS} {}", logs(n)[0].bytes.len());
+    let reading = readings(n)[MOST_SPEEDS / 2];
+    let mut speed = 7;
+    assert_eq!((meter(reading, n, &mut speed), Ok(speed)), (0, speed_of(reading, n)));
+    section(how, "speed", "plain", || {
+        black_box(&speed_of(black_box(reading), black_box(n)));
+    });
+    section(how, "speed", "ours", || {
+        black_box(meter(black_box(reading), black_box(n), black_box(&mut speed)));
+    });
+    for log in logs(n) {
+        let (call, mut offset) = (format!("speeds:{}", log.name), 7);
+        let (mut ours, mut plain) = (Metered::new(), Metered::new());
+        ours.read(&log, &mut offset);
+        plain.plain_read(&log);
+        assert!(ours == plain, "{}", log.name);
+        section(how, &call, "plain", || black_box(&mut plain).plain_read(black_box(&log)));
+        section(how, &call, "ours", || black_box(&mut ours).read(black_box(&log), black_box(&mut offset)));
+    }
+}
+
+// Makes a call on another stack: rdi is the function, rsi the other stack's top, rdx points to fourteen words. Of the first twelve six go to
+// registers, and the last two are floats.
 global_asm!(
     ".globl call_on",
     "call_on:",
@@ -449,6 +508,8 @@ global_asm!(
     "mov rcx, [rbx + 24]",
     "mov r8, [rbx + 32]",
     "mov r9, [rbx + 40]",
+    "movq xmm0, qword ptr [rbx + 96]",
+    "movq xmm1, qword ptr [rbx + 104]",
     "call rax",
     "mov rsp, rbp",
     "pop rbx",
@@ -457,11 +518,12 @@ global_asm!(
 );
 
 extern "C" {
-    fn call_on(function: *const (), top: *mut u8, words: *const [u64; ARGUMENTS]) -> u64;
+    fn call_on(function: *const (), top: *mut u8, words: *const [u64; ARGUMENTS + FLOATS]) -> u64;
 }
 
-/// Words that `call_on` hands over.
+/// Words that `call_on` hands over, and floats after them.
 const ARGUMENTS: usize = 12;
+const FLOATS: usize = 2;
 /// Bytes of the painted stack.
 const PAINTED: usize = 1 << 16;
 /// What `call_on` puts on it before the call.
@@ -469,8 +531,14 @@ const PUSHED: usize = 48;
 
 /// What a call answers, and how many bytes of stack it wrote: its arguments there, its return address and all below.
 fn stack_of(function: *const (), arguments: &[u64]) -> (u64, usize) {
-    let mut words = [0; ARGUMENTS];
+    stack_with(function, arguments, [0.0; FLOATS])
+}
+
+/// The same of a call with floats.
+fn stack_with(function: *const (), arguments: &[u64], floats: [f64; FLOATS]) -> (u64, usize) {
+    let mut words = [0; ARGUMENTS + FLOATS];
     words[..arguments.len()].copy_from_slice(arguments);
+    words[ARGUMENTS..].copy_from_slice(&floats.map(f64::to_bits));
     let mut answer = 0;
     let mut deepest = 0;
     // Two paints, since a call may write one of them itself.
@@ -489,7 +557,7 @@ fn stack_of(function: *const (), arguments: &[u64]) -> (u64, usize) {
 
 /// The deepest stack of each call, in the order of the table, and all answers.
 struct Deepest {
-    calls: [(&'static str, usize); 12],
+    calls: [(&'static str, usize); 14],
     answers: BTreeSet<u64>,
 }
 
@@ -505,10 +573,14 @@ impl Deepest {
     }
 }
 
-/// Prints the deepest stack of each call, over plans of all sizes, over slots, nights and desks of all kinds and over ways to refuse them.
+/// The calls whose stack is painted, in the order of the table.
+const PAINTED_CALLS: [&str; 14] =
+    ["read", "write", "name", "judge", "slack", "draw", "shortage", "start", "step", "shift", "outcome", "speed", "speeds", "lent-step"];
+
+/// Prints the deepest stack of each call, over plans of all sizes, over slots, nights, desks and logs of all kinds and over ways to refuse them.
 fn stacks() {
-    let calls = ["read", "write", "name", "judge", "slack", "draw", "shortage", "start", "step", "shift", "outcome", "lent-step"].map(|call| (call, 0));
-    let mut deepest = Deepest { calls, answers: BTreeSet::new() };
+    let mut deepest = Deepest { calls: PAINTED_CALLS.map(|call| (call, 0)), answers: BTreeSet::new() };
+    METERED.into_iter().chain([1]).for_each(|n| stacks_of_meter(&mut deepest, n));
     for jobs in [1, 8, 16, 32] {
         for desk in LentDesk::all(&Input::for_desk(jobs)) {
             stacks_of_desk(&mut deepest, &desk.plan);
@@ -599,6 +671,25 @@ fn stacks_of_desk(deepest: &mut Deepest, plan: &[u64; PLAN_WORDS]) {
         deepest.note_answer("draw", stack_of(gateway_draw as *const (), &[plan, [table.as_mut_ptr() as u64, places as u64]].concat()));
     }
     deepest.note_answer("shortage", stack_of(gateway_shortage as *const (), &[plan, [pair.as_mut_ptr() as u64, PAIR_WORDS as u64]].concat()));
+}
+
+/// The stack of the meter's calls: on a reading that is right, one below zero and one that is not finite, and on logs with a list that is long
+/// enough, one that is not, and a byte too few.
+fn stacks_of_meter(deepest: &mut Deepest, n: u16) {
+    let (mut speed, mut count, mut offset) = (7_u16, 7_usize, 7_usize);
+    for lowest in [1.5, -1.0, f64::NAN] {
+        let arguments = [n.into(), &mut speed as *mut u16 as u64];
+        deepest.note_answer("speed", stack_with(gateway_meter as *const (), &arguments, [2.0, lowest]));
+    }
+    let mut speeds = [7_u16; MOST_SPEEDS];
+    for log in logs(n) {
+        for (cut, places) in [(0, MOST_SPEEDS), (0, MOST_SPEEDS - 1), (1, MOST_SPEEDS)] {
+            let bytes = [log.bytes.as_ptr() as u64, (log.bytes.len() - cut) as u64, n.into()];
+            let list = [speeds.as_mut_ptr() as u64, places as u64];
+            let singles = [&mut count as *mut usize as u64, &mut offset as *mut usize as u64];
+            deepest.note_answer("speeds", stack_of(gateway_speeds as *const (), &[&bytes[..], &list, &singles].concat()));
+        }
+    }
 }
 
 /// The stack of a shift's call. Each paint makes it once more, so the second finds the run as the first left it.

@@ -35,13 +35,13 @@ function plain_words(name) { gsub(/-/, " ", name); return name }
 function begin(name) { print "<!-- table " name " -->" }
 function end() { print "<!-- end -->" }
 # The input whose functions and blocks are shown.
-function shown_input(call) { return call ~ /^draw/ ? "desk 32" : "usual 32" }
+function shown_input(call) { return call ~ /^draw/ ? "desk 32" : (call ~ /^speeds/ ? "meter 1000" : "usual 32") }
 # The largest file is one that the judge refuses.
 function input_of(call, size) { return size != "largest" ? "usual " size : (call ~ /read|write/ ? "file 32" : "full 32") }
 
 function met(ratio, limit) { return ratio <= limit ? "met" : "not met" }
 function goal_of(call) { return call ~ /read|write/ ? 1 : 0.9 }
-function speed(n, list, m, names, i, k, call, input, ratio, goal, ours, plain) {
+function speed(n, list, m, names, i, k, call, input, ratio, goal, ours, plain, n_rates, rates) {
     n = split("read write judge slack step", list, " ")
     m = split("1 8 16 32 largest", names, " ")
     begin("speed")
@@ -67,6 +67,12 @@ function speed(n, list, m, names, i, k, call, input, ratio, goal, ours, plain) {
             plain = time["desk " names[k], "draw:filled", "plain"]
             ours = time["desk " names[k], "draw:filled", "ours"]
             times = times sprintf("| draw | %s | %s | %s | %.2f |\n", names[k], with_commas(plain), with_commas(ours), ours / plain)
+        }
+        n_rates = split("2 100 1000", rates, " ")
+        for (k = 1; k <= n_rates; k++) {
+            plain = time["meter " rates[k], "speeds:read", "plain"]
+            ours = time["meter " rates[k], "speeds:read", "ours"]
+            times = times sprintf("| speeds | n = %s | %s | %s | %.2f |\n", with_commas(rates[k]), with_commas(plain), with_commas(ours), ours / plain)
         }
         begin("times")
         print "| call | input | plain Rust, ns | ours, ns | ours / plain |"
@@ -137,6 +143,23 @@ function desks(n, list, m, names, i, k, input, call, sized, plain, ours) {
         }
     end()
 }
+# The meter: one reading, a log of as many as there may be, and one whose last reading is refused.
+function meters(n, list, m, rates, i, k, input, plain, ours) {
+    n = split("speed speeds:read speeds:refused-by-31", list, " ")
+    m = split("2 100 1000", rates, " ")
+    begin("meter")
+    print "| call | readings | normal rate | plain Rust | ours | ours / plain | goal 1.0 |"
+    print "|---|---|---|---|---|---|---|"
+    for (i = 1; i <= n; i++)
+        for (k = 1; k <= m; k++) {
+            input = "meter " rates[k]
+            plain = total[input, list[i], "plain"]
+            ours = total[input, list[i], "ours"]
+            printf "| %s | %s | %s | %s | %s | %.2f | %s |\n", meter_word(list[i]), i == 1 ? 1 : 256, with_commas(rates[k]), with_commas(plain), with_commas(ours), ours / plain, met(ours / plain, 1)
+        }
+    end()
+}
+function meter_word(call) { sub(/:read$/, "", call); sub(/:/, ", ", call); return plain_words(call) }
 # A shift beside single calls of the step at the same speeds, all of a night at a time. The goal is that of 32 jobs.
 function shift_ratio(night, input) { return total[input, "shift:" night, "ours"] / total[input, "shift:" night, "single"] }
 function shift_goal(night, input) { return input ~ / 32$/ ? "0.6, " met(shift_ratio(night, input), 0.6) : "" }
@@ -160,10 +183,10 @@ function shifts(n, list, m, names, i, k) {
     for (i = 1; i <= n; i++) shift_line(plain_words(list[i]), list[i], "usual 32")
     end()
 }
-# The call that a count is of: of a shift, all of the first night; of the desk, the first of its inputs.
+# The call that a count is of: of a shift, all of the first night; of the desk and the log reader, the first of its inputs.
 function call_word(call) { sub(/:.*/, "", call); return call }
 function where(n, list, i, f, call, rest, shown) {
-    n = split("read write judge slack draw:filled step shift:normal", list, " ")
+    n = split("read write judge slack draw:filled step shift:normal speeds:read", list, " ")
     begin("functions")
     print "| call | function, with all that is inlined into it | instructions | part |"
     print "|---|---|---|---|"
@@ -182,7 +205,7 @@ function where(n, list, i, f, call, rest, shown) {
 }
 # The four blocks of each call that take most.
 function hottest(n, list, i, call, k, b, best, most) {
-    n = split("read write judge slack draw:filled step shift:normal", list, " ")
+    n = split("read write judge slack draw:filled step shift:normal speeds:read", list, " ")
     begin("blocks")
     print "| call | function | times | instructions each | instructions | part |"
     print "|---|---|---|---|---|---|"
@@ -261,6 +284,7 @@ END {
     speed()
     slots()
     desks()
+    meters()
     shifts()
     where()
     hottest()

@@ -4,6 +4,8 @@
 
 pub mod encoding;
 pub mod filefault;
+pub mod logfault;
+pub mod readings;
 pub mod textfault;
 mod words;
 
@@ -108,7 +110,7 @@ fn no_comment(values: &[&str], fields: &[&str]) -> Result<(), String> {
 // The values of a line that has a fixed number of them.
 fn values<'a, const N: usize>(kind: &str, values: &[&'a str], fields: [&str; N]) -> Result<[&'a str; N], String> {
     no_comment(values, &fields)?;
-    let form = || format!("expected {kind} {}", fields.join(" "));
+    let form = || format!("expected {kind}{}{}", if kind.is_empty() { "" } else { " " }, fields.join(" "));
     if values.len() < N {
         return Err(format!("{} is missing: {}", fields[values.len()..].join(" "), form()));
     }
@@ -170,10 +172,15 @@ fn line(d: &mut Description, at: usize, content: &str) -> Result<(), String> {
     }
 }
 
-pub fn parse(text: &str) -> Result<Description, String> {
+fn no_mark(text: &str) -> Result<(), String> {
     if text.starts_with('\u{feff}') {
         return Err("line 1: the text begins with a byte order mark: save it as UTF-8 without one".to_string());
     }
+    Ok(())
+}
+
+pub fn parse(text: &str) -> Result<Description, String> {
+    no_mark(text)?;
     let mut d = Description::default();
     for (at, content) in text.lines().enumerate() {
         line(&mut d, at + 1, content).map_err(|fault| format!("line {}: {fault}", at + 1))?;
@@ -193,12 +200,17 @@ pub fn load(path: &str) -> Result<Description, String> {
     parse_bytes(&bytes).map_err(|fault| format!("{path}: {fault}"))
 }
 
-/// Reads a description from the bytes of a text.
-pub fn parse_bytes(bytes: &[u8]) -> Result<Description, String> {
+// The text that bytes are.
+fn text_of(bytes: &[u8]) -> Result<&str, String> {
     if bytes.starts_with(&[0xff, 0xfe]) || bytes.starts_with(&[0xfe, 0xff]) {
         return Err("line 1: the text begins with a byte order mark of UTF-16: save it as UTF-8 without one".to_string());
     }
-    parse(std::str::from_utf8(bytes).map_err(|_| "not a text in UTF-8")?)
+    std::str::from_utf8(bytes).map_err(|_| "not a text in UTF-8".to_string())
+}
+
+/// Reads a description from the bytes of a text.
+pub fn parse_bytes(bytes: &[u8]) -> Result<Description, String> {
+    parse(text_of(bytes)?)
 }
 
 #[cfg(test)]

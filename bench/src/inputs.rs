@@ -1,10 +1,10 @@
-//! Fixed inputs for measuring: plans by formula, runs at their busiest slot, and slots, nights and desks
-//! of all kinds.
+//! Fixed inputs for measuring: plans by formula, runs at their busiest slot, slots, nights and desks of
+//! all kinds, and meter logs.
 //!
 //! Ends of windows do not come in order, so that no sort finds its work done.
 
 use crate::plan::{Job, Plan, Run, HI, LO, MOST_INTERVALS, MOST_JOBS, MOST_SPEEDS, PLACES};
-use crate::{draw_up, step, write};
+use crate::{draw_up, step, write, Reading};
 
 /// Bytes of the largest file.
 pub const LARGEST_FILE: usize = 30_956;
@@ -290,6 +290,50 @@ fn overload(jobs: &mut [Job]) {
     let essential = jobs.iter_mut().filter(|job| job.grade == HI);
     let last = essential.max_by_key(|job| job.deadline).expect("a HI job");
     last.size = u64::from(FLOOR) * u64::from(last.deadline - RELEASE) + 1;
+}
+
+/// The normal rates that the meter's calls are measured at.
+pub const METERED: [u16; 3] = [2, 100, 1_000];
+
+/// All that the log reader gets beside a list.
+pub struct Log {
+    pub name: &'static str,
+    pub n: u16,
+    pub bytes: Vec<u8>,
+}
+
+/// The readings for measuring at a normal rate: lowest rates of all sizes up to a quarter above it, in no
+/// order, most of them no whole numbers.
+pub fn readings(n: u16) -> Vec<Reading> {
+    let reading = |k: usize| {
+        let lowest =
+            1.25 * f64::from(n) * ((k * 89 + 17) % MOST_SPEEDS) as f64 / MOST_SPEEDS as f64;
+        Reading {
+            mean: lowest + 0.5,
+            lowest,
+        }
+    };
+    (0..MOST_SPEEDS).map(reading).collect()
+}
+
+/// The logs for measuring at a normal rate: one that is read, and one whose last reading is refused.
+pub fn logs(n: u16) -> [Log; 2] {
+    let mut readings = readings(n);
+    let read = log_of(&readings);
+    readings[MOST_SPEEDS - 1].mean = -1.0;
+    let logs = [("read", read), ("refused-by-31", log_of(&readings))];
+    logs.map(|(name, bytes)| Log { name, n, bytes })
+}
+
+fn log_of(readings: &[Reading]) -> Vec<u8> {
+    let mut log = vec![1];
+    log.extend((17 * readings.len() as u32).to_be_bytes());
+    for reading in readings {
+        log.push(16);
+        log.extend(reading.mean.to_be_bytes());
+        log.extend(reading.lowest.to_be_bytes());
+    }
+    log
 }
 
 /// How many times as much is due where the first few jobs are to use the speed up.

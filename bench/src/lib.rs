@@ -8,6 +8,7 @@ mod bits;
 mod desk;
 pub mod inputs;
 mod judge;
+mod meter;
 mod plan;
 mod reader;
 pub mod refusal;
@@ -20,6 +21,7 @@ mod writer;
 
 pub use desk::draw_up;
 pub use judge::{judge, Fault, Verdict};
+pub use meter::{read_log, speed_of, Reading, LARGEST_LOG};
 pub use plan::{Job, Plan, Run, HI, LO, MOST_INTERVALS, MOST_JOBS, MOST_SPEEDS, PLACES};
 pub use reader::read;
 pub use shift::shift;

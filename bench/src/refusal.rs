@@ -25,3 +25,5 @@ pub const TOO_SHORT: u8 = 22;
 pub const TOO_MANY_SPEEDS: u8 = 27;
 pub const RELEASES_DIFFER: u8 = 28;
 pub const NO_TIMETABLE: u8 = 29;
+pub const NOT_FINITE: u8 = 30;
+pub const LOWEST_RATE: u8 = 31;

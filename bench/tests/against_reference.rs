@@ -3,15 +3,16 @@
 use std::collections::HashMap;
 use std::process::Command;
 
-use bench::inputs::{Desk, Input as Measured, Night, Shape, LARGEST_FILE};
+use bench::inputs::{logs, readings, Desk, Input as Measured, Night, Shape, LARGEST_FILE, METERED};
 use bench::words::{plan_words, run_words, shift_words, step_words};
-use bench::{Fault, Job, Plan, Run, Slack, Verdict, MOST_JOBS, MOST_SPEEDS, PLACES};
+use bench::{Fault, Job, Plan, Run, Slack, Verdict, LARGEST_LOG, MOST_JOBS, MOST_SPEEDS, PLACES};
 use reference::desk::draw_up;
 use reference::generate::{
-    desk_input, file, fixed_files, fixed_hands, hand, shift_input, FileInput, HandInput, Lent,
-    ShiftInput,
+    desk_input, file, fixed_files, fixed_hands, fixed_logs, fixed_readings, hand, log_input,
+    reading_input, shift_input, FileInput, HandInput, Lent, LogInput, ReadingInput, ShiftInput,
 };
 use reference::judge::judge;
+use reference::meter::{read_log, speed_of, Reading};
 use reference::reader::{reader, Answer};
 use reference::refusal::{self, Refusal};
 use reference::run::{start, step};
@@ -286,6 +287,78 @@ fn drawn_desks() {
     assert_eq!(answers.len(), 5);
 }
 
+/// The answer is the reference's.
+fn compare_reading(input: &ReadingInput) -> u8 {
+    let (mean, lowest) = (f64::from_bits(input.mean), f64::from_bits(input.lowest));
+    let expected = speed_of(Reading { mean, lowest }, input.n);
+    let answer = bench::speed_of(bench::Reading { mean, lowest }, input.n);
+    assert_eq!(answer, expected);
+    expected.err().unwrap_or(refusal::DONE)
+}
+
+fn compare_log(input: &LogInput) -> u8 {
+    let marked: Vec<u16> = (0..input.list as u16).map(|place| 40_000 + place).collect();
+    let (mut ours, mut list) = (marked.clone(), marked);
+    let expected = read_log(&input.log, input.n, &mut list).map_err(|fault| fault.number);
+    assert_eq!(bench::read_log(&input.log, input.n, &mut ours), expected);
+    assert_eq!(ours, list);
+    expected.err().unwrap_or(refusal::DONE)
+}
+
+#[test]
+fn fixed_and_drawn_meters() {
+    fixed_readings().iter().for_each(|input| {
+        compare_reading(input);
+    });
+    fixed_logs().iter().for_each(|input| {
+        compare_log(input);
+    });
+    let (mut of_readings, mut of_logs) = (HashMap::new(), HashMap::new());
+    for number in 0..DRAWN {
+        let reading = compare_reading(&reading_input(SEED, number));
+        *of_readings.entry(reading).or_insert(0) += 1;
+        let log = compare_log(&log_input(SEED, number));
+        *of_logs.entry(log).or_insert(0) += 1;
+    }
+    assert_eq!((of_readings.len(), of_logs.len()), (4, 9));
+    assert!(of_readings.values().all(|&often| often > DRAWN / 50));
+    assert!(
+        of_logs.values().all(|&often| often > DRAWN / 50),
+        "{:?}",
+        of_logs
+    );
+}
+
+/// What the reference answers to the logs for measuring, and to each of their readings.
+#[test]
+fn meters_for_measuring() {
+    for n in METERED {
+        let [read, refused] = logs(n).map(|log| LogInput {
+            log: log.bytes,
+            n: log.n,
+            list: MOST_SPEEDS,
+        });
+        assert_eq!(read.log.len(), LARGEST_LOG);
+        assert_eq!(
+            (compare_log(&read), compare_log(&refused)),
+            (refusal::DONE, refusal::LOWEST_RATE)
+        );
+        let mut speeds = HashMap::new();
+        for reading in readings(n) {
+            let (mean, lowest) = (reading.mean.to_bits(), reading.lowest.to_bits());
+            assert_eq!(
+                compare_reading(&ReadingInput { mean, lowest, n }),
+                refusal::DONE
+            );
+            *speeds.entry(bench::speed_of(reading, n)).or_insert(0) += 1;
+        }
+        assert_eq!(
+            (speeds[&Ok(0)] > 0, speeds[&Ok(n)] > MOST_SPEEDS / 6),
+            (true, true)
+        );
+    }
+}
+
 /// An input for measuring, taken up by the reference from its file.
 fn compare_measured(input: &Measured, is_accepted: bool) {
     let lent = Lent {
@@ -437,7 +510,7 @@ fn desks_for_measuring() {
         let is_filled = 100 * units >= 96 * u64::from(input.plan.n) * slots;
         assert!(is_filled || jobs == 1);
         let desks = input.desks();
-        desks.iter().for_each(|desk| compare_desk_kind(desk));
+        desks.iter().for_each(compare_desk_kind);
         assert_eq!(desks.len(), if jobs == 1 { 2 } else { 3 });
         input.rows
     });
@@ -500,6 +573,7 @@ fn wrong_use_of_calls_ends_with_2() {
     assert_eq!(status(&["step", "largest", "0"]), Some(0));
     assert_eq!(status(&["shift", "8", "1"]), Some(0));
     assert_eq!(status(&["draw", "8", "1"]), Some(0));
+    assert_eq!(status(&["speeds", "100", "1"]), Some(0));
     for words in [
         vec![],
         vec!["read", "8"],
@@ -507,6 +581,7 @@ fn wrong_use_of_calls_ends_with_2() {
         vec!["reads", "8", "3"],
         vec!["read", "7", "3"],
         vec!["draw", "largest", "3"],
+        vec!["speeds", "3", "3"],
         vec!["read", "8", "-1"],
     ] {
         assert_eq!(status(&words), Some(2));

@@ -27,18 +27,18 @@ pub enum Part {
     Number,
     /// A word of one of the buffers, which are counted from 0 in the order of the call's pointers.
     Word(usize, Spot),
-    /// A word of the last buffer, where the call answers this number: the offset of read and import, the
-    /// pair of shortage.
+    /// A word of the last buffer, where the call answers this number: the offset of read, import and
+    /// speeds, the pair of shortage.
     Last(u32, usize),
     /// A word of what the wrapper makes of the answer.
     Wrapped(usize),
-    /// A word of what single calls come to at the speeds of shifts.
+    /// A word of what single calls come to at the speeds of shifts, or for a reading of a log.
     Singly(usize),
     /// What the judge says of a timetable that was drawn up.
     Judged,
 }
 
-/// Which word of the wrapper's answer to read and import is the offset.
+/// Which word of the wrapper's answer to read, import and speeds is the offset.
 pub const WRAPPED_OFFSET: usize = 2;
 
 /// For the self-test: a part of one call's answers that is changed before it is compared.
@@ -122,6 +122,13 @@ impl Both {
         let is_spoilt = self.spoilt_part(Call::Draw) == Some(Part::Judged);
         let judged = u64::from(verdict) + u64::from(is_spoilt);
         equal(Call::Draw, "the judge", vec![judged], vec![DONE.into()])
+    }
+
+    /// Compares the speed of a reading by itself with the one that was read from its log.
+    pub fn agree_of_log(&mut self, singly: u16, read: u16) -> Result<(), Difference> {
+        let is_spoilt = self.spoilt_part(Call::Speeds) == Some(Part::Singly(0));
+        let singly = u64::from(singly) + u64::from(is_spoilt);
+        equal(Call::Speeds, "a single call", vec![singly], vec![read.into()])
     }
 
     fn spoilt_part(&self, call: Call) -> Option<Part> {

@@ -3,10 +3,12 @@
 //! What a call only hands out, and never reads, is laid over known words.
 
 use gateway::calls::*;
+use reference::generate::ReadingInput;
+use reference::meter::Reading;
 
 use crate::both::{Both, Difference};
 use crate::buffer::{Buffer, Lent};
-use crate::memory::{Listing, Memory, Shift};
+use crate::memory::{Listing, Memory, Metering, Shift};
 use crate::model;
 use crate::tally::{Call, NAME_SHOWN, NO_NAME};
 
@@ -265,6 +267,51 @@ impl Both {
         let length = &mut written.model_mut()[0];
         let expected = model::export(list.model(), out.model_mut(), length);
         self.finish(Call::Export, got, expected, &mut [list, out, written])
+    }
+
+    pub fn speed(
+        &mut self,
+        input: &ReadingInput,
+        speed: &mut Buffer<u16>,
+    ) -> Result<u32, Difference> {
+        if self.tells {
+            println!("a reading of {:#018x} and {:#018x}", input.mean, input.lowest);
+        }
+        let reading = Reading {
+            mean: f64::from_bits(input.mean),
+            lowest: f64::from_bits(input.lowest),
+        };
+        let told = speed.archive_mut();
+        let got = unsafe { gateway_meter(reading.mean, reading.lowest, input.n, told) };
+        let expected = model::speed(reading, input.n, &mut speed.model_mut()[0]);
+        self.finish(Call::Speed, got, expected, &mut [speed])
+    }
+
+    pub fn speeds(&mut self, lent: &mut Metering) -> Result<u32, Difference> {
+        lent.speeds.renew();
+        lent.count.renew();
+        lent.offset.renew();
+        let Metering {
+            log,
+            n,
+            speeds,
+            count,
+            offset,
+        } = lent;
+        let got = unsafe {
+            gateway_speeds(
+                log.archive(),
+                log.lent(),
+                *n,
+                speeds.archive_mut(),
+                speeds.lent(),
+                count.archive_mut(),
+                offset.archive_mut(),
+            )
+        };
+        let singles = (&mut count.model_mut()[0], &mut offset.model_mut()[0]);
+        let expected = model::speeds(log.model(), *n, speeds.model_mut(), singles);
+        self.finish(Call::Speeds, got, expected, &mut [log, speeds, count, offset])
     }
 
     /// Compares a call whose answer is a number, and gives that number.

@@ -1,26 +1,29 @@
 //! All calls on one input: on a plan file with speeds, on a plan in hand with a run and speeds, on one
-//! for the desk, on texts of job lists, and on a list in hand.
+//! for the desk, on texts of job lists, on a list in hand, and on a reading and a log of the meter.
 
 use gateway::{Plan, Run};
 use reference::edition::{LARGEST_FILE, MOST_JOBS, TABLE_PLACES};
 use reference::generate::{damaged_input, desk_input, file, hand, job_list, job_text, quoted_list};
 use reference::generate::{fixed_files, fixed_hands, fixed_lists, fixed_texts};
+use reference::generate::{fixed_logs, fixed_readings, log_input, reading_input};
 use reference::generate::{shift_input, words, Prng, Purpose};
-use reference::generate::{DeskInput, FileInput, HandInput, Lent, ListInput, ShiftInput};
+use reference::generate::{DeskInput, FileInput, HandInput, Lent, ListInput, LogInput};
+use reference::generate::{ReadingInput, ShiftInput};
 use reference::joblist::import;
 use reference::reader::reader;
 use reference::refusal::{DONE, TOO_SHORT};
 
 use crate::both::{Both, Difference};
 use crate::buffer::Buffer;
-use crate::desks::{answer, fixed_desks, on_desk};
+use crate::desks::{fixed_desks, on_desk};
 use crate::lists::{on_list, on_text};
 use crate::memory::Memory;
+use crate::meters::{on_log, on_reading};
 use crate::night::{night, standings, Course, Wrapped};
 use crate::shorts::{short, short_read, SHORTS};
 use crate::twist::twist;
 use crate::words::{plan_of, run_of, run_of_any, words_of_plan, words_of_run};
-use crate::{plans, shifts, texts, wrapper};
+use crate::{desks, meters, plans, shifts, texts, wrapper};
 
 /// Buffers that are just long enough for every plan.
 pub const ENOUGH: Lent = Lent {
@@ -39,6 +42,8 @@ pub struct Fixed {
     desks: Vec<DeskInput>,
     texts: Vec<Vec<u8>>,
     lists: Vec<ListInput>,
+    readings: Vec<ReadingInput>,
+    logs: Vec<LogInput>,
 }
 
 impl Fixed {
@@ -49,6 +54,8 @@ impl Fixed {
             desks: fixed_desks(),
             texts: fixed_texts(),
             lists: fixed_lists(),
+            readings: fixed_readings(),
+            logs: fixed_logs(),
         }
     }
 
@@ -68,14 +75,22 @@ impl Fixed {
 
     /// The first input whose desk answers this number.
     pub fn first_drawn_as(&self, number: u8) -> Option<u64> {
-        let at = self.desks.iter().position(|input| answer(input) == number)?;
+        let at = self.desks.iter().position(|input| desks::answer(input) == number)?;
+        Some(at as u64)
+    }
+
+    /// The first input whose log is read as this number.
+    pub fn first_metered_as(&self, number: u8) -> Option<u64> {
+        let at = self.logs.iter().position(|input| meters::answer(input) == number)?;
         Some(at as u64)
     }
 
     /// The longest of the lists counts.
     pub fn count(&self) -> u64 {
         let plans = self.files.len().max(self.hands.len()).max(self.desks.len());
-        plans.max(self.texts.len()).max(self.lists.len()) as u64
+        let lists = self.texts.len().max(self.lists.len());
+        let meters = self.readings.len().max(self.logs.len());
+        plans.max(lists).max(meters) as u64
     }
 
     fn input(&self, at: usize) -> Input {
@@ -85,6 +100,8 @@ impl Fixed {
             desk: self.desks.get(at).cloned(),
             texts: self.texts.get(at).cloned().into_iter().collect(),
             list: self.lists.get(at).cloned(),
+            reading: self.readings.get(at).copied(),
+            log: self.logs.get(at).cloned(),
         }
     }
 }
@@ -97,6 +114,8 @@ pub struct Input {
     pub desk: Option<DeskInput>,
     pub texts: Vec<Vec<u8>>,
     pub list: Option<ListInput>,
+    pub reading: Option<ReadingInput>,
+    pub log: Option<LogInput>,
 }
 
 /// What is drawn from a seed: inputs of every call, files that the reader refuses, or texts.
@@ -148,6 +167,8 @@ impl Source {
                 desk: Some(desk_input(*seed, number)),
                 texts: vec![job_text(*seed, number), quoted_list(*seed, number).1],
                 list: Some(job_list(*seed, number)),
+                reading: Some(reading_input(*seed, number)),
+                log: Some(log_input(*seed, number)),
             },
             Source::Drawn(Kind::Damaged, seed) => Input {
                 file: Some(damaged_input(*seed, number)),
@@ -183,6 +204,12 @@ impl Source {
         }
         if let Some(list) = &input.list {
             on_list(both, prng, list)?;
+        }
+        if let Some(reading) = &input.reading {
+            on_reading(both, reading)?;
+        }
+        if let Some(log) = &input.log {
+            on_log(both, prng, log)?;
         }
         Ok(())
     }

@@ -11,6 +11,7 @@ mod desks;
 mod inputs;
 mod lists;
 mod memory;
+mod meters;
 mod model;
 mod night;
 mod plans;

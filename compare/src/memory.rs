@@ -1,9 +1,9 @@
-//! The memory that a host lends to the calls for one plan and its run, to a shift, and to the calls
-//! on job lists.
+//! The memory that a host lends to the calls for one plan and its run, to a shift, to the calls on job
+//! lists, and to that on a meter log.
 
 use gateway::LONGEST_LIST;
 use reference::edition::{MOST_JOBS, TABLE_PLACES};
-use reference::generate::{Lent, Prng, ShiftInput};
+use reference::generate::{Lent, LogInput, Prng, ShiftInput};
 
 use crate::buffer::Buffer;
 use crate::words::{JOB_COUNT, LIST_WORDS, LOCATION_WORDS, PAIR_WORDS, PLAN_WORDS, RUN_WORDS};
@@ -155,5 +155,27 @@ impl Listing {
     pub fn lend_all(&mut self) {
         self.list.lend_all();
         self.out.lend_all();
+    }
+}
+
+/// What is lent to the call on a meter log, and the normal rate.
+pub struct Metering {
+    pub log: Buffer<u8>,
+    pub n: u16,
+    pub speeds: Buffer<u16>,
+    pub count: Buffer<usize>,
+    pub offset: Buffer<usize>,
+}
+
+impl Metering {
+    /// The bytes of a log, and known words in all that it may leave.
+    pub fn of(input: &LogInput) -> Metering {
+        Metering {
+            log: Buffer::of("log", &input.log, input.log.len()),
+            n: input.n,
+            speeds: Buffer::known("speeds", input.list),
+            count: Buffer::known("count", 1),
+            offset: Buffer::known("offset", 1),
+        }
     }
 }

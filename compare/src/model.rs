@@ -5,6 +5,7 @@ use reference::desk::{draw_up, shortage as shortage_of, Shortage};
 use reference::joblist::{export as export_jobs, import as import_jobs, JobList};
 use reference::judge::judge as judge_plan;
 use reference::lookup::name_lookup;
+use reference::meter::{read_log, speed_of, Reading};
 use reference::reader::reader;
 use reference::refusal::{Refusal, DONE, NO_TIMETABLE, TOO_SHORT, UNSOUND};
 use reference::run::{end as end_job, outcome as outcome_of, start as start_run, step as step_run};
@@ -183,6 +184,25 @@ pub fn export(list: &[u64], out: &mut [u8], written: &mut usize) -> u32 {
         return TOO_SHORT.into();
     }
     put_length(written, export_jobs(&list_of(list), out))
+}
+
+pub fn speed(reading: Reading, n: u16, speed: &mut u16) -> u32 {
+    let told = speed_of(reading, n);
+    *speed = told.unwrap_or(0);
+    told.err().unwrap_or(DONE).into()
+}
+
+/// The single numbers are the count and the offset.
+pub fn speeds(
+    log: &[u8],
+    n: u16,
+    list: &mut [u16],
+    (count, offset): (&mut usize, &mut usize),
+) -> u32 {
+    let read = read_log(log, n, list);
+    *count = read.unwrap_or(0);
+    *offset = read.err().and_then(|refusal| refusal.offset).unwrap_or(0);
+    read.err().map_or(DONE, |refusal| refusal.number).into()
 }
 
 /// The length of what was written: 0 with a refusal.

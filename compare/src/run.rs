@@ -7,7 +7,7 @@ use crate::both::Both;
 use crate::cases;
 use crate::inputs::{Drawn, Fixed, Source};
 use crate::report::Report;
-use crate::show::{show_desk, show_file, show_hand, show_list, show_text};
+use crate::show::{show_desk, show_file, show_hand, show_list, show_log, show_reading, show_text};
 
 /// A line on standard error after every this many inputs.
 const INPUTS_TO_A_LINE: u64 = 100_000;
@@ -76,6 +76,8 @@ pub fn once_more(source: &Source, number: u64) -> Result<String, String> {
     input.desk.iter().for_each(show_desk);
     input.texts.iter().for_each(|text| show_text(text));
     input.list.iter().for_each(show_list);
+    input.reading.iter().for_each(show_reading);
+    input.log.iter().for_each(show_log);
     let mut both = Both {
         tells: true,
         ..Both::default()

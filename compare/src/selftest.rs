@@ -1,8 +1,8 @@
 //! Shows that the comparison sees wrong answers: words of each call's answers are changed on purpose,
 //! one at a time, and each has to be noticed.
 
-use reference::refusal::{DONE, HEADER, JOB_COUNT, LINE, NO_TIMETABLE, TIMES_OR_SIZE};
-use reference::refusal::{ROW_ORDER, TOO_SHORT, VERSION};
+use reference::refusal::{DONE, HEADER, JOB_COUNT, LINE, LOWEST_RATE, NOT_FINITE, NO_TIMETABLE};
+use reference::refusal::{RATES, ROW_ORDER, TIMES_OR_SIZE, TOO_MANY_SPEEDS, TOO_SHORT, VERSION};
 
 use crate::both::{Both, Part, Spoil, WRAPPED_OFFSET};
 use crate::buffer::SPOTS;
@@ -16,10 +16,10 @@ const INPUTS: [u64; 3] = [0, 1, 2];
 /// How many pointers the call takes.
 fn pointers(call: Call) -> usize {
     match call {
-        Call::Name => 1,
+        Call::Name | Call::Speed => 1,
         Call::Draw | Call::Shortage | Call::End | Call::Outcome => 2,
         Call::Judge | Call::Import | Call::Export => 3,
-        Call::Read | Call::Write | Call::Slack | Call::Start | Call::Step => 4,
+        Call::Read | Call::Write | Call::Slack | Call::Start | Call::Step | Call::Speeds => 4,
         Call::Shift => 6,
     }
 }
@@ -28,7 +28,7 @@ fn pointers(call: Call) -> usize {
 /// of each buffer the first and last word and the words of the border next to them.
 fn parts(call: Call) -> Vec<Part> {
     let mut parts = vec![Part::Number, Part::Wrapped(0)];
-    if call == Call::Shift {
+    if matches!(call, Call::Shift | Call::Speeds) {
         parts.push(Part::Singly(0));
     }
     if call == Call::Draw {
@@ -49,7 +49,7 @@ fn pair_parts() -> impl Iterator<Item = Part> {
 /// How many changed words were noticed, or one that was not.
 pub fn self_test() -> Result<String, String> {
     let fixed = Fixed::new();
-    let offsets = [reads(&fixed)?, imports(&fixed)?].concat();
+    let offsets = [reads(&fixed)?, imports(&fixed)?, logs(&fixed)?].concat();
     let short = fixed.first_drawn_as(NO_TIMETABLE);
     let short = short.ok_or("no fixed desk is without a timetable")?;
     let fixed = Source::Fixed(fixed);
@@ -77,7 +77,7 @@ pub fn self_test() -> Result<String, String> {
     ))
 }
 
-/// A number that read or import answers with an offset, and an input that brings it.
+/// A number that read, import or speeds answers with an offset, and an input that brings it.
 type Offset = (Call, u32, u64);
 
 /// All of the reader's numbers.
@@ -101,6 +101,17 @@ fn imports(fixed: &Fixed) -> Result<Vec<Offset>, String> {
     };
     let short = Ok((Call::Import, TOO_SHORT.into(), INPUTS[0]));
     numbers.map(input_of).chain([short]).collect()
+}
+
+/// All of the log reader's numbers.
+fn logs(fixed: &Fixed) -> Result<Vec<Offset>, String> {
+    let others = [DONE, TOO_SHORT, TOO_MANY_SPEEDS, NOT_FINITE, LOWEST_RATE];
+    let input_of = |number: u8| {
+        let input = fixed.first_metered_as(number);
+        let input = input.ok_or_else(|| format!("no fixed log is read as {}", number))?;
+        Ok((Call::Speeds, number.into(), input))
+    };
+    others.into_iter().chain(VERSION..=RATES).map(input_of).collect()
 }
 
 /// 1 for a changed word that is noticed in its own call.

@@ -87,6 +87,7 @@ pub fn short(
         Call::Outcome => both.outcome(memory, 0)?,
         Call::Read | Call::Name => unreachable!("these take a file"),
         Call::Import | Call::Export => unreachable!("these take a list"),
+        Call::Speed | Call::Speeds => unreachable!("these take no plan"),
     };
     memory.lend_all();
     Ok(())

@@ -3,7 +3,9 @@
 use reference::desk::shortage;
 use reference::edition::{MOST_INTERVALS, TABLE_PLACES};
 use reference::generate::{DeskInput, FileInput, HandInput, Lent, ListInput};
+use reference::generate::{LogInput, ReadingInput};
 use reference::joblist::import;
+use reference::meter::read_log;
 use reference::plan::{Job, Plan};
 use reference::reader::reader;
 
@@ -12,10 +14,7 @@ const BYTES_ON_A_LINE: usize = 16;
 
 pub fn show_file(input: &FileInput) {
     println!("plan file of {} bytes", input.file.len());
-    for (line, bytes) in input.file.chunks(BYTES_ON_A_LINE).enumerate() {
-        let hex: Vec<String> = bytes.iter().map(|byte| format!("{:02x}", byte)).collect();
-        println!("  {:5}  {}", line * BYTES_ON_A_LINE, hex.join(" "));
-    }
+    show_bytes(&input.file);
     let mut table = vec![0; TABLE_PLACES];
     let answer = reader(&input.file, &mut table);
     match answer.offset {
@@ -25,6 +24,13 @@ pub fn show_file(input: &FileInput) {
     show_plan(&answer.plan);
     show_table(&table);
     show_rest(&input.lent, &input.speeds);
+}
+
+fn show_bytes(file: &[u8]) {
+    for (line, bytes) in file.chunks(BYTES_ON_A_LINE).enumerate() {
+        let hex: Vec<String> = bytes.iter().map(|byte| format!("{:02x}", byte)).collect();
+        println!("  {:5}  {}", line * BYTES_ON_A_LINE, hex.join(" "));
+    }
 }
 
 pub fn show_hand(input: &HandInput) {
@@ -75,6 +81,22 @@ pub fn show_list(input: &ListInput) {
     println!("{} jobs", input.list.count);
     show_jobs(&input.list.jobs);
     println!("lent: {} bytes of output", input.output);
+}
+
+pub fn show_reading(input: &ReadingInput) {
+    let (mean, lowest) = (f64::from_bits(input.mean), f64::from_bits(input.lowest));
+    println!("reading: mean {:e}, lowest {:e}, normal rate {}", mean, lowest, input.n);
+}
+
+pub fn show_log(input: &LogInput) {
+    println!("meter log of {} bytes, normal rate {}", input.log.len(), input.n);
+    show_bytes(&input.log);
+    let mut list = vec![0; input.list];
+    match read_log(&input.log, input.n, &mut list) {
+        Ok(count) => println!("speeds {:?}", &list[..count]),
+        Err(refusal) => println!("the log reader answers {:?}", refusal),
+    }
+    println!("lent: {} places for speeds", input.list);
 }
 
 /// Rates, count, and the records that are not all zeros.

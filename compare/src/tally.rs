@@ -5,8 +5,8 @@ use std::fmt;
 
 use reference::refusal::{
     ABOVE_RATE, AT_LAST_DEADLINE, CANNOT_END, DONE, FLOOR_RULE, HEADER, JOB_COUNT, LINE,
-    NO_SUCH_POSITION, NO_TIMETABLE, OUTSIDE_WINDOW, RELEASES_DIFFER, ROW_ORDER, TIMES_OR_SIZE,
-    TOO_MANY_SPEEDS, TOO_SHORT, UNSOUND, VERSION,
+    LOWEST_RATE, NOT_FINITE, NO_SUCH_POSITION, NO_TIMETABLE, OUTSIDE_WINDOW, RATES, RELEASES_DIFFER,
+    ROW_ORDER, TIMES_OR_SIZE, TOO_MANY_SPEEDS, TOO_SHORT, UNSOUND, VERSION,
 };
 
 use crate::model::{DISCARDED, ENDED, MET, MISSED, NONE_ESSENTIAL, OPEN};
@@ -28,9 +28,11 @@ pub enum Call {
     Outcome,
     Import,
     Export,
+    Speed,
+    Speeds,
 }
 
-pub const CALLS: [Call; 14] = [
+pub const CALLS: [Call; 16] = [
     Call::Read,
     Call::Name,
     Call::Write,
@@ -45,6 +47,8 @@ pub const CALLS: [Call; 14] = [
     Call::Outcome,
     Call::Import,
     Call::Export,
+    Call::Speed,
+    Call::Speeds,
 ];
 
 /// A text that is taken.
@@ -71,6 +75,8 @@ impl fmt::Display for Call {
             Call::Outcome => "outcome",
             Call::Import => "import",
             Call::Export => "export",
+            Call::Speed => "speed",
+            Call::Speeds => "speeds",
         };
         f.pad(word)
     }
@@ -110,6 +116,12 @@ fn numbers(call: Call) -> Vec<u32> {
             [DONE, TOO_SHORT, LINE, HEADER]
                 .into_iter()
                 .chain(JOB_COUNT..=TIMES_OR_SIZE),
+        ),
+        Call::Speed => wide([DONE, RATES, NOT_FINITE, LOWEST_RATE]),
+        Call::Speeds => wide(
+            [DONE, TOO_SHORT, TOO_MANY_SPEEDS, NOT_FINITE, LOWEST_RATE]
+                .into_iter()
+                .chain(VERSION..=RATES),
         ),
     }
 }

@@ -3,13 +3,15 @@
 //! It lends buffers of its own that are long enough. A call that was refused for a short one has
 //! nothing to be compared with.
 
-use gateway::{export_jobs, import_jobs, Grade, Job, Location, Outcome, Plan, Refusal, Run};
+use gateway::{export_jobs, import_jobs, read_log, speed_of, Reading};
+use gateway::{Grade, Job, Location, Outcome, Plan, Refusal, Run};
 use reference::edition::{HI, LO, MOST_INTERVALS, MOST_JOBS, NAME_BYTES, TABLE_PLACES};
-use reference::refusal::{DONE, NO_TIMETABLE, TOO_SHORT, UNSOUND};
+use reference::generate::ReadingInput;
+use reference::refusal::{DONE, NO_TIMETABLE, RATES, TOO_SHORT, UNSOUND};
 
 use crate::both::{Both, Difference};
 use crate::buffer::Buffer;
-use crate::memory::{Listing, Memory, Shift};
+use crate::memory::{Listing, Memory, Metering, Shift};
 use crate::model::{DISCARDED, ENDED, MET, MISSED, NONE_ESSENTIAL, OPEN};
 use crate::tally::Call;
 use crate::words::{
@@ -382,4 +384,39 @@ pub fn export(both: &mut Both, number: u32, listing: &Listing) -> Result<(), Dif
     let number = number_of(&result);
     let wrapped = written_words(number, &result.unwrap_or_default());
     both.agree(Call::Export, wrapped, bare)
+}
+
+/// Tells the speed of a reading once more.
+pub fn speed(
+    both: &mut Both,
+    input: &ReadingInput,
+    number: u32,
+    speed: &Buffer<u16>,
+) -> Result<(), Difference> {
+    let reading = Reading {
+        mean: f64::from_bits(input.mean),
+        lowest: f64::from_bits(input.lowest),
+    };
+    let result = speed_of(reading, input.n);
+    let wrapped = vec![number_of(&result), result.unwrap_or(0).into()];
+    let bare = vec![number.into(), speed.contents()[0].into()];
+    both.agree(Call::Speed, wrapped, bare)
+}
+
+/// Reads a log once more, into a list as it was before. A wrong rate and a list that is too short have
+/// no offset.
+pub fn speeds(both: &mut Both, number: u32, lent: &Metering) -> Result<(), Difference> {
+    let mut list = lent.speeds.known_words();
+    list.truncate(lent.speeds.lent());
+    let result = read_log(lent.log.contents(), lent.n, &mut list);
+    let told = result.as_ref().err().and_then(Refusal::offset);
+    let has_offset = !is_done(number) && !is_too_short(number) && number != u32::from(RATES);
+    let left = has_offset.then(|| lent.offset.contents()[0]);
+    let mut wrapped = [vec![number_of(&result)], offset_words(told)].concat();
+    let mut bare = [vec![number.into()], offset_words(left)].concat();
+    wrapped.push(result.unwrap_or(0) as u64);
+    bare.push(lent.count.contents()[0] as u64);
+    wrapped.extend(list.iter().map(|&speed| u64::from(speed)));
+    bare.extend(lent.speeds.model().iter().map(|&speed| u64::from(speed)));
+    both.agree(Call::Speeds, wrapped, bare)
 }

@@ -1,5 +1,8 @@
-/* What gateway.h says at the edges: buffers of length 0 that are NULL, offsets of files and texts that end early, a job list inside a plan,
- * timetables, jobs that have ended, shifts, speeds above 16 bits, answers in words. It prints each sentence that does not hold; the exit status is then 1. */
+/* What gateway.h says at the edges: buffers of length 0 that are NULL, offsets of files, texts and logs that end early, a job list inside a plan,
+ * timetables, jobs that have ended, shifts, readings of the meter, speeds above 16 bits, answers in words. It prints each sentence that does not
+ * hold; the exit status is then 1. */
+#include <float.h>
+#include <math.h>
 #include <stdio.h>
 #include <string.h>
 
@@ -26,6 +29,8 @@ static uint64_t pair[GATEWAY_PAIR_WORDS + 1];
 static uint16_t speeds[GATEWAY_MOST_SPEEDS + 1];
 static uint32_t rows[GATEWAY_ROWS_PLACES + GATEWAY_MOST_JOBS];
 static uint8_t numbers[GATEWAY_MOST_SPEEDS + 1];
+/* One reading more than a log may have. */
+static uint8_t meter_log[GATEWAY_LARGEST_LOG + 17];
 static const char header[] = "name,grade,release,size,deadline\r\n";
 static const char line[] = "mirror-A,H,0,1,1\r\n";
 static uint8_t text[sizeof header + sizeof line - 2];
@@ -398,13 +403,100 @@ static void word_between_two_shifts(void)
     expect(run[GATEWAY_INDEX_CLOCK] == SLOTS && run[GATEWAY_INDEX_ENDED(1)] == 1, "shift: an ended mark stays");
 }
 
+/* A reading's speed, of which a mark stood there before. */
+static int reads_as(double mean, double lowest, uint16_t n, uint32_t number, uint16_t speed)
+{
+    uint16_t told = MARK;
+    return gateway_meter(mean, lowest, n, &told) == number && told == speed;
+}
+
+/* The floats next to 2 are 2 - 2^-52 and 2 + 2^-51. */
+static void speeds_of_readings(void)
+{
+    expect(reads_as(3.0, 1.999, 2, GATEWAY_DONE, 1) && reads_as(3.0, 2.7, 2, GATEWAY_DONE, 2), "speed: rounded down, and cut to the normal rate");
+    expect(reads_as(3.0, 2.0 - DBL_EPSILON, 2, GATEWAY_DONE, 1) && reads_as(3.0, 2.0, 2, GATEWAY_DONE, 2), "speed: a whole number is one from itself on");
+    expect(reads_as(DBL_MAX, DBL_MAX, 1000, GATEWAY_DONE, 1000), "speed: the greatest float there is");
+    expect(reads_as(0.0, -0.0, 2, GATEWAY_DONE, 0) && reads_as(-0.0, 0.0, 2, GATEWAY_DONE, 0), "speed: both zeros are zero");
+    expect(reads_as(3.0, -DBL_MIN, 2, GATEWAY_WRONG_LOWEST, 0), "speed: a rate below zero is refused by 31");
+    expect(reads_as(2.0, 2.0 + 2 * DBL_EPSILON, 2, GATEWAY_WRONG_LOWEST, 0), "speed: a lowest rate above the mean is refused by 31");
+    expect(reads_as(INFINITY, 1.0, 2, GATEWAY_NOT_FINITE, 0) && reads_as(3.0, -INFINITY, 2, GATEWAY_NOT_FINITE, 0), "speed: 30 comes before 31");
+    expect(reads_as(NAN, 1.0, 2, GATEWAY_NOT_FINITE, 0) && reads_as(3.0, NAN, 2, GATEWAY_NOT_FINITE, 0), "speed: what is no number is refused by 30");
+    expect(reads_as(NAN, NAN, 1, GATEWAY_WRONG_RATES, 0) && reads_as(1.0, 1.0, 1001, GATEWAY_WRONG_RATES, 0), "speed: 4 comes first");
+}
+
+/* A log of so many readings of a mean and a lowest rate of 1, and its length. */
+static size_t make_log(size_t readings)
+{
+    static const uint8_t one[] = { 16, 0x3F, 0xF0, 0, 0, 0, 0, 0, 0, 0x3F, 0xF0, 0, 0, 0, 0, 0, 0 };
+    size_t more = sizeof one * readings;
+    memset(meter_log, 0, sizeof meter_log);
+    meter_log[0] = 1;
+    meter_log[3] = (uint8_t)(more >> 8);
+    meter_log[4] = (uint8_t)more;
+    for (size_t k = 0; k < readings; k++)
+        memcpy(meter_log + 5 + sizeof one * k, one, sizeof one);
+    return 5 + more;
+}
+
+/* Reads the log into so many speeds, marks before, as this number, count and offset. A refusal leaves all speeds, and any answer those beyond. */
+static int is_log(size_t length, uint16_t n, size_t places, uint32_t number, size_t count, size_t offset)
+{
+    size_t counted = MARK, wrong_at = MARK;
+    memset(speeds, MARK, sizeof speeds);
+    uint32_t answer = gateway_speeds(meter_log, length, n, speeds, places, &counted, &wrong_at);
+    for (size_t k = 0; k < count; k++)
+        if (speeds[k] != 1)
+            return 0;
+    return answer == number && counted == count && wrong_at == offset && is_marked(speeds + count, sizeof speeds - count * sizeof speeds[0]);
+}
+
+static void logs_of_nothing(void)
+{
+    size_t count = 1, offset = 1;
+    expect(gateway_speeds(NULL, 0, 2, NULL, 0, &count, &offset) == GATEWAY_WRONG_VERSION && count == 0 && offset == 0, "speeds: an empty log is refused by 1");
+    count = offset = 1;
+    expect(gateway_speeds(NULL, 0, 1, NULL, 0, &count, &offset) == GATEWAY_WRONG_RATES && count == 0 && offset == 0, "speeds: 4 comes first");
+    make_log(0);
+    count = offset = 1;
+    expect(gateway_speeds(meter_log, 5, 2, NULL, 0, &count, &offset) == GATEWAY_DONE && count == 0 && offset == 0, "speeds: no readings need no speeds");
+    expect(is_log(1, 2, 1, GATEWAY_WRONG_EXTENT, 0, 1) && is_log(4, 2, 1, GATEWAY_WRONG_EXTENT, 0, 1), "speeds: a log that ends in its length is wrong there");
+}
+
+static void logs_with_readings(void)
+{
+    size_t length = make_log(2);
+    expect(is_log(length, 2, 2, GATEWAY_DONE, 2, 0) && is_log(length, 2, 3, GATEWAY_DONE, 2, 0), "speeds: one for each reading, and places beyond stay");
+    expect(is_log(length, 2, 1, GATEWAY_BUFFER_TOO_SHORT, 0, 0), "speeds: a place too few");
+    expect(is_log(length - 1, 2, 2, GATEWAY_WRONG_EXTENT, 0, 1), "speeds: a log that is cut is wrong at its length");
+    meter_log[4]--;
+    expect(is_log(length - 1, 2, 0, GATEWAY_WRONG_EXTENT, 0, length - 8), "speeds: a rate that is cut is wrong where it begins");
+    meter_log[4]++;
+    meter_log[22] = 17;
+    expect(is_log(length, 2, 0, GATEWAY_WRONG_RECORD_LENGTH, 0, 22), "speeds: a length byte that is wrong");
+    meter_log[22] = 16;
+    meter_log[31] = 0x40;
+    expect(is_log(length, 2, 0, GATEWAY_WRONG_LOWEST, 0, 23), "speeds: 31 at the mean, and before 22");
+    meter_log[23] = 0x7F;
+    expect(is_log(length, 2, 0, GATEWAY_NOT_FINITE, 0, 23), "speeds: 30 at the mean, and before 31 and 22");
+    expect(is_log(length, 1001, 0, GATEWAY_WRONG_RATES, 0, 0), "speeds: 4 comes before what stands in the log");
+}
+
+static void most_readings_of_a_log(void)
+{
+    size_t length = make_log(GATEWAY_MOST_SPEEDS);
+    expect(length == GATEWAY_LARGEST_LOG, "speeds: the length of the largest log");
+    expect(is_log(length, 2, GATEWAY_MOST_SPEEDS, GATEWAY_DONE, GATEWAY_MOST_SPEEDS, 0), "speeds: 256 readings are done");
+    make_log(GATEWAY_MOST_SPEEDS + 1);
+    expect(is_log(sizeof meter_log, 2, GATEWAY_MOST_SPEEDS + 1, GATEWAY_TOO_MANY_SPEEDS, 0, length), "speeds: a reading too many is refused by 27");
+}
+
 static void speeds_and_words(void)
 {
-    expect(gateway_speed(0, plan) == 0 && gateway_speed(1, plan) == 1 && gateway_speed(2, plan) == 2, "speed: up to the normal rate as measured");
-    expect(gateway_speed(3, plan) == 2 && gateway_speed(UINT64_C(65537), plan) == 2, "speed: the normal rate if more is measured");
+    expect(gateway_speed(0, plan) == 0 && gateway_speed(1, plan) == 1 && gateway_speed(2, plan) == 2, "cut: up to the normal rate as measured");
+    expect(gateway_speed(3, plan) == 2 && gateway_speed(UINT64_C(65537), plan) == 2, "cut: the normal rate if more is measured");
     plan[GATEWAY_INDEX_NORMAL_RATE] = UINT64_MAX;
-    expect(gateway_speed(UINT64_MAX, plan) == UINT16_MAX, "speed: at most 65,535 whatever the plan says");
-    expect(gateway_words(GATEWAY_NO_TIMETABLE + 1) == gateway_words(GATEWAY_ENDED + 1), "words: a number that is no answer");
+    expect(gateway_speed(UINT64_MAX, plan) == UINT16_MAX, "cut: at most 65,535 whatever the plan says");
+    expect(gateway_words(GATEWAY_WRONG_LOWEST + 1) == gateway_words(GATEWAY_ENDED + 1), "words: a number that is no answer");
 }
 
 int main(void)
@@ -430,6 +522,10 @@ int main(void)
     refused_speeds_of_a_shift();
     most_speeds_of_a_shift();
     word_between_two_shifts();
+    speeds_of_readings();
+    logs_of_nothing();
+    logs_with_readings();
+    most_readings_of_a_log();
     speeds_and_words();
     return failed;
 }

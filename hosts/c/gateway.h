@@ -1,6 +1,6 @@
-/* For hosts in C and C++: plan files, judging, timetables, slots and job lists, on memory that the host lends.
+/* For hosts in C and C++: plan files, judging, timetables, slots, job lists and readings of the line meter, on memory that the host lends.
  *
- * Every call answers a number: 0 when it is done, a refusal's number from 1 to 29 (enum gateway_refusal), or a number from 256 on for the
+ * Every call answers a number: 0 when it is done, a refusal's number from 1 to 31 (enum gateway_refusal), or a number from 256 on for the
  * results that are named below. Every buffer is a pointer and then its length, counted in elements. What a call is not said to change stays.
  *
  * No call relies on checks by the host: every content of the lent memory means exactly one plan, run or job list, or is refused by 21. What
@@ -8,9 +8,10 @@
  * single number's pointer is valid. A call keeps no pointer and has no state of its own, so calls on different memory may run at the same
  * time.
  *
- * A buffer of length 0 may be NULL: nothing is read or written through it. An empty file is refused by 1, an empty text of a job list by 24; a
- * shift without speeds needs neither rows nor numbers; and any other empty buffer is too short (22, unless the call finds another number first;
- * gateway_name answers 0). A single number's pointer (offset, written, slack) is never NULL.
+ * A buffer of length 0 may be NULL: nothing is read or written through it. An empty file or log is refused by 1, an empty text of a job list by
+ * 24; a shift without speeds needs neither rows nor numbers, and a log without readings no speeds; and any other empty buffer is too short (22,
+ * unless the call finds another number first; gateway_name answers 0). A single number's pointer (offset, written, slack, speed, count) is never
+ * NULL.
  *
  * A name that begins GATEWAY_INDEX_ is an index into a buffer and never the value there: run[GATEWAY_INDEX_CLOCK] is the clock. */
 #ifndef GATEWAY_H
@@ -32,8 +33,10 @@ extern "C" {
 #define GATEWAY_LONGEST_LIST 1794
 /* The bytes of a job's name. */
 #define GATEWAY_NAME_BYTES 8
-/* The most speeds of one shift. */
+/* The most speeds of one shift, and the most readings of one meter log. */
 #define GATEWAY_MOST_SPEEDS 256
+/* The largest meter log, in bytes. */
+#define GATEWAY_LARGEST_LOG 4357
 
 /* A plan lives in 163 words of 64 bits beside its table. The words are n, d and the job count, then for each of 32 jobs name, grade
  * (0 LO, 1 HI), release, size and deadline. A name is its eight bytes as one number, the first byte highest. A word that is too large for
@@ -120,7 +123,9 @@ enum gateway_refusal {
     GATEWAY_CANNOT_END = 26,
     GATEWAY_TOO_MANY_SPEEDS = 27,
     GATEWAY_RELEASES_DIFFER = 28,
-    GATEWAY_NO_TIMETABLE = 29
+    GATEWAY_NO_TIMETABLE = 29,
+    GATEWAY_NOT_FINITE = 30,
+    GATEWAY_WRONG_LOWEST = 31
 };
 
 /* Results that are no refusals. */
@@ -185,7 +190,8 @@ uint32_t gateway_shortage(const uint64_t *plan, size_t plan_length, uint64_t *pa
  * 22 for plan, run or location: nothing is touched. Any other refusal: run stays. */
 uint32_t gateway_start(const uint64_t *plan, size_t plan_length, const uint32_t *table, size_t table_length, uint32_t *run, size_t run_length, uint64_t *location, size_t location_length);
 
-/* Carries one slot at a speed in units. A speed has 16 bits everywhere; gateway_speed below makes one of any measured number.
+/* Carries one slot at a speed in units. A speed has 16 bits everywhere; gateway_speed below makes one of any whole number, gateway_meter one of
+ * a reading.
  * In: plan, table, run and speed. Out: the run, advanced in place, and for each job its grant. Answers 0, 22, 21, 19 or 20.
  * A job whose ended mark is set gets 0, and what it leaves goes to the others.
  * After any refusal run and grants stay. grants has at least as many places as the plan has jobs; places beyond stay. */
@@ -227,11 +233,30 @@ uint32_t gateway_import(const uint8_t *text, size_t text_length, uint64_t *list,
  * *written is 0 and out stays. GATEWAY_LONGEST_LIST bytes are always enough. Bytes past the text stay. */
 uint32_t gateway_export(const uint64_t *list, size_t list_length, uint8_t *out, size_t out_length, size_t *written);
 
+/* The speed of a reading of the line meter: the greatest whole number that is at most the lowest rate and at most n.
+ * In: the mean and the lowest rate of a slot, each any double, and the normal rate n. Out: *speed. Answers, in this order, 4 (n is not from 2 to
+ * 1,000), 30 (the mean or the lowest rate is not finite), 31 (the lowest rate is below zero or above the mean; -0.0 is not below zero) or 0.
+ * After any refusal *speed is 0. */
+uint32_t gateway_meter(double mean, double lowest, uint16_t n, uint16_t *speed);
+
+/* Reads a meter log: the version, which is 1, the length of all that follows in four bytes, and for each reading a length byte, which is 16, the
+ * mean and the lowest rate, each a double in eight bytes. The first byte of every number is the highest.
+ * In: the log's bytes and the normal rate n. Out: the speed of each reading, as gateway_meter tells it, from the front of speeds on; *count, how
+ * many they are; and *offset, which says where a refused log is wrong. Answers 0, 1 to 4, 22, 27, 30 or 31.
+ * 0: *offset is 0. A log without readings is done.
+ * 4 (n is not from 2 to 1,000), before all others: *offset is 0.
+ * 1, 2, 3, 27, 30, 31: *offset is where the field in hand begins, counted from the log's first byte: 1 the version, so 0; 2 the field that is cut
+ *   (the log's length if none of it is there), or 1 for a length field that is wrong; 3 the reading's length byte; 27 what follows
+ *   GATEWAY_MOST_SPEEDS readings; 30 and 31 the reading's mean. It is never more than log_length.
+ * 22 (fewer speeds than readings), after all others: *offset is 0.
+ * After any refusal *count is 0 and the speeds stay. Speeds beyond the last reading stay. */
+uint32_t gateway_speeds(const uint8_t *log, size_t log_length, uint16_t n, uint16_t *speeds, size_t speeds_length, size_t *count, size_t *offset);
+
 /* The calls end here. What follows is the header's own, and the archive does not have it. */
 
 /* The speed to step with if the link will carry `measured` whole units in the slot: that number, but no more than the plan's normal rate. A
  * link that carries more than the normal rate carries the normal rate too; a speed above it is refused by 20, and a number above 65,535 that
- * is cut to 16 bits is another number. Round what was measured down. */
+ * is cut to 16 bits is another number. Of what a line meter reads gateway_meter makes a speed. */
 static inline uint16_t gateway_speed(uint64_t measured, const uint64_t *plan)
 {
     uint64_t most = plan[GATEWAY_INDEX_NORMAL_RATE] < UINT16_MAX ? plan[GATEWAY_INDEX_NORMAL_RATE] : UINT16_MAX;
@@ -245,7 +270,7 @@ static inline const char *gateway_words(uint32_t answer)
         "done",
         "the file is empty or of another version",
         "the file is shorter or longer than it says",
-        "a job or a row does not have its own length",
+        "a job, a row or a reading does not have its own length",
         "the rates do not keep to their bounds",
         "there is no job, or there are too many",
         "a name holds a byte that no name may hold",
@@ -269,12 +294,14 @@ static inline const char *gateway_words(uint32_t answer)
         "the job list does not begin with its header",
         "there is no such job",
         "the job is not running: it is not yet released, or it is over already",
-        "a shift has too many speeds",
+        "a shift or a meter log has too many speeds",
         "the jobs have not all the same release",
-        "no timetable exists for these rates and jobs"
+        "no timetable exists for these rates and jobs",
+        "a reading is not finite",
+        "the lowest rate of a reading is below zero or above the mean"
     };
     static const char *const results[] = { "no job is essential", "met", "discarded", "missed", "open", "ended" };
-    if (answer <= GATEWAY_NO_TIMETABLE)
+    if (answer <= GATEWAY_WRONG_LOWEST)
         return refusals[answer];
     if (answer >= GATEWAY_NONE_ESSENTIAL && answer <= GATEWAY_ENDED)
         return results[answer - GATEWAY_NONE_ESSENTIAL];

@@ -10,6 +10,8 @@
  * 0 for a text that is taken and 1 for any other.
  * With --draw and two rates it reads a job list as text and draws up a timetable. It prints its rows, what the judge and the slack figure say of them
  * and how long the plan's file is; or why there is no timetable. The exit status is 0 for a timetable and 1 for none.
+ * With --speed and three numbers, a normal rate and the mean and the lowest rate of a reading, it prints the reading's speed. With --meter it reads
+ * a plan file and then a meter log, and runs the plan at the log's speeds. The exit status of both is 0, and 1 if something is refused.
  * With --refusals it prints what each refusal says. */
 #include <stdio.h>
 #include <stdlib.h>
@@ -288,7 +290,7 @@ static int end_all(void)
     return 0;
 }
 
-/* All of standard input. Also a text that is longer than any list's is refused for what stands in it, and never cut. */
+/* All that is left of standard input. Also a text or a log that is too long is refused for what stands in it, and never cut. */
 static size_t read_text(void)
 {
     size_t length = 0, room = 0;
@@ -296,7 +298,7 @@ static size_t read_text(void)
         room = 2 * room + FIRST_ROOM;
         text = realloc(text, room);
         if (!text) {
-            fputs("host-c: there is too little memory for the job list\n", stderr);
+            fputs("host-c: there is too little memory for the input\n", stderr);
             exit(2);
         }
         length += fread(text + length, 1, room - length, stdin);
@@ -362,9 +364,44 @@ static int draw(const char *normal_rate, const char *floor)
     return refused != GATEWAY_DONE;
 }
 
+/* A word that is no number is taken for 0, and a rate that is too large too: no rate may be 0. */
+static int print_speed(const char *rate, const char *mean, const char *lowest)
+{
+    uint16_t speed;
+    unsigned long n = strtoul(rate, NULL, 10);
+    uint32_t refused = gateway_meter(strtod(mean, NULL), strtod(lowest, NULL), n > UINT16_MAX ? 0 : (uint16_t)n, &speed);
+    if (refused == GATEWAY_DONE)
+        printf("speed %u\n", (unsigned)speed);
+    else
+        printf("refused %u: %s\n", (unsigned)refused, gateway_words(refused));
+    return refused != GATEWAY_DONE;
+}
+
+/* Runs the plan in a shift at the speeds of the log that follows it. */
+static int meter(void)
+{
+    size_t length = read_file(), count;
+    uint32_t refused = gateway_read(file, length, plan, GATEWAY_PLAN_WORDS, table, GATEWAY_TABLE_PLACES, &offset);
+    if (refused != GATEWAY_DONE)
+        return print_refused(refused);
+    refused = start();
+    if (refused != GATEWAY_DONE) {
+        print_verdict(refused);
+        return 1;
+    }
+    size_t log_length = read_text();
+    refused = gateway_speeds(text, log_length, (uint16_t)plan[GATEWAY_INDEX_NORMAL_RATE], speeds, GATEWAY_MOST_SPEEDS, &count, &offset);
+    if (refused != GATEWAY_DONE)
+        return print_refused(refused);
+    puts("slot speed mode grants");
+    carry(length, speeds, count);
+    print_outcomes(length);
+    return 0;
+}
+
 static int print_refusals(void)
 {
-    for (uint32_t number = GATEWAY_WRONG_VERSION; number <= GATEWAY_NO_TIMETABLE; number++)
+    for (uint32_t number = GATEWAY_WRONG_VERSION; number <= GATEWAY_WRONG_LOWEST; number++)
         printf("%u %s\n", (unsigned)number, gateway_words(number));
     return 0;
 }
@@ -381,9 +418,13 @@ int main(int count, char **words)
         return import();
     if (count == 4 && strcmp(words[1], "--draw") == 0)
         return draw(words[2], words[3]);
+    if (count == 5 && strcmp(words[1], "--speed") == 0)
+        return print_speed(words[2], words[3], words[4]);
+    if (count == 2 && strcmp(words[1], "--meter") == 0)
+        return meter();
     if (count == 2 && strcmp(words[1], "--refusals") == 0)
         return print_refusals();
-    fputs("usage: host-c < PLAN-AND-SPEEDS\n       host-c --check < PLAN\n       host-c --end < PLAN\n       host-c --import < JOBS\n       host-c --draw NORMAL FLOOR < JOBS\n       host-c --refusals\n",
+    fputs("usage: host-c < PLAN-AND-SPEEDS\n       host-c --check < PLAN\n       host-c --end < PLAN\n       host-c --import < JOBS\n       host-c --draw NORMAL FLOOR < JOBS\n       host-c --speed NORMAL MEAN LOWEST\n       host-c --meter < PLAN-AND-LOG\n       host-c --refusals\n",
         stderr);
     return 2;
 }

@@ -1,7 +1,7 @@
 //! The calls of `libgateway.a` and the sizes of what is lent to them, as `gateway.h` declares them. `tools/compare` runs them all.
 
 pub const MOST_JOBS: usize = 32;
-/// The most speeds of one shift.
+/// The most speeds of one shift, and the most readings of one meter log.
 pub const MOST_SPEEDS: usize = 256;
 
 // The rates and the job count; each job; the clock and both marks of a run.
@@ -34,4 +34,6 @@ extern "C" {
     pub fn gateway_outcome(plan: *const u64, plan_length: usize, run: *const u32, run_length: usize, position: usize) -> u32;
     pub fn gateway_import(text: *const u8, text_length: usize, list: *mut u64, list_length: usize, offset: *mut usize) -> u32;
     pub fn gateway_export(list: *const u64, list_length: usize, out: *mut u8, out_length: usize, written: *mut usize) -> u32;
+    pub fn gateway_meter(mean: f64, lowest: f64, n: u16, speed: *mut u16) -> u32;
+    pub fn gateway_speeds(log: *const u8, log_length: usize, n: u16, speeds: *mut u16, speeds_length: usize, count: *mut usize, offset: *mut usize) -> u32;
 }

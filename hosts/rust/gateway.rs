@@ -1,7 +1,7 @@
-//! A safe wrapper over `libgateway.a`, without dependencies: plan files, judging, timetables, slots and job lists.
+//! A safe wrapper over `libgateway.a`, without dependencies: plan files, judging, timetables, slots, job lists and readings of the line meter.
 //!
 //! A [`Plan`] and a [`Run`] own the memory that the library works on. Every refusal is a [`Refusal`] with its number, its location or its offset
-//! in the file or text, and its words. Plans and runs can be stored and sent as the words that the library keeps them in, and jobs as
+//! in the file, text or log, and its words. Plans and runs can be stored and sent as the words that the library keeps them in, and jobs as
 //! comma-separated text.
 
 /// The bare calls, for a host that lends memory of its own.
@@ -15,6 +15,8 @@ use calls::*;
 
 pub const MOST_INTERVALS: usize = 63;
 pub const LARGEST_FILE: usize = 30_956;
+/// The largest meter log, in bytes.
+pub const LARGEST_LOG: usize = 4_357;
 /// No text of a job list is longer, in bytes: neither one that is exported nor one that is taken.
 pub const LONGEST_LIST: usize = 1_794;
 pub const NAME_BYTES: usize = 8;
@@ -77,6 +79,8 @@ pub mod refusal {
     pub const TOO_MANY_SPEEDS: u8 = 27;
     pub const RELEASES_DIFFER: u8 = 28;
     pub const NO_TIMETABLE: u8 = 29;
+    pub const NOT_FINITE: u8 = 30;
+    pub const WRONG_LOWEST: u8 = 31;
 
     /// What a refusal's number says, as `gateway_words` of `gateway.h` says it.
     pub fn words(number: u8) -> &'static str {
@@ -84,7 +88,7 @@ pub mod refusal {
             DONE => "done",
             WRONG_VERSION => "the file is empty or of another version",
             WRONG_EXTENT => "the file is shorter or longer than it says",
-            WRONG_RECORD_LENGTH => "a job or a row does not have its own length",
+            WRONG_RECORD_LENGTH => "a job, a row or a reading does not have its own length",
             WRONG_RATES => "the rates do not keep to their bounds",
             WRONG_JOB_COUNT => "there is no job, or there are too many",
             WRONG_NAME_BYTE => "a name holds a byte that no name may hold",
@@ -108,9 +112,11 @@ pub mod refusal {
             WRONG_HEADER => "the job list does not begin with its header",
             NO_SUCH_JOB => "there is no such job",
             CANNOT_END => "the job is not running: it is not yet released, or it is over already",
-            TOO_MANY_SPEEDS => "a shift has too many speeds",
+            TOO_MANY_SPEEDS => "a shift or a meter log has too many speeds",
             RELEASES_DIFFER => "the jobs have not all the same release",
             NO_TIMETABLE => "no timetable exists for these rates and jobs",
+            NOT_FINITE => "a reading is not finite",
+            WRONG_LOWEST => "the lowest rate of a reading is below zero or above the mean",
             _ => "the library gives no such number",
         }
     }
@@ -126,7 +132,7 @@ pub enum Location {
     IntervalAndDeadline(usize, u32),
 }
 
-/// A refusal: its number, the location that it names, and the offset at which a plan file or the text of a job list is wrong.
+/// A refusal: its number, the location that it names, and the offset at which a plan file, the text of a job list or a meter log is wrong.
 #[derive(Clone, Copy, Debug, PartialEq, Eq)]
 pub struct Refusal {
     number: u8,
@@ -163,6 +169,13 @@ impl Refusal {
         Refusal { number: number as u8, location: Location::Nowhere, offset: Some(offset) }
     }
 
+    /// The refusal of a meter log; a wrong rate and a list that is too short come without an offset.
+    fn of_log(number: u32, offset: usize) -> Refusal {
+        let number = number as u8;
+        let has_offset = number != refusal::WRONG_RATES && number != refusal::BUFFER_TOO_SHORT;
+        Refusal { number, location: Location::Nowhere, offset: has_offset.then_some(offset) }
+    }
+
     pub fn number(&self) -> u8 {
         self.number
     }
@@ -171,8 +184,9 @@ impl Refusal {
         self.location
     }
 
-    /// Where a plan file or a text is wrong, counted from its first byte: the first byte of the field in hand, or of the line, as `gateway.h`
-    /// says it for each number. Every refusal of [`Plan::read`] and of [`import_jobs`] has it, and no other.
+    /// Where a plan file, a text or a log is wrong, counted from its first byte: the first byte of the field in hand, or of the line, as
+    /// `gateway.h` says it for each number. Every refusal of [`Plan::read`] and of [`import_jobs`] has it, every one of [`read_log`] but 4 and 22,
+    /// and no other.
     pub fn offset(&self) -> Option<usize> {
         self.offset
     }
@@ -519,6 +533,31 @@ pub fn export_jobs(jobs: &[Job]) -> Result<Vec<u8>, Refusal> {
     let number = unsafe { gateway_export(list.as_ptr(), LIST_WORDS, out.as_mut_ptr(), out.len(), &mut written) };
     out.truncate(written);
     done(number).map(|()| out)
+}
+
+/// What the line meter reads in a slot, in units per slot. Either may be any float.
+#[derive(Clone, Copy, Debug, PartialEq)]
+pub struct Reading {
+    pub mean: f64,
+    pub lowest: f64,
+}
+
+/// The speed of a reading on a link with the normal rate n: the greatest whole number that is at most the lowest rate and at most n. 4 if n is not
+/// from 2 to 1,000, 30 if either rate is not finite, 31 if the lowest one is below zero or above the mean.
+pub fn speed_of(reading: Reading, n: u16) -> Result<u16, Refusal> {
+    let mut speed = 0;
+    // SAFETY: the pointer is valid.
+    let number = unsafe { gateway_meter(reading.mean, reading.lowest, n, &mut speed) };
+    done(number).map(|()| speed)
+}
+
+/// Reads the speeds of a meter log, each as [`speed_of`] tells it, into the front of a list; how many they are. A refusal leaves the list as it
+/// was, and has its [`offset`](Refusal::offset) unless it is 4, of the rate, or 22, of a list that is too short: [`MOST_SPEEDS`] places are always enough.
+pub fn read_log(log: &[u8], n: u16, list: &mut [u16]) -> Result<usize, Refusal> {
+    let (mut count, mut offset) = (0, 0);
+    // SAFETY: each pointer is valid for the length beside it; count and offset are fresh, and the list is borrowed for writing.
+    let number = unsafe { gateway_speeds(log.as_ptr(), log.len(), n, list.as_mut_ptr(), list.len(), &mut count, &mut offset) };
+    if number == DONE { Ok(count) } else { Err(Refusal::of_log(number, offset)) }
 }
 
 /// A run of a plan.

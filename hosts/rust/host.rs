@@ -10,9 +10,11 @@
 //! is 0 for a text that is taken and 1 for any other.
 //! With `--draw` and two rates it reads a job list as text and draws up a timetable. It prints its rows, what the judge and the slack figure say of
 //! them and how long the plan's file is; or why there is no timetable. The exit status is 0 for a timetable and 1 for none.
+//! With `--speed` and three numbers, a normal rate and the mean and the lowest rate of a reading, it prints the reading's speed. With `--meter` it
+//! reads a plan file and then a meter log, and runs the plan at the log's speeds. The exit status of both is 0, and 1 if something is refused.
 //! With `--refusals` it prints what each refusal says.
 
-use gateway::{refusal, Grade, Job, Plan, Refusal, Run, LARGEST_FILE, MOST_INTERVALS, MOST_SPEEDS};
+use gateway::{refusal, Grade, Job, Plan, Reading, Refusal, Run, LARGEST_FILE, MOST_INTERVALS, MOST_SPEEDS};
 use std::io::{self, Read, Write};
 use std::process::ExitCode;
 
@@ -255,8 +257,30 @@ fn draw(text: &[u8], rates: [&str; 2], out: &mut impl Write) -> io::Result<bool>
     Ok(file.is_ok())
 }
 
+/// A word that is no number is taken for 0, and a rate that is too large too: no rate may be 0.
+fn speed([rate, mean, lowest]: [&str; 3], out: &mut impl Write) -> io::Result<bool> {
+    let [mean, lowest] = [mean, lowest].map(|word| word.parse().unwrap_or_default());
+    match gateway::speed_of(Reading { mean, lowest }, rate.parse().unwrap_or_default()) {
+        Ok(speed) => writeln!(out, "speed {speed}").map(|()| true),
+        Err(refusal) => writeln!(out, "{refusal}").map(|()| false),
+    }
+}
+
+/// Runs the plan in a shift at the speeds of the log that follows it.
+fn meter(file: &[u8], log: &[u8], out: &mut impl Write) -> io::Result<bool> {
+    let mut speeds = [0; MOST_SPEEDS];
+    let opened = open(file).and_then(|(plan, run)| gateway::read_log(log, plan.normal_rate(), &mut speeds).map(|count| (plan, run, count)));
+    let (plan, mut run, count) = match opened {
+        Ok(opened) => opened,
+        Err(refusal) => return writeln!(out, "{refusal}").map(|()| false),
+    };
+    writeln!(out, "slot speed mode grants")?;
+    write_shift(file, &mut run, &plan, &speeds[..count], out)?;
+    write_outcomes(file, &run, &plan, out).map(|()| true)
+}
+
 fn write_refusals(out: &mut impl Write) -> io::Result<()> {
-    (refusal::WRONG_VERSION..=refusal::NO_TIMETABLE).try_for_each(|number| writeln!(out, "{number} {}", refusal::words(number)))
+    (refusal::WRONG_VERSION..=refusal::WRONG_LOWEST).try_for_each(|number| writeln!(out, "{number} {}", refusal::words(number)))
 }
 
 fn read_input() -> io::Result<Vec<u8>> {
@@ -284,9 +308,15 @@ fn main() -> io::Result<ExitCode> {
         }
         ["--import"] => import(&read_input()?, &mut out)?,
         ["--draw", normal_rate, floor] => draw(&read_input()?, [normal_rate, floor], &mut out)?,
+        ["--speed", rate, mean, lowest] => speed([rate, mean, lowest], &mut out)?,
+        ["--meter"] => {
+            let input = read_input()?;
+            let (file, log) = input.split_at(file_length(&input));
+            meter(file, log, &mut out)?
+        }
         ["--refusals"] => write_refusals(&mut out).map(|()| true)?,
         _ => {
-            eprintln!("usage: host-rust < PLAN-AND-SPEEDS\n       host-rust --check < PLAN\n       host-rust --end < PLAN\n       host-rust --import < JOBS\n       host-rust --draw NORMAL FLOOR < JOBS\n       host-rust --refusals");
+            eprintln!("usage: host-rust < PLAN-AND-SPEEDS\n       host-rust --check < PLAN\n       host-rust --end < PLAN\n       host-rust --import < JOBS\n       host-rust --draw NORMAL FLOOR < JOBS\n       host-rust --speed NORMAL MEAN LOWEST\n       host-rust --meter < PLAN-AND-LOG\n       host-rust --refusals");
             return Ok(ExitCode::from(2));
         }
     };

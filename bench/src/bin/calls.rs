@@ -4,11 +4,13 @@ use std::env;
 use std::hint::black_box;
 use std::process::ExitCode;
 
-use bench::inputs::{Input, Shape, LARGEST_FILE};
-use bench::{draw_up, judge, read, shift, slack, step, write, MOST_JOBS, MOST_SPEEDS, PLACES};
+use bench::inputs::{logs, Input, Shape, LARGEST_FILE, METERED};
+use bench::{draw_up, judge, read, read_log, shift, slack, step, write};
+use bench::{MOST_JOBS, MOST_SPEEDS, PLACES};
 
 const USAGE: &str = "usage: calls read|write|judge|slack|step|shift 1|8|16|32|largest REPEAT
-       calls draw 1|8|16|32 REPEAT";
+       calls draw 1|8|16|32 REPEAT
+       calls speeds 2|100|1000 REPEAT";
 
 fn main() -> ExitCode {
     let words: Vec<String> = env::args().skip(1).collect();
@@ -23,6 +25,11 @@ fn main() -> ExitCode {
 /// Does what the words say; none if they say nothing right.
 fn run(words: &[&str]) -> Option<()> {
     let [what, jobs, repeat] = <[&str; 3]>::try_from(words).ok()?;
+    if what == "speeds" {
+        let n = jobs.parse().ok().filter(|n| METERED.contains(n))?;
+        logs_read(n, repeat.parse().ok()?);
+        return Some(());
+    }
     let call = call_of(what)?;
     let input = input_of(what, jobs)?;
     let repeat = repeat.parse().ok()?;
@@ -129,5 +136,15 @@ fn draws(input: &Input, repeat: u64) {
     let mut table = vec![0; PLACES];
     for _ in 0..repeat {
         black_box(&draw_up(black_box(&input.plan), black_box(&mut table)));
+    }
+}
+
+fn logs_read(n: u16, repeat: u64) {
+    let [log, _] = logs(n);
+    println!("readings {} log {} bytes", MOST_SPEEDS, log.bytes.len());
+    let mut list = [0; MOST_SPEEDS];
+    for _ in 0..repeat {
+        let answer = read_log(black_box(&log.bytes), black_box(n), black_box(&mut list));
+        black_box(&answer);
     }
 }

@@ -10,6 +10,7 @@ mod idle;
 mod judged;
 mod largest;
 mod lists;
+mod meter;
 mod plan_e;
 mod refused_shifts;
 mod shifts;
@@ -66,6 +67,15 @@ impl Cases {
 /// How many answers were as expected, or the first that was not.
 pub fn all() -> Result<u64, String> {
     let cases = &mut Cases::default();
+    of_plans(cases)?;
+    of_runs(cases)?;
+    of_lists(cases)?;
+    of_meters(cases)?;
+    Ok(cases.passed)
+}
+
+/// Plan files, judging and the desk.
+fn of_plans(cases: &mut Cases) -> Result<(), String> {
     files::read(cases)?;
     files::rows_again(cases)?;
     files::shorts(cases)?;
@@ -77,7 +87,11 @@ pub fn all() -> Result<u64, String> {
     desk::most_jobs(cases)?;
     desk::short_pairs(cases)?;
     desk::refused(cases)?;
-    desk::shorts(cases)?;
+    desk::shorts(cases)
+}
+
+/// Slots, words of the host, shifts, and the largest of all.
+fn of_runs(cases: &mut Cases) -> Result<(), String> {
     slots::done(cases)?;
     slots::refused(cases)?;
     slots::shorts(cases)?;
@@ -93,7 +107,11 @@ pub fn all() -> Result<u64, String> {
     idle::sums(cases)?;
     sums::columns(cases)?;
     sums::dues(cases)?;
-    largest::file(cases)?;
+    largest::file(cases)
+}
+
+/// Texts of job lists, and lists.
+fn of_lists(cases: &mut Cases) -> Result<(), String> {
     texts::refused(cases)?;
     texts::taken(cases)?;
     texts::nines(cases)?;
@@ -104,6 +122,15 @@ pub fn all() -> Result<u64, String> {
     lists::unsound(cases)?;
     lists::counts(cases)?;
     lists::longest(cases)?;
-    lists::of_plan(cases)?;
-    Ok(cases.passed)
+    lists::of_plan(cases)
+}
+
+/// Readings and logs of the line meter.
+fn of_meters(cases: &mut Cases) -> Result<(), String> {
+    meter::readings(cases)?;
+    meter::whole_numbers(cases)?;
+    meter::logs(cases)?;
+    meter::refused_logs(cases)?;
+    meter::lists(cases)?;
+    meter::most_readings(cases)
 }

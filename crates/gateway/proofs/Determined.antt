@@ -154,7 +154,7 @@ one-end plan run position r s words others d e =
 pub some-end : (plan run : List ℕ) (position : ℕ) → (r : ℕ) × (words : List ℕ) × HostTells plan run position r words
 some-end plan run position = let c = endCall plan run position in (c .number, c .run, refl)
 
--- `gateway_speed`.
+-- `gateway_meter`.
 pub one-speed : (mean lowest : Float) (n r s left other : ℕ) → HostMeters mean lowest n r left → HostMeters mean lowest n s other → (r ≡ s) × (left ≡ other)
 one-speed mean lowest n r s left other d e =
     let same = d ∙ sym e in

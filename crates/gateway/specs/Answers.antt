@@ -74,7 +74,7 @@ HostExports list out length r out-left length-left =
 abbrev pub HostTells : (plan run : Words) (position : Position) (r : ℕ) (run-left : Words) → Type 0
 HostTells plan run position r run-left = record { number = r; run = run-left } ≡ endCall plan run position
 
--- The contract of `gateway_speed`: the number and the speed, whatever it was before.
+-- The contract of `gateway_meter`: the number and the speed, whatever it was before.
 abbrev pub HostMeters : (mean lowest : Float) (n : ℕ) (r : ℕ) (speed-left : Speed) → Type 0
 HostMeters mean lowest n r speed-left = record { number = r; speed = speed-left } ≡ speedCall mean lowest n
 

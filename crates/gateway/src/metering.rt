@@ -11,7 +11,7 @@ ghost use Rattle.gateway.specs.Answers.{HostMeters, HostReadsLog};
 
 // The speed of a reading on a link with the normal rate n: its number, and the speed in `speed`, 0 if the reading is refused.
 #[no_mangle]
-pub extern "C" fn gateway_speed(mean: f64, lowest: f64, n: u16, speed: &mut u16) -> u32
+pub extern "C" fn gateway_meter(mean: f64, lowest: f64, n: u16, speed: &mut u16) -> u32
     ensures { λ r. ⌜ HostMeters mean lowest n r (now (speed .exit)) ⌝ }
 {
     let told = speed_of(Reading { mean, lowest }, n);

@@ -98,7 +98,7 @@ pub host-log-numbers : (file : Bytes) (n : ℕ) (speeds : List ℕ) → isOneOf 
 unfolding logCall
 host-log-numbers file n speeds = log-numbers file n speeds
 
--- `gateway_speed`: 0, 4, 30, 31.
+-- `gateway_meter`: 0, 4, 30, 31.
 pub host-speed-numbers : (mean lowest : Float) (n : ℕ) → isOneOf (doneNumber ∷ speedNumbers) (speedCall mean lowest n .number) ≡ true
 unfolding speedCall
 host-speed-numbers mean lowest n = by (metered r n) refl

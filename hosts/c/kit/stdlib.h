@@ -4,5 +4,6 @@
 #include <stddef.h>
 void exit(int status);
 void *realloc(void *from, size_t size);
+double strtod(const char *text, char **end);
 unsigned long strtoul(const char *text, char **end, int base);
 #endif

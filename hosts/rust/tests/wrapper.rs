@@ -1,7 +1,7 @@
-//! The wrapper as a project of one's own sees it: what goes in comes out, and what no plan, run or job list can be is refused in words.
+//! The wrapper as a project of one's own sees it: what goes in comes out, and what no plan, run, job list or reading can be is refused in words.
 
-use gateway::{export_jobs, import_jobs, index, refusal, Grade, Job, Outcome, Plan, Refusal, Run, Shortage};
-use gateway::{LONGEST_LIST, MOST_JOBS, MOST_SPEEDS, PLAN_WORDS, RUN_WORDS, TABLE_PLACES};
+use gateway::{export_jobs, import_jobs, index, read_log, refusal, speed_of, Grade, Job, Outcome, Plan, Reading, Refusal, Run, Shortage};
+use gateway::{LARGEST_LOG, LONGEST_LIST, MOST_JOBS, MOST_SPEEDS, PLAN_WORDS, RUN_WORDS, TABLE_PLACES};
 
 const OTHER: usize = 0;
 const ESSENTIAL: usize = 1;
@@ -304,7 +304,7 @@ fn a_shift_has_no_more_speeds_than_it_may() {
     let plan = plan_e();
     let mut run = plan.start().unwrap();
     let (refused, rows, numbers) = shift_with_spare(&mut run, &plan, &[2; MOST_SPEEDS + 1], 0);
-    assert_eq!(refused.unwrap_err().to_string(), "refused 27: a shift has too many speeds");
+    assert_eq!(refused.unwrap_err().to_string(), "refused 27: a shift or a meter log has too many speeds");
     assert_eq!(run, plan.start().unwrap());
     assert!(rows.iter().all(|&units| units == ROW_MARK) && numbers.iter().all(|&number| number == NUMBER_MARK));
     let (shifted, _, numbers) = shift_with_spare(&mut run, &plan, &[2; MOST_SPEEDS], 0);
@@ -449,7 +449,7 @@ fn a_refused_text_says_at_which_byte() {
     assert_eq!(refused_with("H", "HH").to_string(), "refused 8: a grade is neither LO nor HI (byte 61)");
     let empty = import_jobs(&[]).unwrap_err();
     assert_eq!(empty.to_string(), "refused 24: the job list does not begin with its header (byte 0)");
-    let no_line = import_jobs(TEXT[..34].as_bytes()).unwrap_err();
+    let no_line = import_jobs(&TEXT.as_bytes()[..34]).unwrap_err();
     assert_eq!((no_line.number(), no_line.offset()), (refusal::WRONG_JOB_COUNT, Some(34)));
 }
 
@@ -469,4 +469,118 @@ fn jobs_that_no_list_has_are_refused_at_no_byte() {
     let exported = export_jobs(&many).unwrap();
     assert!(exported.len() <= LONGEST_LIST);
     assert_eq!(import_jobs(&exported), Ok(many));
+}
+
+fn speed(mean: f64, lowest: f64, n: u16) -> Result<u16, u8> {
+    speed_of(Reading { mean, lowest }, n).map_err(|refusal| refusal.number())
+}
+
+#[test]
+fn a_reading_is_rounded_down_and_cut_to_the_normal_rate() {
+    let lowest = [0.0, 0.5, 1.0, 1.999, 2.0, 2.7, f64::MAX];
+    assert_eq!(lowest.map(|lowest| speed(f64::MAX, lowest, 2)), [0, 0, 1, 1, 2, 2, 2].map(Ok));
+    assert_eq!((speed(1_001.5, 1_000.0, 1_000), speed(1_001.5, 999.999, 1_000)), (Ok(1_000), Ok(999)));
+    // The floats next to 2, and the least one above zero.
+    let next = [2_f64.to_bits() - 1, 2_f64.to_bits() + 1, 1].map(f64::from_bits);
+    assert_eq!(next.map(|lowest| speed(3.0, lowest, 1_000)), [1, 2, 0].map(Ok));
+    assert_eq!((speed(0.0, -0.0, 2), speed(-0.0, 0.0, 2)), (Ok(0), Ok(0)));
+}
+
+#[test]
+fn a_reading_is_refused_for_the_first_of_its_grounds() {
+    let endless = [f64::NAN, f64::INFINITY, f64::NEG_INFINITY, f64::from_bits(f64::INFINITY.to_bits() + 1)];
+    for rate in endless {
+        assert_eq!((speed(rate, 1.0, 2), speed(1.0, rate, 2), speed(rate, -1.0, 2)), (Err(30), Err(30), Err(30)));
+        assert_eq!((speed(rate, rate, 1), speed(rate, 1.0, 1_001)), (Err(refusal::WRONG_RATES), Err(refusal::WRONG_RATES)));
+    }
+    let above = f64::from_bits(1_f64.to_bits() + 1);
+    assert_eq!((speed(1.0, above, 2), speed(1.0, -f64::from_bits(1), 2)), (Err(refusal::WRONG_LOWEST), Err(refusal::WRONG_LOWEST)));
+    let refused = speed_of(Reading { mean: -1.0, lowest: -1.0 }, 2).unwrap_err();
+    assert_eq!((refused.to_string().as_str(), refused.offset()), ("refused 31: the lowest rate of a reading is below zero or above the mean", None));
+    let refused = speed_of(Reading { mean: f64::NAN, lowest: 1.0 }, 2).unwrap_err();
+    assert_eq!((refused.to_string().as_str(), refused.number()), ("refused 30: a reading is not finite", refusal::NOT_FINITE));
+}
+
+/// The log of readings: a mean and a lowest rate each.
+fn log_of(readings: &[(f64, f64)]) -> Vec<u8> {
+    let mut log = vec![1];
+    log.extend((17 * readings.len() as u32).to_be_bytes());
+    for (mean, lowest) in readings {
+        log.push(16);
+        log.extend(mean.to_be_bytes());
+        log.extend(lowest.to_be_bytes());
+    }
+    log
+}
+
+/// What stands in a list before a log is read into it.
+const SPEED_MARK: u16 = 7_777;
+
+/// The log gives plan E the night of the rules.
+#[test]
+fn a_plan_is_run_at_the_speeds_of_a_log() {
+    let plan = plan_e();
+    let lowest = [2.0, 2.7, 65_537.0, 1.999, 1.0, 1.5, 1.25];
+    let mut speeds = [SPEED_MARK; MOST_SPEEDS];
+    let count = read_log(&log_of(&lowest.map(|lowest| (1e300, lowest))), plan.normal_rate(), &mut speeds).unwrap();
+    assert_eq!((count, &speeds[..8]), (7, &[2, 2, 2, 1, 1, 1, 1, SPEED_MARK][..]));
+    let mut run = plan.start().unwrap();
+    let (shifted, _, numbers) = shift_with_spare(&mut run, &plan, &speeds[..count], 0);
+    assert_eq!((shifted, numbers), (Ok(()), vec![refusal::DONE; 7]));
+    assert_eq!([OTHER, ESSENTIAL].map(|job| run.outcome(&plan, job)), [Ok(Outcome::Discarded), Ok(Outcome::Met)]);
+}
+
+/// The refusal of a log, which leaves the list as it was.
+fn refused_log(log: &[u8], n: u16, places: usize) -> (u8, Option<usize>) {
+    let mut list = vec![SPEED_MARK; places];
+    let refused = read_log(log, n, &mut list).unwrap_err();
+    assert!(list.iter().all(|&speed| speed == SPEED_MARK));
+    (refused.number(), refused.offset())
+}
+
+/// The second reading begins at byte 22, its mean at 23 and its lowest rate at 31.
+#[test]
+fn a_refused_log_says_at_which_byte() {
+    let log = log_of(&[(3.0, 2.0), (1.0, 1.0)]);
+    let changed = |at: usize, byte: u8| {
+        let mut wrong = log.clone();
+        wrong[at] = byte;
+        refused_log(&wrong, 2, 2)
+    };
+    assert_eq!(changed(0, 2), (refusal::WRONG_VERSION, Some(0)));
+    assert_eq!(changed(4, 33), (refusal::WRONG_EXTENT, Some(1)));
+    assert_eq!(changed(22, 15), (refusal::WRONG_RECORD_LENGTH, Some(22)));
+    assert_eq!(changed(23, 0x7F), (refusal::NOT_FINITE, Some(23)));
+    assert_eq!(changed(31, 0xBF), (refusal::WRONG_LOWEST, Some(23)));
+    let mut cut = log[..38].to_vec();
+    cut[4] = 33;
+    assert_eq!(refused_log(&cut, 2, 2), (refusal::WRONG_EXTENT, Some(31)));
+    assert_eq!(refused_log(&[], 2, 2), (refusal::WRONG_VERSION, Some(0)));
+    let mut wrong = log.clone();
+    wrong[31] = 0xBF;
+    let refused = read_log(&wrong, 2, &mut [0; 2]).unwrap_err();
+    assert_eq!(refused.to_string(), "refused 31: the lowest rate of a reading is below zero or above the mean (byte 23)");
+}
+
+#[test]
+fn a_wrong_rate_and_a_short_list_are_refused_at_no_byte() {
+    let log = log_of(&[(3.0, 2.0), (3.0, 1.0)]);
+    for n in [0, 1, 1_001, u16::MAX] {
+        assert_eq!(refused_log(&log, n, 2), (refusal::WRONG_RATES, None));
+        assert_eq!(refused_log(&[], n, 0), (refusal::WRONG_RATES, None));
+    }
+    assert_eq!(refused_log(&log, 2, 1), (refusal::BUFFER_TOO_SHORT, None));
+    // What stands in the log comes before.
+    assert_eq!(refused_log(&log[..38], 2, 0), (refusal::WRONG_EXTENT, Some(1)));
+    assert_eq!(read_log(&log_of(&[]), 2, &mut []), Ok(0));
+}
+
+#[test]
+fn a_log_has_no_more_readings_than_a_shift_has_speeds() {
+    let readings = [(3.0, 1.0); MOST_SPEEDS + 1];
+    let most = log_of(&readings[1..]);
+    let mut list = [SPEED_MARK; MOST_SPEEDS];
+    assert_eq!((most.len(), read_log(&most, 2, &mut list)), (LARGEST_LOG, Ok(MOST_SPEEDS)));
+    assert_eq!(list, [1; MOST_SPEEDS]);
+    assert_eq!(refused_log(&log_of(&readings), 2, MOST_SPEEDS + 1), (refusal::TOO_MANY_SPEEDS, Some(LARGEST_LOG)));
 }

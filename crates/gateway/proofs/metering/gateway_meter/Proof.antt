@@ -1,9 +1,9 @@
--- `gateway::metering::gateway_speed` meets its contract.
+-- `gateway::metering::gateway_meter` meets its contract.
 use mathlib.Core.Path.{refl}
 use borrow.Author.Needs.{needs}
 use Rattle.gateway.specs.Calls.{speedCall}
-use Rattle.gateway.proofs.metering.gateway_speed.Statement.{statement}
-use Rattle.gateway.proofs.metering.gateway_speed.Tie as tie
+use Rattle.gateway.proofs.metering.gateway_meter.Statement.{statement}
+use Rattle.gateway.proofs.metering.gateway_meter.Tie as tie
 
 speed-of-requires : tie.Need-speed-of-requires
 speed-of-requires c κs = search needs
@@ -21,5 +21,5 @@ returns c =
     let at-told = at-speed .before in
     rw (← (at-told .speed-of .ensures), ← (at-speed .metered-speed .ensures), ← (c .metered-number .ensures)) refl
 
-pub gateway-speed-spec : {M : Type 1} → statement M
-gateway-speed-spec = tie.close (tie.spec speed-of-requires metered-speed-requires metered-number-requires returns)
+pub gateway-meter-spec : {M : Type 1} → statement M
+gateway-meter-spec = tie.close (tie.spec speed-of-requires metered-speed-requires metered-number-requires returns)
