@@ -23,8 +23,8 @@ fn place(offset: usize) -> String {
     let reading = (offset - READINGS_AT) / READING_BYTES;
     let field = match (offset - READINGS_AT) % READING_BYTES {
         0 => "length byte",
-        LOWEST_IN => "lowest rate",
-        _ => "mean",
+        within if within < LOWEST_IN => "mean",
+        _ => "lowest rate",
     };
     format!("reading {reading}, {field}")
 }
@@ -67,7 +67,8 @@ fn what(log: &[u8], number: u8, offset: usize) -> String {
         3 => format!("the length byte is {value}, and a reading has {READING_LENGTH}"),
         27 => format!("{MOST_READINGS} readings come before it, and a log has no more"),
         30 => reading_words(log, offset, "both must be finite"),
-        _ => reading_words(log, offset, "the lowest rate must be from 0 to the mean"),
+        31 => reading_words(log, offset, "the lowest rate must be from 0 to the mean"),
+        _ => format!("refusal {number} is none of a log's"),
     }
 }
 

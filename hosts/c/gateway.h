@@ -256,7 +256,7 @@ uint32_t gateway_speeds(const uint8_t *log, size_t log_length, uint16_t n, uint1
 
 /* The speed to step with if the link will carry `measured` whole units in the slot: that number, but no more than the plan's normal rate. A
  * link that carries more than the normal rate carries the normal rate too; a speed above it is refused by 20, and a number above 65,535 that
- * is cut to 16 bits is another number. Of what a line meter reads gateway_meter makes a speed. */
+ * is cut to 16 bits is another number. gateway_meter turns what a line meter reads into a speed. */
 static inline uint16_t gateway_speed(uint64_t measured, const uint64_t *plan)
 {
     uint64_t most = plan[GATEWAY_INDEX_NORMAL_RATE] < UINT16_MAX ? plan[GATEWAY_INDEX_NORMAL_RATE] : UINT16_MAX;
@@ -297,7 +297,7 @@ static inline const char *gateway_words(uint32_t answer)
         "a shift or a meter log has too many speeds",
         "the jobs have not all the same release",
         "no timetable exists for these rates and jobs",
-        "a reading is not finite",
+        "the mean or the lowest rate of a reading is not finite",
         "the lowest rate of a reading is below zero or above the mean"
     };
     static const char *const results[] = { "no job is essential", "met", "discarded", "missed", "open", "ended" };

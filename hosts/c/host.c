@@ -364,12 +364,20 @@ static int draw(const char *normal_rate, const char *floor)
     return refused != GATEWAY_DONE;
 }
 
-/* A word that is no number is taken for 0, and a rate that is too large too: no rate may be 0. */
+/* A word as a float; one that is no number stays none, and is refused by 30. */
+static double float_of(const char *word)
+{
+    char *end;
+    double number = strtod(word, &end);
+    return end == word || *end != '\0' ? strtod("nan", NULL) : number;
+}
+
+/* A normal rate that is no number is taken for 0, and one that is too large too: no rate may be 0. */
 static int print_speed(const char *rate, const char *mean, const char *lowest)
 {
     uint16_t speed;
     unsigned long n = strtoul(rate, NULL, 10);
-    uint32_t refused = gateway_meter(strtod(mean, NULL), strtod(lowest, NULL), n > UINT16_MAX ? 0 : (uint16_t)n, &speed);
+    uint32_t refused = gateway_meter(float_of(mean), float_of(lowest), n > UINT16_MAX ? 0 : (uint16_t)n, &speed);
     if (refused == GATEWAY_DONE)
         printf("speed %u\n", (unsigned)speed);
     else

@@ -115,7 +115,7 @@ pub mod refusal {
             TOO_MANY_SPEEDS => "a shift or a meter log has too many speeds",
             RELEASES_DIFFER => "the jobs have not all the same release",
             NO_TIMETABLE => "no timetable exists for these rates and jobs",
-            NOT_FINITE => "a reading is not finite",
+            NOT_FINITE => "the mean or the lowest rate of a reading is not finite",
             WRONG_LOWEST => "the lowest rate of a reading is below zero or above the mean",
             _ => "the library gives no such number",
         }

@@ -257,9 +257,10 @@ fn draw(text: &[u8], rates: [&str; 2], out: &mut impl Write) -> io::Result<bool>
     Ok(file.is_ok())
 }
 
-/// A word that is no number is taken for 0, and a rate that is too large too: no rate may be 0.
+/// A mean or lowest rate that is no number stays none, and is refused by 30. A normal rate that is none, or too large, is taken for 0: no rate may
+/// be 0.
 fn speed([rate, mean, lowest]: [&str; 3], out: &mut impl Write) -> io::Result<bool> {
-    let [mean, lowest] = [mean, lowest].map(|word| word.parse().unwrap_or_default());
+    let [mean, lowest] = [mean, lowest].map(|word| word.parse().unwrap_or(f64::NAN));
     match gateway::speed_of(Reading { mean, lowest }, rate.parse().unwrap_or_default()) {
         Ok(speed) => writeln!(out, "speed {speed}").map(|()| true),
         Err(refusal) => writeln!(out, "{refusal}").map(|()| false),

@@ -1,5 +1,6 @@
 pub mod Speed
 pub mod Log
+pub mod Bits
 pub mod Answers
 pub mod Grounds
 pub mod inner

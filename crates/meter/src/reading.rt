@@ -1,15 +1,16 @@
 // A reading of the line meter, and the speed that it gives.
-use plan::edition::Edition;
+use plan::kinds::Rate;
 use plan::refusal::NOT_FINITE;
 use plan::refusal::WRONG_LOWEST;
 use plan::refusal::WRONG_RATES;
+use plan::rules::rates_allowed;
 ghost use mathlib.Core.Path.{_≡_};
 ghost use mathlib.Core.Bool.{true};
 ghost use lib.Ieee.Scale.{finite};
-ghost use Rattle.meter.specs.Speed.{normalAllowed, areFinite, lowestWrong, wholeRate};
-ghost use Rattle.meter.specs.Answers.{Meters};
+ghost use Rattle.meter.specs.Speed.{normalAllowed, areFinite, lowestWrong, wholeRate, toldWithin};
+ghost use Rattle.meter.specs.Answers.{meteredView, Meters};
 
-// What the meter reports of a slot, in units: the mean rate and the lowest.
+// What the meter reports of a slot, in units per slot: the mean rate and the lowest.
 pub struct Reading {
     pub mean: f64,
     pub lowest: f64,
@@ -21,18 +22,22 @@ pub enum Metered {
     Refused(u8),
 }
 
-// Whether n can be a normal rate: at least 1 above the least floor, which is 1.
+// The least floor of rule 4.
+const LEAST_FLOOR: u16 = 1;
+
+// Whether n can be a normal rate.
 pub(crate) fn normal_allowed(n: u16) -> bool
     ensures { λ r. ⌜ r ≡ normalAllowed n ⌝ }
 {
-    (1 < n) & (n <= Edition::MOST_RATE)
+    rates_allowed(Rate(n), Rate(LEAST_FLOOR))
 }
 
+// Whether a float is between the infinities. What is no number is neither below nor above another.
 fn is_finite(x: f64) -> bool
     ensures { λ r. ⌜ r ≡ finite x ⌝ }
 {
-    let top = 1.0 / 0.0;
-    (x < top) & (-top < x)
+    let infinity = f64::from_bits(0x7FF0_0000_0000_0000);
+    (x < infinity) & (-infinity < x)
 }
 
 fn are_finite(reading: Reading) -> bool
@@ -68,6 +73,17 @@ fn whole_rate(rate: f64, n: u16) -> u16
     low as u16
 }
 
+// The speed of a reading whose rates are numbers; n is not tested.
+pub(crate) fn speed_within(reading: Reading, n: u16) -> Metered
+    requires { ⌜ areFinite reading ≡ true ⌝ }
+    ensures { λ r. ⌜ meteredView r ≡ toldWithin reading n ⌝ }
+{
+    if lowest_wrong(reading) {
+        return Metered::Refused(WRONG_LOWEST);
+    }
+    Metered::Speed(whole_rate(reading.lowest, n))
+}
+
 // The speed of a reading on a link with the normal rate n.
 pub fn speed_of(reading: Reading, n: u16) -> Metered
     ensures { λ r. ⌜ Meters reading n r ⌝ }
@@ -78,8 +94,5 @@ pub fn speed_of(reading: Reading, n: u16) -> Metered
     if !are_finite(reading) {
         return Metered::Refused(NOT_FINITE);
     }
-    if lowest_wrong(reading) {
-        return Metered::Refused(WRONG_LOWEST);
-    }
-    Metered::Speed(whole_rate(reading.lowest, n))
+    speed_within(reading, n)
 }

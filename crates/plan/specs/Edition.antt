@@ -37,6 +37,6 @@ places = mostJobs * mostIntervals
 abbrev pub nameBytes : ℕ
 nameBytes = 8
 
--- The greatest number of speeds of a shift.
+-- The greatest number of speeds of a shift, and of readings of a meter log.
 abbrev pub mostSpeeds : ℕ
 mostSpeeds = 256

@@ -28,6 +28,6 @@ impl Edition {
 
     pub const NAME_BYTES: usize = 8;
 
-    // The bound on the speeds of a shift.
+    // The bound on the speeds of a shift, and on the readings of a meter log.
     pub const MOST_SPEEDS: usize = 256;
 }

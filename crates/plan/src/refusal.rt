@@ -68,7 +68,7 @@ pub const NO_SUCH_JOB: u8 = 25;
 
 pub const CANNOT_END: u8 = 26;
 
-// A refusal of a list of speeds.
+// A refusal of a list of speeds, and of a meter log.
 pub const TOO_MANY_SPEEDS: u8 = 27;
 
 // Refusals of the desk.

@@ -1,6 +1,6 @@
 -- The log reader answers the first fault that the bytes have by the layout, with its number and offset, or reads what the layout
 -- says: each number exactly when its ground holds and none before it does.
-use mathlib.Core.Path.{_≡_, refl, _∙_, ap}
+use mathlib.Core.Path.{_≡_, refl, sym, _∙_, ap}
 use mathlib.Core.Logic.{_↔_}
 use mathlib.Core.Bool.{Bool, true, false, not, cond}
 use mathlib.Core.List.{List, [], _∷_, _++_}
@@ -8,17 +8,20 @@ use Prim.Native.Nat.{ℕ, zero, suc, _≤_, _<_}
 use native.Mathlib.Omega.{arith}
 use borrow.Author.Tests.{leb-false, lt-ltb, le-ltb}
 use lib.Dec.{leb}
-use lib.ListN.{length, drop}
+use lib.ListN.{length, take, drop}
 use Rattle.base.proofs.Logic.{if-less}
 use Rattle.plan.specs.Kinds.{Bytes, Offset}
 use Rattle.plan.specs.Edition.{mostSpeeds}
-use Rattle.plan.specs.Refusal.{refusalAt, wrongRates, bufferTooShort, tooManySpeeds, notFinite, wrongLowest}
+use Rattle.plan.specs.Refusal.{refusalAt, bufferTooShort, tooManySpeeds, notFinite, wrongLowest}
 use Rattle.plan.specs.Report.{Report, orElse}
 use Rattle.fields.specs.Parsers.{got, no}
+use Rattle.fields.proofs.ParserLaws.{same-value}
 use Rattle.meter.specs.Speed.{normalAllowed, areFinite, lowestWrong}
 use Rattle.meter.specs.Log as log
 use Rattle.meter.specs.Log.{logVersion, floatBytes, readingLength, Bits, readingOf, taken, oneReading, allReadings, meterLog, speedsOf, LogEffect, took, logRead}
-use Rattle.meter.specs.Grounds.{Normal}
+use Rattle.meter.specs.Grounds.{Normal, ToldEach}
+use Rattle.meter.proofs.LogLaws.{log-rate}
+use Rattle.meter.proofs.LogTold.{log-told}
 use Rattle.meter.proofs.SpeedExactly.{normal-is, normal-tells, no-so, so-not}
 use Rattle.promises.specs.FileFaults.{unlessAt, InsideFile}
 use Rattle.promises.specs.LogFaults.{meanFrom, lowestFrom, afterReading, readingFrom, bitsAt, readingFaultsAt, readingFaults, logFault, readingsIn, logReadings, LogDecided, rate-wrong, log-wrong, list-short, log-read}
@@ -94,10 +97,6 @@ log-read-by file e = log-by-layout file ∙ ap (λ F. settle F (logReadings file
 
 module _ (file : Bytes) (n : ℕ) (list : List ℕ) where
   -- The effect by the grounds.
-  rate-effect : normalAllowed n ≡ false → logRead file n list ≡ record { answer = log.refused (wrongRates ∷ []); list = list }
-  unfolding logRead
-  rate-effect e = rw e
-
   module _ (normal : normalAllowed n ≡ true) where
     wrong-effect : {number offset : ℕ} → logFault file ≡ number ∷ offset ∷ [] → logRead file n list ≡ record { answer = log.refused (number ∷ offset ∷ []); list = list }
     unfolding logRead
@@ -117,7 +116,7 @@ module _ (file : Bytes) (n : ℕ) (list : List ℕ) where
   answered e = ap (λ (x : LogEffect). x .answer) e
 
   decided-answered : {a : log.Answer} → LogDecided file n list a → logRead file n list .answer ≡ a
-  decided-answered (rate-wrong f) = answered (rate-effect (no-so (normalAllowed n) (normal-is n) f))
+  decided-answered (rate-wrong f) = answered (log-rate file n list (no-so (normalAllowed n) (normal-is n) f))
   decided-answered (log-wrong p e) = answered (wrong-effect (normal-tells n p) e)
   decided-answered (list-short p e h) = answered (short-effect (normal-tells n p) e h)
   decided-answered (log-read p e h) = answered (read-effect (normal-tells n p) e h)
@@ -126,7 +125,7 @@ module _ (file : Bytes) (n : ℕ) (list : List ℕ) where
   log-decided = by (normalAllowed n) refl (logFault file) refl (log-offset-inside file)
     where
       by : (a : Bool) → normalAllowed n ≡ a → (F : Report) → logFault file ≡ F → InsideFile file F → LogDecided file n list (logRead file n list .answer)
-      by false e F f i = rw (answered (rate-effect e)) (rate-wrong (so-not (normal-tells n) e))
+      by false e F f i = rw (answered (log-rate file n list e)) (rate-wrong (so-not (normal-tells n) e))
       by true e [] f i =
           if-less (length list) (length (logReadings file)) (λ h. rw (answered (short-effect e f h)) (list-short (normal-is n e) f h))
           (λ h. rw (answered (read-effect e f h)) (log-read (normal-is n e) f h))
@@ -142,3 +141,18 @@ log-exactly file n list a = ((λ e. rw e at (log-decided file n list)), decided-
 pub log-reads-the-layout : (file : Bytes) (n : ℕ) (list : List ℕ) → Normal n → logFault file ≡ [] → length (logReadings file) ≤ length list
     → logRead file n list .list ≡ speedsOf n (logReadings file) ++ drop (length (logReadings file)) list
 log-reads-the-layout file n list p e h = ap (λ (x : LogEffect). x .list) (read-effect file n list (normal-tells n p) e h)
+
+-- A log's speeds are those of its readings in order: the call for a single reading tells each, of the readings that the layout has.
+pub log-tells-the-layout : (file : Bytes) (n : ℕ) (list : List ℕ) (count : ℕ) → logRead file n list .answer ≡ took count
+    → (length (logReadings file) ≡ count) × ToldEach n (logReadings file) (take count (logRead file n list .list))
+log-tells-the-layout file n list count e =
+    let t = log-told file n list count e in
+    let none : logFault file ≡ [] = no-fault (took count) refl (log-exactly file n list (took count) .0 e) in
+    let same : t .readings ≡ logReadings file = same-value (sym (t .are) ∙ log-read-by file none) in
+    (ap length (sym same) ∙ t .many, rw same at (t .told))
+  where
+    no-fault : (a : log.Answer) → a ≡ took count → LogDecided file n list a → logFault file ≡ []
+    no-fault a q (rate-wrong f) = absurd (let z : _≡_ {A = ℕ} 0 1 = cc in omega arith)
+    no-fault a q (log-wrong p f) = absurd (let z : _≡_ {A = ℕ} 0 1 = cc in omega arith)
+    no-fault a q (list-short p f h) = absurd (let z : _≡_ {A = ℕ} 0 1 = cc in omega arith)
+    no-fault a q (log-read p f h) = f

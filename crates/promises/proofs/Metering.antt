@@ -1,7 +1,8 @@
--- The line meter's calls: which numbers they give, and that a shift can take what a log gives.
+-- The line meter's calls: which numbers they give, what a refusal leaves, and bounds of what a log gives.
 use mathlib.Core.Path.{_≡_, refl}
 use mathlib.Core.Bool.{Bool, true, false, not, cond, _&&_, _||_}
 use mathlib.Core.List.{List, [], _∷_}
+use mathlib.Core.Logic.{_≢_}
 use Prim.Native.Nat.{ℕ, zero, suc, _+_, _≤_, _<_}
 use native.Mathlib.Omega.{arith}
 use lib.Dec.{leb, eqb}
@@ -18,8 +19,8 @@ use Rattle.meter.specs.Speed.{areFinite, lowestWrong, Told, speed, refused, met
 use Rattle.meter.specs.Log as log
 use Rattle.meter.specs.Log.{logVersion, floatBytes, readingLength, readingOf, took, logRead}
 use Rattle.meter.proofs.SpeedExactly.{speedNumbers, speed-numbers}
-use Rattle.meter.proofs.LogTold.{log-told, told-within}
-use Rattle.gateway.specs.Calls.{toldNumber, logNumber, speedCall, logCall}
+use Rattle.meter.proofs.LogTold.{log-told, log-refused-stays, speeds-within}
+use Rattle.gateway.specs.Calls.{toldNumber, toldSpeed, logNumber, logCount, speedCall, logCall}
 use Rattle.promises.specs.FileFaults.{valueAt, cutAt, unlessAt, lengthFaults, openingFaults, lengthFrom}
 use Rattle.promises.specs.LogFaults.{meanFrom, lowestFrom, bitsAt, readingFrom, readingFaultsAt, readingFaults, logFault, LogDecided, rate-wrong, log-wrong, list-short, log-read}
 use Rattle.promises.proofs.Hosts.{or-one}
@@ -110,9 +111,28 @@ host-speed-numbers mean lowest n = by (metered r n) refl
     by (speed v) e = refl
     by (refused k) e = or-one k doneNumber speedNumbers (speed-numbers r n k e)
 
--- The speeds of a log that is read are at most 256, and none is above n: a shift with them is not refused by 27, and none of its slots by 20.
-pub log-fits-a-shift : (file : Bytes) (n : ℕ) (list : List ℕ) (count : ℕ) → logRead file n list .answer ≡ took count
+-- A refused `gateway_speeds` leaves the speeds as they were, and the count is 0.
+pub host-log-leaves : (file : Bytes) (n : ℕ) (speeds : List ℕ) → logCall file n speeds .number ≢ doneNumber
+    → (logCall file n speeds .speeds ≡ speeds) × (logCall file n speeds .count ≡ 0)
+unfolding logCall
+host-log-leaves file n speeds = by (logRead file n speeds .answer) refl
+  where
+    by : (a : log.Answer) → logRead file n speeds .answer ≡ a → logNumber a ≢ doneNumber → (logRead file n speeds .list ≡ speeds) × (logCount a ≡ 0)
+    by (log.took count) e other = absurd (other refl)
+    by (log.refused report) e other = (log-refused-stays file n speeds e, refl)
+
+-- A refused `gateway_meter` leaves the speed 0.
+pub host-speed-leaves : (mean lowest : Float) (n : ℕ) → speedCall mean lowest n .number ≢ doneNumber → speedCall mean lowest n .speed ≡ 0
+unfolding speedCall
+host-speed-leaves mean lowest n = by (metered (record { mean = mean; lowest = lowest }) n)
+  where
+    by : (t : Told) → toldNumber t ≢ doneNumber → toldSpeed t ≡ 0
+    by (speed v) other = absurd (other refl)
+    by (refused k) other = refl
+
+-- A log that is read gives at most as many speeds as a shift may have, and none is above the n that the reader was given.
+pub log-speeds-within : (file : Bytes) (n : ℕ) (list : List ℕ) (count : ℕ) → logRead file n list .answer ≡ took count
     → (length (take count (logRead file n list .list)) ≤ mostSpeeds) × ((k : ℕ) → k < length (take count (logRead file n list .list)) → getD (take count (logRead file n list .list)) k 0 ≤ n)
-log-fits-a-shift file n list count e =
+log-speeds-within file n list count e =
     let t = log-told file n list count e in
-    (omega (arith, length-take count (logRead file n list .list), t .few), told-within n (t .readings) (take count (logRead file n list .list)) (t .told))
+    (omega (arith, length-take count (logRead file n list .list), t .few), speeds-within n (t .readings) (take count (logRead file n list .list)) (t .told))

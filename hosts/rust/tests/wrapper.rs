@@ -498,7 +498,7 @@ fn a_reading_is_refused_for_the_first_of_its_grounds() {
     let refused = speed_of(Reading { mean: -1.0, lowest: -1.0 }, 2).unwrap_err();
     assert_eq!((refused.to_string().as_str(), refused.offset()), ("refused 31: the lowest rate of a reading is below zero or above the mean", None));
     let refused = speed_of(Reading { mean: f64::NAN, lowest: 1.0 }, 2).unwrap_err();
-    assert_eq!((refused.to_string().as_str(), refused.number()), ("refused 30: a reading is not finite", refusal::NOT_FINITE));
+    assert_eq!((refused.to_string().as_str(), refused.number()), ("refused 30: the mean or the lowest rate of a reading is not finite", refusal::NOT_FINITE));
 }
 
 /// The log of readings: a mean and a lowest rate each.
