@@ -468,10 +468,10 @@ fn measure_meter(how: How, n: u16) {
     let reading = readings(n)[MOST_SPEEDS / 2];
     let mut speed = 7;
     assert_eq!((meter(reading, n, &mut speed), Ok(speed)), (0, speed_of(reading, n)));
-    section(how, "speed", "plain", || {
+    section(how, "meter", "plain", || {
         black_box(&speed_of(black_box(reading), black_box(n)));
     });
-    section(how, "speed", "ours", || {
+    section(how, "meter", "ours", || {
         black_box(meter(black_box(reading), black_box(n), black_box(&mut speed)));
     });
     for log in logs(n) {
@@ -575,7 +575,7 @@ impl Deepest {
 
 /// The calls whose stack is painted, in the order of the table.
 const PAINTED_CALLS: [&str; 14] =
-    ["read", "write", "name", "judge", "slack", "draw", "shortage", "start", "step", "shift", "outcome", "speed", "speeds", "lent-step"];
+    ["read", "write", "name", "judge", "slack", "draw", "shortage", "start", "step", "shift", "outcome", "meter", "speeds", "lent-step"];
 
 /// Prints the deepest stack of each call, over plans of all sizes, over slots, nights, desks and logs of all kinds and over ways to refuse them.
 fn stacks() {
@@ -679,7 +679,7 @@ fn stacks_of_meter(deepest: &mut Deepest, n: u16) {
     let (mut speed, mut count, mut offset) = (7_u16, 7_usize, 7_usize);
     for lowest in [1.5, -1.0, f64::NAN] {
         let arguments = [n.into(), &mut speed as *mut u16 as u64];
-        deepest.note_answer("speed", stack_with(gateway_meter as *const (), &arguments, [2.0, lowest]));
+        deepest.note_answer("meter", stack_with(gateway_meter as *const (), &arguments, [2.0, lowest]));
     }
     let mut speeds = [7_u16; MOST_SPEEDS];
     for log in logs(n) {

@@ -145,7 +145,7 @@ function desks(n, list, m, names, i, k, input, call, sized, plain, ours) {
 }
 # The meter: one reading, a log of as many as there may be, and one whose last reading is refused.
 function meters(n, list, m, rates, i, k, input, plain, ours) {
-    n = split("speed speeds:read speeds:refused-by-31", list, " ")
+    n = split("meter speeds:read speeds:refused-by-31", list, " ")
     m = split("2 100 1000", rates, " ")
     begin("meter")
     print "| call | readings | normal rate | plain Rust | ours | ours / plain | goal 1.0 |"
