@@ -424,7 +424,7 @@ static void speeds_of_readings(void)
     expect(reads_as(NAN, NAN, 1, GATEWAY_WRONG_RATES, 0) && reads_as(1.0, 1.0, 1001, GATEWAY_WRONG_RATES, 0), "speed: 4 comes first");
 }
 
-/* A log of so many readings of a mean and a lowest rate of 1, and its length. */
+/* A log of `readings` readings, each of a mean and a lowest rate of 1, and its length. */
 static size_t make_log(size_t readings)
 {
     static const uint8_t one[] = { 16, 0x3F, 0xF0, 0, 0, 0, 0, 0, 0, 0x3F, 0xF0, 0, 0, 0, 0, 0, 0 };
@@ -438,7 +438,7 @@ static size_t make_log(size_t readings)
     return 5 + more;
 }
 
-/* Reads the log into so many speeds, marks before, as this number, count and offset. A refusal leaves all speeds, and any answer those beyond. */
+/* Reads the log into `places` speeds, marks before, as this number, count and offset. A refusal leaves all speeds, and any answer those beyond. */
 static int is_log(size_t length, uint16_t n, size_t places, uint32_t number, size_t count, size_t offset)
 {
     size_t counted = MARK, wrong_at = MARK;

@@ -273,17 +273,23 @@ static void print_word(size_t position)
         printf("refused %u: %s\n", (unsigned)refused, gateway_words(refused));
 }
 
-static int end_all(void)
+/* Reads a plan file of this length and starts its run. What refuses either is printed; the answer is the exit status so far. */
+static int open_run(size_t length)
 {
-    size_t length = read_file();
     uint32_t refused = gateway_read(file, length, plan, GATEWAY_PLAN_WORDS, table, GATEWAY_TABLE_PLACES, &offset);
     if (refused != GATEWAY_DONE)
         return print_refused(refused);
     refused = start();
-    if (refused != GATEWAY_DONE) {
+    if (refused != GATEWAY_DONE)
         print_verdict(refused);
+    return refused != GATEWAY_DONE;
+}
+
+static int end_all(void)
+{
+    size_t length = read_file();
+    if (open_run(length))
         return 1;
-    }
     for (size_t i = 0; i <= plan[GATEWAY_INDEX_JOB_COUNT]; i++)
         print_word(i);
     print_floor_night(length, floor_in_shifts());
@@ -389,16 +395,10 @@ static int print_speed(const char *rate, const char *mean, const char *lowest)
 static int meter(void)
 {
     size_t length = read_file(), count;
-    uint32_t refused = gateway_read(file, length, plan, GATEWAY_PLAN_WORDS, table, GATEWAY_TABLE_PLACES, &offset);
-    if (refused != GATEWAY_DONE)
-        return print_refused(refused);
-    refused = start();
-    if (refused != GATEWAY_DONE) {
-        print_verdict(refused);
+    if (open_run(length))
         return 1;
-    }
     size_t log_length = read_text();
-    refused = gateway_speeds(text, log_length, (uint16_t)plan[GATEWAY_INDEX_NORMAL_RATE], speeds, GATEWAY_MOST_SPEEDS, &count, &offset);
+    uint32_t refused = gateway_speeds(text, log_length, (uint16_t)plan[GATEWAY_INDEX_NORMAL_RATE], speeds, GATEWAY_MOST_SPEEDS, &count, &offset);
     if (refused != GATEWAY_DONE)
         return print_refused(refused);
     puts("slot speed mode grants");

@@ -137,7 +137,7 @@ module _ (file : Bytes) (n : ℕ) (list : List ℕ) where
 pub log-exactly : (file : Bytes) (n : ℕ) (list : List ℕ) (a : log.Answer) → (logRead file n list .answer ≡ a) ↔ LogDecided file n list a
 log-exactly file n list a = ((λ e. rw e at (log-decided file n list)), decided-answered file n list)
 
--- A log without a fault gives the speeds of the readings that the layout has, in their order; behind them the list stays.
+-- A log without a fault gives the speeds of the readings that the layout has, in their order; after them the list stays.
 pub log-reads-the-layout : (file : Bytes) (n : ℕ) (list : List ℕ) → Normal n → logFault file ≡ [] → length (logReadings file) ≤ length list
     → logRead file n list .list ≡ speedsOf n (logReadings file) ++ drop (length (logReadings file)) list
 log-reads-the-layout file n list p e h = ap (λ (x : LogEffect). x .list) (read-effect file n list (normal-tells n p) e h)

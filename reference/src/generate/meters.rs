@@ -54,7 +54,7 @@ pub fn reading(prng: &mut Prng) -> ReadingInput {
     ReadingInput { mean, lowest, n }
 }
 
-/// A rate, which is outside its bounds once in so many times.
+/// A rate, which is outside its bounds once in `times` draws.
 fn rate(prng: &mut Prng, times: u64) -> u16 {
     let (least, most) = (u64::from(LEAST_RATE) + 1, u64::from(MOST_RATE));
     if prng.once_in(times) {
@@ -152,7 +152,7 @@ fn spoil(prng: &mut Prng, n: u16, readings: &mut [Bits]) {
     }
 }
 
-/// The length of a list for so many speeds: exact, one too few, some more, or any.
+/// The length of a list for `exact` speeds: exact, one too few, some more, or any.
 fn places(prng: &mut Prng, exact: usize) -> usize {
     match prng.below(10) {
         0 | 1 => exact.saturating_sub(1),
@@ -163,7 +163,7 @@ fn places(prng: &mut Prng, exact: usize) -> usize {
     }
 }
 
-/// One strike on the bytes of a log that was made of so many readings.
+/// One strike on the bytes of a log that was made of `count` readings.
 fn strike(prng: &mut Prng, count: usize, log: &mut Vec<u8>) {
     // Earlier damage may have left nothing.
     if log.is_empty() {

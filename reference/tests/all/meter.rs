@@ -59,7 +59,7 @@ fn three_with(at: usize, bytes: &[u8]) -> Vec<u8> {
     replaced(three(), at, bytes)
 }
 
-/// A log of so many readings of 1.
+/// A log of `count` readings of 1.
 fn ones(count: usize) -> Vec<u8> {
     write_log(&vec![(ONE, ONE); count])
 }
