@@ -70,6 +70,7 @@ unfolding least
 least_lower f (suc zero) i h = let e : i ≡ 0 = omega arith in rw e (omega arith)
 least_lower f (suc (suc n)) i h =
     below-or-last i (suc n) h (λ l. omega (arith, least_lower f (suc n) i l)) (λ e. rw e (omega arith))
+least_lower f zero i h = elim h [ ]
 
 pub least_attained : (f : ℕ → ℕ) (n : ℕ) → 0 < n → (i : ℕ) × (i < n) × (f i ≡ least f n)
 unfolding least
@@ -85,6 +86,7 @@ least_attained f (suc (suc n)) h = go (dec_lt (f (suc n)) (least f (suc n))) (le
 pub greatest_upper : (f : ℕ → ℕ) (n i : ℕ) → i < n → f i ≤ greatest f n
 unfolding greatest
 greatest_upper f (suc n) i h = below-or-last i n h (λ l. omega (arith, greatest_upper f n i l)) (λ e. rw e (omega arith))
+greatest_upper f zero i h = elim h [ ]
 
 pub greatest_attained : (f : ℕ → ℕ) (n : ℕ) → 0 < n → (i : ℕ) × (i < n) × (f i ≡ greatest f n)
 unfolding greatest
@@ -102,6 +104,7 @@ pub every_at : (test : ℕ → Bool) (n k : ℕ) → every test n ≡ true → k
 unfolding every
 every_at test (suc n) k e h =
     below-or-last k n h (λ l. every_at test n k (and_left (every test n) (test n) e) l) (λ q. rw q (and_right (every test n) (test n) e))
+every_at test zero k e h = elim h [ ]
 
 pub every_all : (test : ℕ → Bool) (n : ℕ) → ((k : ℕ) → k < n → test k ≡ true) → every test n ≡ true
 unfolding every

@@ -35,6 +35,7 @@ filled_at f (suc n) l k inside below =
     below-or-last k n below
     (λ p. get_or-set_other (filled f n l) n k (f n) 0 (omega arith) ∙ filled_at f n l k inside p)
     (λ q. rw q (get_or-set_same (filled f n l) n (f n) 0 (rw (filled_length f n l) (omega arith))))
+filled_at f zero l k inside below = elim below [ ]
 
 pub filled_rest : (f : ℕ → ℕ) (n : ℕ) (l : List ℕ) (k : ℕ) → n ≤ k → get_or (filled f n l) k 0 ≡ get_or l k 0
 unfolding filled

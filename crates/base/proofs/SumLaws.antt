@@ -63,6 +63,7 @@ sum_swap f m (suc n) = ap (λ s. s + sum (f n) m) (sum_swap f m n) ∙ sym (sum_
 pub term_le : (f : ℕ → ℕ) (n k : ℕ) → k < n → f k ≤ sum f n
 unfolding sum
 term_le f (suc n) k l = below-or-last k n l (λ p. omega (arith, term_le f n k p)) (λ e. rw e (omega arith))
+term_le f zero k l = elim l [ ]
 
 -- Terms that are at most those of an equal sum are equal to them.
 pub same_terms : (f g : ℕ → ℕ) (n : ℕ) → ((k : ℕ) → k < n → f k ≤ g k) → sum g n ≤ sum f n → (k : ℕ) → k < n → f k ≡ g k
@@ -87,6 +88,7 @@ sum_raised f g (suc n) i r h same more =
     below-or-last i n h
     (λ l. omega (arith, sum_raised f g n i r l (λ k b. same k (omega arith)) more, same n (omega arith) (λ e. absurd (omega (arith, e)))))
     (λ e. omega (arith, sum_ext g f n (λ k b. same k (omega arith) (λ q. absurd (omega (arith, q, e)))), rw e at more))
+sum_raised f g zero i r h same more = elim h [ ]
 
 -- Terms that are at most others, one of them by r less, sum to r less at least.
 pub sum_room : (f g : ℕ → ℕ) (n i r : ℕ) → i < n → ((k : ℕ) → k < n → f k ≤ g k) → f i + r ≤ g i → sum f n + r ≤ sum g n
@@ -95,3 +97,4 @@ sum_room f g (suc n) i r h less more =
     below-or-last i n h
     (λ l. omega (arith, sum_room f g n i r l (λ k b. less k (omega arith)) more, less n (omega arith)))
     (λ e. omega (arith, sum_mono f g n (λ k b. less k (omega arith)), rw e at more))
+sum_room f g zero i r h less more = elim h [ ]

@@ -1,4 +1,6 @@
 // Finite sums of the numbers of a lent slice, and a slice of zeros.
+#![tactic(auto)]
+
 ghost use Rattle.std.specs.Prelude.{◌≡◌, ℕ, ◌+◌, ◌*◌, ◌≤◌, ◌<◌, length, replicate};
 ghost use Rattle.base.specs.Sum.{sum, strided};
 

@@ -24,7 +24,7 @@ const MOST_NUMBER: u64 = 1_000_000_000;
 
 // What is known of the bytes that a field stands for. No buffer holds them: a name, a grade and a number
 // are all told from this.
-#[derive(Drop)]
+#[derive(Clone, Copy)]
 pub(crate) struct Seen {
     // How many bytes, or LONGEST if they are more.
     pub(crate) length: usize,
@@ -37,7 +37,7 @@ pub(crate) struct Seen {
 }
 
 // A field, with the offset after it; or the grammar has no field there.
-#[derive(Drop)]
+#[derive(Clone, Copy)]
 pub(crate) enum FieldRead {
     Found(Seen, usize),
     Broken,

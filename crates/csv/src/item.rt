@@ -19,7 +19,7 @@ const LETTER_HI: u64 = 72;
 const LETTER_LO: u64 = 76;
 
 // What is known of a field, with the offset after what ends it; or the refusal.
-#[derive(Drop)]
+#[derive(Clone, Copy)]
 enum ItemRead {
     Item(Seen, usize),
     Refused(Refusal),

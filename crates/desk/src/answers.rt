@@ -8,7 +8,7 @@ use plan::refusal::{DONE, NO_TIMETABLE, RELEASES_DIFFER, UNSOUND};
 
 // Nothing is short; or rules 4 to 9 do not hold; or releases differ; or the first pair of times by which
 // no timetable exists, a HI and a LO deadline or the common release for either, with what is asked and what the link carries.
-#[derive(Drop)]
+#[derive(Clone, Copy)]
 pub enum Shortage {
     Nothing,
     Unsound,

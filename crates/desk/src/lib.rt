@@ -1,4 +1,6 @@
 // The planning desk: draws up the timetable of jobs with one common release, or says why there is none.
+#![tactic(auto)]
+
 pub mod answers;
 mod pairs;
 mod placing;

@@ -6,7 +6,7 @@ ghost use Rattle.dispatch.specs.Answers.{answer_view};
 use plan::refusal::DONE;
 
 // The answer of a slot's call, of a shift, and of the word that a job has ended.
-#[derive(Drop)]
+#[derive(Clone, Copy)]
 pub enum Answer {
     Done,
     Refused(u8),
@@ -23,7 +23,7 @@ pub fn number_of(a: Answer) -> u8
 }
 
 // The outcome of a job, or a refusal.
-#[derive(Drop)]
+#[derive(Clone, Copy)]
 pub enum Outcome {
     Met,
     Ended,

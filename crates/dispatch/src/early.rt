@@ -13,7 +13,7 @@ use plan::kinds::{Outline, Plan, Slots};
 use plan::refusal::{CANNOT_END, NO_SUCH_JOB, UNSOUND};
 
 // The result of such a word; with a refusal the run is unchanged.
-#[derive(Drop)]
+#[derive(Clone, Copy)]
 pub struct Told {
     pub answer: Answer,
     pub run: Run,

@@ -1,5 +1,7 @@
 // One slot, one run: the run record, its start, the grants of a slot, slots at several speeds, the word
 // that a job has ended, and the outcome of each job.
+#![tactic(auto)]
+
 pub mod answers;
 mod claims;
 pub mod early;
@@ -18,7 +20,7 @@ use plan::kinds::Slots;
 
 // A run: the clock, the two marks, and for each job the units carried and whether the host has told that it
 // ended. Entries from the job count on are zero and clear at the start, and no call changes them.
-#[derive(Drop)]
+#[derive(Clone, Copy)]
 pub struct Run {
     pub clock: Slots,
     pub slow: bool,
@@ -28,7 +30,7 @@ pub struct Run {
 }
 
 // A run without what it holds for each job.
-#[derive(Drop)]
+#[derive(Clone, Copy)]
 pub struct Moment {
     pub clock: Slots,
     pub slow: bool,

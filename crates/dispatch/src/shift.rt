@@ -27,7 +27,7 @@ use plan::refusal::{BUFFER_TOO_SHORT, CLOCK_AT_END, SPEED_ABOVE_NORMAL, TOO_MANY
 use plan::rules::counted_within;
 
 // One slot of a shift: its answer, the run but for its carried units, and the intervals begun by which the goals are kept.
-#[derive(Drop)]
+#[derive(Clone, Copy)]
 struct ShiftSlot {
     answer: Answer,
     at: Moment,

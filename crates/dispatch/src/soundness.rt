@@ -11,7 +11,7 @@ use plan::edition::Edition;
 use plan::kinds::{HI, LO, Outline, Slots, as_units};
 use plan::rules::{count_allowed, counted_within, rates_allowed, size_allowed, window_allowed};
 
-#[derive(Drop)]
+#[derive(Clone, Copy)]
 pub(crate) enum Readiness {
     Unsound,
     // The clock is at the last deadline.

@@ -12,7 +12,7 @@ use plan::edition::Edition;
 use plan::kinds::{Plan, Slots};
 
 // The result of a start; with a refusal the run is all zeros.
-#[derive(Drop)]
+#[derive(Clone, Copy)]
 pub struct Started {
     pub verdict: Verdict,
     pub run: Run,

@@ -16,14 +16,14 @@ use plan::rules::counted_within;
 
 // The result of a slot's call or of a shift over columns: the answer, and the run but for its carried units, which are
 // lent. With a refusal the run is unchanged.
-#[derive(Drop)]
+#[derive(Clone, Copy)]
 pub struct Slot {
     pub answer: Answer,
     pub next: Moment,
 }
 
 // The result of a slot's call or of a shift by value; with a refusal the run is unchanged.
-#[derive(Drop)]
+#[derive(Clone, Copy)]
 pub struct Stepped {
     pub answer: Answer,
     pub run: Run,

@@ -7,14 +7,14 @@ ghost use Rattle.fields.specs.Answers.{field_refusal, passed_refusal, ReadsField
 use plan::refusal::{DONE, Refusal, WRONG_EXTENT};
 
 // A value and the offset of the next field, or the refusal.
-#[derive(Drop)]
+#[derive(Clone, Copy)]
 pub enum Field {
     Value(u64, usize),
     Refused(Refusal),
 }
 
 // The offset of the next field alone, or the refusal.
-#[derive(Drop)]
+#[derive(Clone, Copy)]
 pub enum Passed {
     Next(usize),
     Refused(Refusal),

@@ -7,7 +7,7 @@ use crate::field::{Field, Passed, field_refusal, passed_refusal, read_byte, read
 use plan::refusal::{Refusal, WRONG_EXTENT, WRONG_VERSION};
 
 // Whether a length field must be the number of bytes after it.
-#[derive(Drop)]
+#[derive(Clone, Copy)]
 pub enum LengthRule {
     Compared,
     Ignored,

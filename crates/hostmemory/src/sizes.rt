@@ -1,7 +1,7 @@
 // The sizes, in words, of what a host lends.
 use plan::edition::Edition;
 
-#[derive(Drop)]
+#[derive(Clone, Copy)]
 pub struct Sizes();
 
 impl Sizes {

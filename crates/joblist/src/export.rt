@@ -28,7 +28,7 @@ const LONGEST_LINE: usize = LONGEST_NAME + 2 + 3 * (1 + MOST_DIGITS) + 2;
 const LONGEST_TEXT: usize = HEADER_BYTES + Edition::MOST_JOBS * LONGEST_LINE;
 
 // The text's length, or the refusal number.
-#[derive(Drop)]
+#[derive(Clone, Copy)]
 pub enum Exported {
     Length(usize),
     Refused(u8),

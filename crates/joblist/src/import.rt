@@ -15,20 +15,20 @@ use plan::edition::Edition;
 use plan::kinds::{JobList, no_job};
 use plan::refusal::{Refusal, WRONG_HEADER, WRONG_JOB_COUNT};
 
-#[derive(Drop)]
+#[derive(Clone, Copy)]
 pub enum Answer {
     Read,
     Refused(Refusal),
 }
 
-#[derive(Drop)]
+#[derive(Clone, Copy)]
 pub struct Imported {
     pub answer: Answer,
     pub list: JobList,
 }
 
 // The offset after the last line, or the refusal; and the jobs.
-#[derive(Drop)]
+#[derive(Clone, Copy)]
 struct Lines {
     answer: Passed,
     list: JobList,

@@ -10,20 +10,20 @@ use plan::refusal::{DONE, NAME_TAKEN, Refusal, WRONG_GRADE, WRONG_JOB_BOUNDS, WR
 use plan::rules::{grade_allowed, is_absent, name_allowed, size_allowed, window_allowed};
 
 // The job of a line, allowed or not, with the offsets of the grade's field and of the release's.
-#[derive(Drop)]
+#[derive(Clone, Copy)]
 struct Line {
     job: Job,
     grade_at: usize,
     release_at: usize,
 }
 
-#[derive(Drop)]
+#[derive(Clone, Copy)]
 enum LineRead {
     Line(Line, usize),
     Refused(Refusal),
 }
 
-#[derive(Drop)]
+#[derive(Clone, Copy)]
 pub(crate) enum JobRead {
     Job(Job, usize),
     Refused(Refusal),

@@ -9,7 +9,7 @@ use plan::refusal::{
 };
 
 // The verdict on a plan: accepted, or the first fault in the judge's order with its first location.
-#[derive(Drop)]
+#[derive(Clone, Copy)]
 pub enum Verdict {
     Accepted,
     BufferTooShort,
@@ -26,7 +26,7 @@ pub enum Verdict {
 
 // The slack figure: none if no job is HI; the least slack with its first interval and deadline; or
 // a refusal as by the judge, except for the floor rule.
-#[derive(Drop)]
+#[derive(Clone, Copy)]
 pub enum Slack {
     NoneEssential,
     Least(i64, usize, Slots),

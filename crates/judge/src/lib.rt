@@ -1,4 +1,6 @@
 // The judge's verdict on a plan, and the slack figure: is a plan good, and by how much.
+#![tactic(auto)]
+
 pub mod answers;
 mod faults;
 pub mod figure;

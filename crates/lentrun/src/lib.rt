@@ -1,4 +1,6 @@
 // The calls on a lent run record: a host keeps one record and lends it to each call, which updates it.
+#![tactic(auto)]
+
 ghost use Rattle.std.specs.Prelude.{◌≡◌};
 ghost use Rattle.lentrun.specs.Answers.{StepsIn, ShiftsIn, StartsIn, TellsIn};
 

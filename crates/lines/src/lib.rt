@@ -1,6 +1,8 @@
 // Every line that the program prints, written to a lent buffer. A call answers the line's length; a
 // buffer that is too short is refused and left as it was, and bytes past the line are unchanged. No
 // line is longer than LONGEST_LINE, whatever its numbers are.
+#![tactic(auto)]
+
 mod pieces;
 
 ghost use Rattle.std.specs.Prelude.{◌≤◌, length};
@@ -24,7 +26,7 @@ pub const LONGEST_LINE: usize = 2 * (MOST_DIGITS + 1)
     + 1;
 
 // The answer of a line's call: the line's length, or a refusal.
-#[derive(Drop)]
+#[derive(Clone, Copy)]
 pub enum Printed {
     Length(usize),
     Refused(u8),

@@ -9,14 +9,14 @@ use plan::refusal::{NOT_FINITE, WRONG_LOWEST, WRONG_RATES};
 use plan::rules::rates_allowed;
 
 // What the meter reports of a slot, in units per slot: the mean rate and the lowest.
-#[derive(Drop)]
+#[derive(Clone, Copy)]
 pub struct Reading {
     pub mean: f64,
     pub lowest: f64,
 }
 
 // The speed of a reading, or the refusal.
-#[derive(Drop)]
+#[derive(Clone, Copy)]
 pub enum Metered {
     Speed(u16),
     Refused(u8),

@@ -1,6 +1,6 @@
 // The bounds of the edition, by name.
 
-#[derive(Drop)]
+#[derive(Clone, Copy)]
 pub struct Edition();
 
 impl Edition {

@@ -5,27 +5,27 @@ ghost use Rattle.plan.specs.Rules.{no_job};
 use crate::edition::Edition;
 
 // A number of slots: a time or a length of time.
-#[derive(Drop)]
+#[derive(Clone, Copy)]
 pub struct Slots(pub u32);
 
 // A number of units of work. 64 bits hold every sum that is taken over a table.
-#[derive(Drop)]
+#[derive(Clone, Copy)]
 pub struct Units(pub u64);
 
 // Units per slot.
-#[derive(Drop)]
+#[derive(Clone, Copy)]
 pub struct Rate(pub u16);
 
 // A name's eight bytes as one number, the first byte highest.
 // Two names are equal exactly when the numbers are.
-#[derive(Drop)]
+#[derive(Clone, Copy)]
 pub struct Name(pub u64);
 
 pub const LO: u8 = 0;
 
 pub const HI: u8 = 1;
 
-#[derive(Drop)]
+#[derive(Clone, Copy)]
 pub struct Job {
     pub name: Name,
     // A plan in hand can hold any byte here; rule 8 allows LO and HI alone.
@@ -36,7 +36,7 @@ pub struct Job {
 }
 
 // Jobs alone, without rates. The count can be any number, as in a plan.
-#[derive(Drop)]
+#[derive(Clone, Copy)]
 pub struct JobList {
     pub count: usize,
     pub jobs: [Job; Edition::MOST_JOBS],
@@ -44,7 +44,7 @@ pub struct JobList {
 
 // A plan in hand, without the table that is lent with it. The count can be any number: a loop that
 // can run before rule 5 is tested goes over the counted jobs (`counted_of`) or over all records.
-#[derive(Drop)]
+#[derive(Clone, Copy)]
 pub struct Plan {
     pub n: Rate,
     pub d: Rate,
@@ -53,7 +53,7 @@ pub struct Plan {
 }
 
 // A plan without its jobs. A call that is lent the columns of the jobs (`columns`) needs no plan in hand.
-#[derive(Drop)]
+#[derive(Clone, Copy)]
 pub struct Outline {
     pub n: Rate,
     pub d: Rate,

@@ -1,5 +1,7 @@
 // What a plan is: the edition's bounds; slots, units and rates; jobs;
 // rules 4 to 9 on a plan in hand; its jobs as columns; its boundaries and intervals; the places of its table.
+#![tactic(auto)]
+
 pub mod boundaries;
 pub mod columns;
 pub mod edition;

@@ -2,7 +2,7 @@
 
 // A refusal as every reading step hands it on: its number, and the offset of the first byte of the field
 // in hand.
-#[derive(Drop)]
+#[derive(Clone, Copy)]
 pub struct Refusal {
     pub number: u8,
     pub offset: usize,

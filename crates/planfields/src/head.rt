@@ -10,7 +10,7 @@ use plan::refusal::{DONE, Refusal, WRONG_JOB_COUNT, WRONG_RATES};
 use plan::rules::rates_allowed;
 use plan::versions::count_allowed_in;
 
-#[derive(Drop)]
+#[derive(Clone, Copy)]
 pub struct Head {
     pub version: u8,
     pub n: Rate,
@@ -18,7 +18,7 @@ pub struct Head {
     pub count: usize,
 }
 
-#[derive(Drop)]
+#[derive(Clone, Copy)]
 pub enum HeadRead {
     Head(Head, usize),
     Refused(Refusal),

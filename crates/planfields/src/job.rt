@@ -16,7 +16,7 @@ use plan::kinds::{Job, Name, Slots, Units};
 use plan::refusal::{DONE, NAME_TAKEN, Refusal, WRONG_GRADE, WRONG_JOB_BOUNDS, WRONG_NAME_BYTE};
 use plan::rules::{grade_allowed, is_absent, name_allowed, size_allowed, window_allowed};
 
-#[derive(Drop)]
+#[derive(Clone, Copy)]
 pub enum JobRead {
     Job(Job, usize),
     Refused(Refusal),

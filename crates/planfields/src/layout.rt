@@ -1,7 +1,7 @@
 // The layout of a plan file, by name.
 use plan::edition::Edition;
 
-#[derive(Drop)]
+#[derive(Clone, Copy)]
 pub struct Layout();
 
 impl Layout {

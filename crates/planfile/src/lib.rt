@@ -1,4 +1,6 @@
 // From bytes to a plan: the reader and the name lookup of plan files.
+#![tactic(auto)]
+
 pub mod extent;
 pub mod lookup;
 mod preamble;

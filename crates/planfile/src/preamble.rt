@@ -15,14 +15,14 @@ use planfields::job::{JobRead, job_refusal, read_job};
 use planfields::numbers::read_row_count;
 
 // The offset after what was read, or the refusal; and the plan.
-#[derive(Drop)]
+#[derive(Clone, Copy)]
 pub struct PlanPassed {
     pub answer: Passed,
     pub plan: Plan,
 }
 
 // The row count and the offset of the first row, or the refusal; and the plan.
-#[derive(Drop)]
+#[derive(Clone, Copy)]
 pub struct Preamble {
     pub answer: Field,
     pub plan: Plan,

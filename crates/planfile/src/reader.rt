@@ -16,7 +16,7 @@ use plan::kinds::Plan;
 use plan::refusal::Refusal;
 
 // The plan was read; or the table is too short; or the file is refused.
-#[derive(Drop)]
+#[derive(Clone, Copy)]
 pub enum Answer {
     Read,
     TooShort,
@@ -24,7 +24,7 @@ pub enum Answer {
 }
 
 // The answer and the plan; with a refusal of `read` the plan is all zeros.
-#[derive(Drop)]
+#[derive(Clone, Copy)]
 pub struct PlanRead {
     pub answer: Answer,
     pub plan: Plan,

@@ -13,14 +13,14 @@ use planfields::layout::Layout;
 use planfields::numbers::{read_interval, read_units};
 
 // A row's job, its place in the table, and its units.
-#[derive(Drop)]
+#[derive(Clone, Copy)]
 pub struct Row {
     pub job: usize,
     pub at: usize,
     pub units: u32,
 }
 
-#[derive(Drop)]
+#[derive(Clone, Copy)]
 pub enum RowRead {
     Row(Row, usize),
     Refused(Refusal),

@@ -24,7 +24,7 @@ use planfields::layout::Layout;
 const BODY_HEAD_BYTES: usize = Layout::HEADER_BYTES - Layout::OPENING_BYTES;
 
 // The file's length, or the refusal number.
-#[derive(Drop)]
+#[derive(Clone, Copy)]
 pub enum Written {
     Length(usize),
     Refused(u8),

@@ -1,5 +1,7 @@
 // The program as turns: progress and bytes in, progress and a line out. What all turns print
 // together is one definition, `output` in specs/Output.
+#![tactic(auto)]
+
 mod opening;
 mod turns;
 
@@ -10,7 +12,7 @@ use plan::kinds::Plan;
 pub use turns::{advance, is_over, is_reading};
 
 // What the next turn prints: a slot, the header of the outcomes, the outcome of a job, or nothing more.
-#[derive(Drop)]
+#[derive(Clone, Copy)]
 pub enum Phase {
     Slots,
     Closing,
@@ -19,7 +21,7 @@ pub enum Phase {
 }
 
 // The program's state: the phase, the plan, and its run.
-#[derive(Drop)]
+#[derive(Clone, Copy)]
 pub struct Progress {
     pub phase: Phase,
     pub plan: Plan,
@@ -28,7 +30,7 @@ pub struct Progress {
 
 // The result of a turn: the progress after it, and the answer of the line's
 // call, with length 0 if there is no line.
-#[derive(Drop)]
+#[derive(Clone, Copy)]
 pub struct Turn {
     pub progress: Progress,
     pub printed: Printed,

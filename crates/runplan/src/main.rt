@@ -3,6 +3,8 @@
 // contract can say which bytes a call of C's reads or writes, so the contracts here speak of what the
 // buffers hold and of two counts: of bytes heard, to which only `hear` adds, and of bytes told, to
 // which only `write_line` adds.
+#![tactic(auto)]
+
 ghost use Rattle.std.specs.Prelude.{◌≡◌, ◌&&◌, not, ◌+◌, ◌^◌, ◌≤◌, ◌<◌, length, take, replicate};
 ghost use Rattle.io.specs.Counts.{IsPrefixLen};
 ghost use Rattle.plan.specs.Edition.{places};
@@ -27,14 +29,14 @@ const SPEED_BYTES: usize = 2;
 const MOST_TURNS: usize = usize::MAX / (LONGEST_LINE + 1);
 
 // The answer of a read: the number of bytes that came, and the count of bytes heard so far.
-#[derive(Drop)]
+#[derive(Clone, Copy)]
 struct Came {
     bytes: usize,
     heard: usize,
 }
 
 // The answer of a write: the count of bytes told so far, and whether all were written.
-#[derive(Drop)]
+#[derive(Clone, Copy)]
 struct Written {
     told: usize,
     all: bool,
@@ -42,7 +44,7 @@ struct Written {
 
 // What was done so far: the progress, the counts of bytes heard and told, and whether the last line
 // was written.
-#[derive(Drop)]
+#[derive(Clone, Copy)]
 struct Done {
     progress: Progress,
     heard: usize,

@@ -1,4 +1,6 @@
 // Numbers in decimal and names, as bytes that people read.
+#![tactic(auto)]
+
 pub mod append;
 
 ghost use Rattle.std.specs.Prelude.{◌≡◌, ◌%◌};
@@ -11,7 +13,7 @@ use plan::kinds::Name;
 pub const MOST_DIGITS: usize = 10;
 
 // The digits of a number: the bytes from index `from` to the end. Before them are zeros.
-#[derive(Drop)]
+#[derive(Clone, Copy)]
 pub struct Digits {
     pub bytes: [u8; MOST_DIGITS],
     pub from: usize,

@@ -1,0 +1,18 @@
+-- `base::sum_of` meets its contract: the loop sums the terms inside the slice,
+-- and the others are 0.
+use mathlib.Core.Path.{◌≡◌, sym, ◌∙◌, ap}
+use mathlib.Core.List.{List}
+use Prim.Native.Nat.{ℕ, ◌+◌, ◌*◌, ◌-◌, ◌≤◌, ◌<◌}
+use native.Mathlib.Omega.{arith}
+use borrow.Author.Rules.{rules}
+use lib.ListN.{length, get_or-eq_default}
+use Rattle.base.specs.Sum.{sum, strided}
+use Rattle.base.proofs.SumLaws.{sum_start, sum_step, sum_split, sum_none}
+use Rattle.base.proofs.sum_of.Given as goal
+
+abbrev pub invariant-loop-k : goal.invariant-loop-k
+invariant-loop-k l =
+    (l.k ≤ l.inside) × (l.total ≡ sum (strided l.s l.start l.stride) l.k) × (l.total ≤ 4294967295 * l.k)
+
+abbrev pub decreases-loop-k : goal.decreases-loop-k
+decreases-loop-k l = l.inside - l.k
