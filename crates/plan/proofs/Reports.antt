@@ -99,6 +99,7 @@ first_found f k (suc n) h l e =
     below-or-last k n l
     (λ m. or_some (first f n) (f n) (ap is_none (first_found f k n h m e) ∙ e) ∙ first_found f k n h m e)
     (λ q. ap (λ m. or_else (first f m) (f m)) (sym q) ∙ or_none (first f k) (f k) h)
+first_found f k zero h l e = elim l [ ]
 
 pub found_here : (f : ℕ → Report) (k n number : ℕ) (places : Report) → first f k ≡ [] → k < n → f k ≡ number ∷ places
     → number ∷ places ≡ first f n

@@ -1,0 +1,40 @@
+-- `plan::columns::columns_of` meets its contract: after i iterations the columns hold the first i jobs,
+-- and `bits` has room in 32 bits exactly when their sizes have.
+use mathlib.Core.Path.{◌≡◌, refl, sym, ◌∙◌}
+use Prim.Native.Nat.{◌-◌, ◌≤◌}
+use native.Mathlib.Omega.{arith}
+use borrow.Author.Rules.{rules}
+use lib.Dec.{ltb}
+use Rattle.base.specs.Below.{every}
+use Rattle.base.specs.Fill.{filled}
+use Rattle.base.proofs.Below.{every_start, every_next}
+use Rattle.base.proofs.BitLaws.{or_below}
+use Rattle.base.proofs.FillLaws.{filled_start, filled_next}
+use Rattle.plan.specs.Rules.{job_of, release, size, deadline, counted}
+use Rattle.plan.specs.Columns.{column_values, in_column}
+use Rattle.plan.proofs.columns.columns_of.Goals as goal
+
+pub loop-i-init : goal.loop-i-init
+loop-i-init c =
+    (omega arith, sym (every_start _), sym (filled_start _ _), sym (filled_start _ _), sym (filled_start _ _), sym (filled_start _ _))
+
+pub loop-i-preserved : goal.loop-i-preserved
+loop-i-preserved c =
+    let at-loop = c in
+    let p = at-loop.args.p in
+    let i = at-loop.loop-i.i in
+    let inv = at-loop.loop-i.invariant in (
+      omega arith,
+      or_below 32 at-loop.loop-i.bits (size p i) ∙ every_next _ i inv.1 refl,
+      filled_next _ i _ inv.2 refl,
+      filled_next _ i _ inv.3 refl,
+      filled_next _ i _ inv.4 refl,
+      filled_next _ i _ inv.5 refl,
+    )
+
+pub returns : goal.returns
+returns c =
+    let p = c.args.p in
+    let whole : c.loop-i.i ≡ counted p = omega arith in
+    let inv = rw whole at c.loop-i.invariant in
+    (inv.1, inv.2, inv.3, inv.4, inv.5)

@@ -1,0 +1,27 @@
+-- `plan::columns::columns_of` meets its contract: after i iterations the columns hold the first i jobs,
+-- and `bits` has room in 32 bits exactly when their sizes have.
+use mathlib.Core.Path.{◌≡◌, refl, sym, ◌∙◌}
+use Prim.Native.Nat.{◌-◌, ◌≤◌}
+use native.Mathlib.Omega.{arith}
+use borrow.Author.Rules.{rules}
+use lib.Dec.{ltb}
+use Rattle.base.specs.Below.{every}
+use Rattle.base.specs.Fill.{filled}
+use Rattle.base.proofs.Below.{every_start, every_next}
+use Rattle.base.proofs.BitLaws.{or_below}
+use Rattle.base.proofs.FillLaws.{filled_start, filled_next}
+use Rattle.plan.specs.Rules.{job_of, release, size, deadline, counted}
+use Rattle.plan.specs.Columns.{column_values, in_column}
+use Rattle.plan.proofs.columns.columns_of.Given as goal
+
+abbrev pub invariant-loop-i : goal.invariant-loop-i
+invariant-loop-i l =
+    (l.i ≤ l.jobs)
+    × (ltb l.bits column_values ≡ every (λ k. ltb (size l.p k) column_values) l.i)
+    × (l.grades ≡ filled (λ k. (job_of l.p k).grade) l.i l.initial.grades)
+    × (l.releases ≡ filled (release l.p) l.i l.initial.releases)
+    × (l.sizes ≡ filled (λ k. in_column (size l.p k)) l.i l.initial.sizes)
+    × (l.deadlines ≡ filled (deadline l.p) l.i l.initial.deadlines)
+
+abbrev pub decreases-loop-i : goal.decreases-loop-i
+decreases-loop-i l = l.jobs - l.i

@@ -1,0 +1,19 @@
+-- `plan::table::all_zero` meets its contract:
+-- at index q, `zero` says whether the entries from `start` up to q are 0.
+use mathlib.Core.Path.{◌≡◌, sym, ◌∙◌, ap}
+use Prim.Native.Nat.{◌+◌, ◌-◌, ◌≤◌}
+use native.Mathlib.Omega.{arith}
+use borrow.Author.Rules.{rules}
+use lib.Dec.{eqb}
+use lib.ListN.{get_or}
+use Rattle.base.specs.Below.{every}
+use Rattle.base.proofs.Below.{every_start, every_next}
+use Rattle.plan.proofs.Stray.{zero_past}
+use Rattle.plan.proofs.table.all_zero.Given as goal
+
+abbrev pub invariant-loop-q : goal.invariant-loop-q
+invariant-loop-q l =
+    (l.start ≤ l.q) × (l.q ≤ l.start + l.count) × (l.zero ≡ every (λ k. eqb (get_or l.table (l.start + k) 0) 0) (l.q - l.start))
+
+abbrev pub decreases-loop-q : goal.decreases-loop-q
+decreases-loop-q l = l.end - l.q
