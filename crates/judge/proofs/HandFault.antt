@@ -46,6 +46,7 @@ insert_some x (y ∷ l) = omega (arith, insert_grows x (y ∷ l))
 pub boundaries_some : (p : Plan) (n : ℕ) → 1 ≤ n → 1 ≤ length (boundaries_to p n)
 unfolding boundaries_to
 boundaries_some p (suc n) h = insert_some (deadline p n) _
+boundaries_some p Prim.Native.Nat.zero h = elim h [ ]
 
 -- A plan without boundaries is not sound.
 pub unbounded : (p : Plan) (table : List ℕ) → length (boundaries p) ≡ 0 → sound p table ≡ false

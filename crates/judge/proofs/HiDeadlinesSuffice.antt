@@ -119,3 +119,4 @@ module _ (p : Plan) (table : List ℕ)
                 (omega (arith, boundary_rises p m (omega arith))),
           ))
           (λ b. omega (arith, demand_less l m e q, demand_none l (omega arith), ap (λ k. demand p table l (boundary p k)) b))
+  hi_deadlines_are_enough pairs l Prim.Native.Nat.zero h e = elim h [ ]

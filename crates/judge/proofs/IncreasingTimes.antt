@@ -15,6 +15,10 @@ use Rattle.plan.proofs.PresentInterval.{rising_all, come_none}
 pub rising_less : (low j k : ℕ) (l : List ℕ) → Rising low l → j < k → k < length l → get_or l j 0 < get_or l k 0
 rising_less low zero (suc k) (x ∷ l) r h e = rising_all (suc x) k l r.1 (omega arith)
 rising_less low (suc j) (suc k) (x ∷ l) r h e = rising_less (suc x) j k l r.1 (omega arith) (omega arith)
+rising_less low zero zero l r h e = elim h [ ]
+rising_less low zero (suc k) mathlib.Core.List.[] r h e = elim e [ ]
+rising_less low (suc j) zero l r h e = elim h [ ]
+rising_less low (suc j) (suc k) mathlib.Core.List.[] r h e = elim e [ ]
 
 -- Time j + 1 is at most time m exactly if j < m.
 pub ends_by : (low j m : ℕ) (l : List ℕ) → Rising low l → suc j < length l → m < length l
@@ -46,3 +50,4 @@ come_first t low k (x ∷ l) r h = go k h (dec_lt t x) (λ j b. come_first t (su
     go (suc k) b (no p) rest =
         let some : on (leb x t) 1 + come t l ≡ suc (come t l) = rw (le-leb x t (omega arith)) (omega arith) in
         rest k (omega arith) ∙ sym (ap (ltb (suc k)) some ∙ leb-suc-suc (suc k) (come t l))
+come_first t low k mathlib.Core.List.[] r h = elim h [ ]

@@ -1,0 +1,25 @@
+-- `fields::field::read_field` meets its contract:
+-- at index k, `value` is the value of the field's bytes from k on.
+use mathlib.Core.Path.{◌≡◌, refl, sym}
+use mathlib.Core.List.{List}
+use Prim.Native.Nat.{ℕ, suc, ◌+◌, ◌*◌, ◌-◌, ◌≤◌, ◌<◌, ◌^◌}
+use native.Mathlib.Omega.{arith}
+use native.Mathlib.Nat.{one-le-pow, pow-suc, pow-le-pow_right, sub-zero, add-zero}
+use borrow.Author.Rules.{rules}
+use lib.Dec.{lit<}
+use lib.ListN.{get_or, take, drop}
+use Rattle.fields.specs.Bytes as rule
+use Rattle.fields.proofs.ByteLaws.{value_start, value_turn, within, room}
+use Rattle.fields.proofs.ParserLaws.{field_whole, field_cut}
+use Rattle.fields.proofs.field.read_field.Given as goal
+
+-- `value` is the value of the last w − k bytes of the field, and is below 256^(w − k).
+abbrev pub Has : List ℕ → ℕ → ℕ → ℕ → ℕ → Type 0
+Has file at w k value = (value ≡ rule.value 0 (take (w - k) (drop (at + k) file))) × (value < 256 ^ (w - k))
+
+abbrev pub invariant-loop-k : goal.invariant-loop-k
+invariant-loop-k l =
+    (l.k ≤ l.w) × Has l.file l.at l.w l.k l.value × (0 < l.k → l.scale ≡ 256 ^ (l.w - l.k))
+
+abbrev pub decreases-loop-k : goal.decreases-loop-k
+decreases-loop-k l = l.k

@@ -1,0 +1,61 @@
+-- `judge::pair::hi_units` meets its contract. Loop invariant: the sum over the first i jobs.
+use mathlib.Core.Path.{sym, ◌∙◌, ap, ◌≡◌}
+use mathlib.Core.Bool.{◌&&◌}
+use Prim.Native.Nat.{◌+◌, ◌*◌, ◌-◌, ◌≤◌}
+use native.Mathlib.Omega.{arith}
+use borrow.Author.Rules.{rules}
+use lib.Dec.{leb}
+use Rattle.plan.specs.Edition.{most_intervals}
+use Rattle.plan.specs.Rules.{counted, deadline, is_hi}
+use Rattle.base.specs.Sum.{sum, on, strided}
+use Rattle.base.proofs.SumLaws.{sum_start}
+use Rattle.judge.specs.Constraints.{total}
+use Rattle.judge.specs.Inner.Widths.{most_at_place}
+use Rattle.judge.proofs.RunningSums.{sum_next}
+use Rattle.judge.proofs.pair.hi_units.Goals as goal
+
+pub loop-i-init : goal.loop-i-init
+loop-i-init c =
+    (omega arith, sym (sum_start _), omega arith)
+
+pub overflow_mul-i : goal.overflow_mul-i
+overflow_mul-i c =
+    omega (arith, c.loop-i-test.true, c.counted_of-jobs.ensures)
+
+pub overflow_add-i : goal.overflow_add-i
+overflow_add-i c =
+    let at-loop-test = c in
+    let at-counted-of = at-loop-test in
+    let entry = at-counted-of in
+    omega (arith, at-loop-test.loop-i-test.true, at-counted-of.counted_of-jobs.ensures, entry.requires.0)
+
+pub wanted_sum-units-requires : goal.wanted_sum-units-requires
+wanted_sum-units-requires c =
+    c.requires.1
+
+pub overflow_add-total : goal.overflow_add-total
+overflow_add-total c =
+    let at-wanted-sum = c in
+    let at-loop-test = at-wanted-sum in
+    let at-loop = at-loop-test in
+    let at-counted-of = at-loop in
+    omega (arith, at-wanted-sum.wanted_sum-units.ensures.1, at-loop.loop-i.invariant.2, at-loop-test.loop-i-test.true, at-counted-of.counted_of-jobs.ensures)
+
+pub loop-i-smaller : goal.loop-i-smaller
+loop-i-smaller c =
+    omega (arith, c.loop-i-test.true)
+
+pub loop-i-preserved : goal.loop-i-preserved
+loop-i-preserved c =
+    let at-wanted-sum = c in
+    let at-loop-test = at-wanted-sum in
+    let at-loop = at-loop-test in
+    (omega (arith, at-loop-test.loop-i-test.true), sum_next _ at-loop.loop-i.i at-loop.loop-i.invariant.1 at-wanted-sum.wanted_sum-units.ensures.0, omega (arith, at-wanted-sum.wanted_sum-units.ensures.1, at-loop.loop-i.invariant.2))
+
+pub returns : goal.returns
+returns c =
+    let at-loop = c in
+    let at-counted-of = at-loop in
+    let entry = at-counted-of in
+    let end : at-loop.loop-i.i ≡ counted entry.args.p = omega (arith, c.loop-i-test.false, at-loop.loop-i.invariant.0, at-counted-of.counted_of-jobs.ensures) in
+    (at-loop.loop-i.invariant.1 ∙ ap (sum _) end, rw end at at-loop.loop-i.invariant.2)

@@ -1,0 +1,40 @@
+-- `judge::rows::hi_deadlines_of` meets its contract. Loop invariant:
+-- the first i numbers of the row are written.
+use mathlib.Core.Path.{refl, ◌∙◌, ap, ◌≡◌}
+use mathlib.Core.Bool.{cond, ◌&&◌}
+use Prim.Native.Nat.{ℕ, ◌-◌, ◌≤◌, ◌<◌}
+use native.Mathlib.Omega.{arith}
+use borrow.Author.Rules.{rules}
+use lib.Dec.{ltb}
+use lib.ListN.{length, get_or, length-set}
+use Rattle.plan.specs.Edition.{most_jobs}
+use Rattle.plan.specs.Rules.{deadline, is_hi}
+use Rattle.judge.specs.Inner.Columns.{never, hi_deadline}
+use Rattle.judge.proofs.Columns.{stands_next}
+use Rattle.judge.proofs.rows.hi_deadlines_of.Goals as goal
+
+pub loop-i-init : goal.loop-i-init
+loop-i-init c =
+    (omega arith, refl, λ k l. absurd (omega arith))
+
+pub loop-i-smaller : goal.loop-i-smaller
+loop-i-smaller c =
+    omega (arith, c.loop-i-test.true)
+
+pub loop-i-preserved : goal.loop-i-preserved
+loop-i-preserved c =
+    let at-loop-test = c in
+    let at-loop = at-loop-test in
+    let at-counted-of = at-loop in
+    let entry = at-counted-of in
+    let p = entry.args.p in
+    let i = at-loop.loop-i.i in (
+      omega (arith, at-loop-test.loop-i-test.true),
+      length-set at-loop.loop-i.row i _ ∙ at-loop.loop-i.invariant.1,
+      stands_next (hi_deadline p) at-loop.loop-i.row i _ (omega (arith, at-loop.loop-i.invariant.1, at-loop-test.loop-i-test.true)) at-loop.loop-i.invariant.2
+          (c.deadline_if-kept.ensures ∙ ap (λ n. cond (ltb i n && is_hi p i) (deadline p i) never) at-counted-of.counted_of-jobs.ensures),
+    )
+
+pub returns : goal.returns
+returns c =
+    (c.loop-i.invariant.1, λ k l. c.loop-i.invariant.2 k (omega (arith, c.loop-i-test.false)))
