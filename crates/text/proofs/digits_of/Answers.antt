@@ -2,16 +2,17 @@
 -- found, and the rest of the number followed by them is the same text.
 use mathlib.Core.Path.{◌≡◌, refl, sym, ◌∙◌, ap}
 use mathlib.Core.List.{List, [], ◌∷◌, ◌++◌}
-use Prim.Native.Nat.{ℕ, zero, suc, ◌-◌, ◌%◌, ◌^◌, ◌<◌}
+use Prim.Native.Nat.{ℕ, zero, suc, ◌-◌, ◌%◌, ◌^◌, ◌<◌, ◌≤◌}
 use native.Mathlib.Omega.{arith}
 use lib.ListN.{length, set, replicate, length-set}
 use Rattle.text.specs.Text.{digits, digit, decimal, most_digits}
 use Rattle.text.proofs.Decimal.{digits_one, digits_more, digits_ten, digit_before, digits_found, shorter}
 use Rattle.text.proofs.digits_of.Goals as goal
 
-more_go : (from : ℕ) → c.before.loop.rest < 10 ^ suc from → 0 < from
-more_go zero h = absurd (omega arith)
-more_go (suc k) h = omega arith
+-- While the rest has more than one digit, `from` is above 0.
+more_left : (rest from : ℕ) → 10 ≤ rest → rest < 10 ^ suc from → 0 < from
+more_left rest zero l h = absurd (omega arith)
+more_left rest (suc k) l h = omega arith
 
 pub loop-rest-init : goal.loop-rest-init
 loop-rest-init c =
@@ -20,19 +21,19 @@ loop-rest-init c =
 pub overflow_sub-from-in-loop-rest : goal.overflow_sub-from-in-loop-rest
 overflow_sub-from-in-loop-rest c =
     let more : 0 < c.loop-rest.from
-    = more_go c.loop-rest.from c.loop-rest.invariant.2 in
+    = more_left c.loop-rest.rest c.loop-rest.from (omega arith) c.loop-rest.invariant.2 in
     more
 
 pub loop-rest-smaller : goal.loop-rest-smaller
 loop-rest-smaller c =
     let more : 0 < c.loop-rest.from
-    = more_go c.loop-rest.from c.loop-rest.invariant.2 in
+    = more_left c.loop-rest.rest c.loop-rest.from (omega arith) c.loop-rest.invariant.2 in
     omega (arith, more)
 
 pub loop-rest-preserved : goal.loop-rest-preserved
 loop-rest-preserved c =
     let more : 0 < c.loop-rest.from
-    = more_go c.loop-rest.from c.loop-rest.invariant.2 in
+    = more_left c.loop-rest.rest c.loop-rest.from (omega arith) c.loop-rest.invariant.2 in
     let w = c.loop-rest in
     let d = digit (w.rest % 10) in
     let e : suc (w.from - 1) ≡ w.from = omega (arith, more) in (

@@ -24,7 +24,7 @@ use Rattle.judge.proofs.figure.column_taken_in.Given as goal
 
 abbrev pub invariant-loop-l : goal.invariant-loop-l
 invariant-loop-l l =
-    (l.l ≤ l.m) × (l.asked.0 ≡ sum (λ k. get_or l.sums (l.l + k) 0) (l.m - l.l)) × (l.asked.0 ≤ (l.m - l.l) * (most_jobs * most_at_place)) × (column_taken l.d.0 l.sums l.times l.m l.l (sooner (slack_view l.known) (to_z w64 l.best) l.at (get_or l.times l.m 0)) ≡ column_taken l.d.0 l.sums l.times l.m l.m (slack_view l.known)) × (l.l ≤ l.at) × SFits w64 (to_z w64 l.best)
+    (l.l ≤ l.m) × (l.asked.0 ≡ sum (λ k. get_or l.sums (l.l + k) 0) (l.m - l.l)) × (l.asked.0 ≤ (l.m - l.l) * (most_jobs * most_at_place)) × (column_taken l.d.0 l.sums l.times l.m l.l (sooner (slack_view l.known) l.best l.at (get_or l.times l.m 0)) ≡ column_taken l.d.0 l.sums l.times l.m l.m (slack_view l.known)) × (l.l ≤ l.at) × SFits w64 l.best
 
 abbrev pub decreases-loop-l : goal.decreases-loop-l
 decreases-loop-l l = l.l

@@ -7,19 +7,15 @@ use lib.Ieee.{Float, binary64, lt, of_bits, of_int}
 use lib.Ieee.Scale.{finite}
 use Rattle.base.proofs.Logic.{and_right}
 use Rattle.meter.proofs.RateLaws.{under_is, exceeds_is}
-use Rattle.meter.proofs.reading.lowest_wrong.Statement.{statement}
-use Rattle.meter.proofs.reading.lowest_wrong.Tie as tie
+use Rattle.meter.proofs.reading.lowest_wrong.Goals as goal
 
 -- The bits 0 are the whole number 0.
 zero_is : (x : Float) → lt x (of_bits binary64 0) ≡ lt x (of_int binary64 (pos 0))
 unfolding of_bits of_int
 zero_is x = refl
 
-returns : tie.Need-returns
+pub returns : goal.returns
 returns c =
-    let r = c.before.before.args.reading in
-    let lowest : finite r.lowest ≡ true = and_right (finite r.mean) (finite r.lowest) c.before.before.requires in
+    let r = c.args.reading in
+    let lowest : finite r.lowest ≡ true = and_right (finite r.mean) (finite r.lowest) c.requires in
     ap₂ ◌||◌ (zero_is r.lowest ∙ under_is r.lowest 0 lowest (omega arith)) (exceeds_is r.lowest r.mean)
-
-pub lowest-wrong-spec : {M : Type 1} → statement M
-lowest-wrong-spec = tie.close (tie.spec returns)
