@@ -13,9 +13,9 @@ use Rattle.plan.specs.declared.kinds.Job.{Job}
 use Rattle.plan.specs.declared.kinds.JobList.{JobList}
 use Rattle.fields.specs.Bytes.{value}
 use Rattle.text.specs.Text.{text, digits}
-use Rattle.csv.specs.Grammar.{line_end, line_feed, quote, plain, quoted, field, begins}
-use Rattle.csv.specs.Decimals.{are_digits, is_decimal, decimal_from}
-use Rattle.csv.specs.Items.{exactly, item, name_item, number_item, grade_item}
+use Rattle.csvtext.specs.Grammar.{line_end, line_feed, quote, plain, quoted, field, begins}
+use Rattle.csvtext.specs.Decimals.{are_digits, is_decimal, decimal_from}
+use Rattle.csvtext.specs.Items.{exactly, item, name_item, number_item, grade_item}
 use Rattle.joblist.specs.Export.{needs_quotes, doubled, field_text, lines_text, list_text, wrote, refused, exported}
 use Rattle.joblist.specs.Import.{header, line, one_job, all_lines, job_text, imported}
 

@@ -21,7 +21,7 @@ use Rattle.text.specs.Text.{digit, digits, decimal, name_text}
 use Rattle.text.specs.Append.{Adds}
 use Rattle.text.specs.Inner.Growth.{Grown}
 use Rattle.text.proofs.Growth.{adds_same, adds_pasted}
-use Rattle.csv.specs.Grammar.{comma, quote, carriage_return, line_feed, line_end}
+use Rattle.csvtext.specs.Grammar.{comma, quote, carriage_return, line_feed, line_end}
 use Rattle.joblist.specs.Import.{header}
 use Rattle.joblist.specs.Export.{needs_quotes, doubled, field_text, grade_text, line_text, lines_text, list_text, wrote, ExportEffect, withheld, exported}
 

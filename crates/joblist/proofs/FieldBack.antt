@@ -11,9 +11,9 @@ use lib.ListN.{length, get_or}
 use Rattle.base.proofs.Logic.{if_true, both, neither}
 use Rattle.plan.specs.Rules.{lo, hi, name_allowed, grade_allowed}
 use Rattle.text.specs.Text.{decimal, name_text}
-use Rattle.csv.specs.Grammar.{comma, quote, carriage_return, line_feed, is_plain, is_quotable, found, plain, quoted, field, begins}
-use Rattle.csv.specs.Items.{grade_named}
-use Rattle.csv.proofs.TextBack.{inside, printable, Ends, name_printable}
+use Rattle.csvtext.specs.Grammar.{comma, quote, carriage_return, line_feed, is_plain, is_quotable, found, plain, quoted, field, begins}
+use Rattle.csvtext.specs.Items.{grade_named}
+use Rattle.csvtext.proofs.TextBack.{inside, printable, Ends, name_printable}
 use Rattle.joblist.specs.Export.{needs_quotes, doubled, field_text, Special, InQuotes, grade_text}
 use Rattle.joblist.proofs.ExportLaws.{field_plain, field_quoted, number_plain, grade_plain}
 

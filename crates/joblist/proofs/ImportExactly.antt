@@ -18,8 +18,8 @@ use Rattle.plan.specs.Rules.{name_allowed, is_absent, grade_allowed, window_allo
 use Rattle.plan.specs.declared.kinds.Job.{Job}
 use Rattle.plan.proofs.JobLists.{length_snoc}
 use Rattle.fields.specs.Parsers.{Parsed, got, no}
-use Rattle.csv.specs.Grammar.{begins}
-use Rattle.csv.specs.Items.{exactly}
+use Rattle.csvtext.specs.Grammar.{begins}
+use Rattle.csvtext.specs.Items.{exactly}
 use Rattle.joblist.specs.Import.{Line, line, job_on, one_job, all_lines, header, ImportEffect, imported}
 use Rattle.joblist.specs.Grounds.{Reached, begun, further, WrongLine, not_formed, name_byte, name_taken_lem, grade, bounds, WrongText, no_header, no_line, line_too_many, in_line}
 use Rattle.joblist.proofs.ImportLaws.{import_no_header, import_no_lines, import_none, import_whole}

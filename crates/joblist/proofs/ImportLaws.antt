@@ -12,7 +12,7 @@ use Rattle.plan.specs.declared.kinds.JobList.{JobList}
 use Rattle.fields.specs.declared.field.Passed.TheVariants as passed
 use Rattle.fields.specs.Parsers.{Parsed, got, no}
 use Rattle.plan.specs.JobLists.{list_of}
-use Rattle.csv.specs.Items.{exactly}
+use Rattle.csvtext.specs.Items.{exactly}
 use Rattle.joblist.specs.Import.{all_lines, header, job_text, ImportEffect, imported_from, imported}
 use Rattle.joblist.specs.declared.import.Lines.{Lines}
 use Rattle.joblist.specs.Inner.Parts.{LinesAnswer}

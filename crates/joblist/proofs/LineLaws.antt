@@ -7,8 +7,8 @@ use Rattle.plan.specs.Refusal.{Refusal, refusal_at, wrong_name_byte, name_taken,
 use Rattle.plan.specs.Rules.{name_allowed, is_absent, grade_allowed, window_allowed, size_allowed}
 use Rattle.plan.specs.declared.kinds.Job.{Job}
 use Rattle.fields.specs.Parsers.{Parsed, got, no}
-use Rattle.csv.specs.Grammar.{comma, line_end}
-use Rattle.csv.specs.Items.{name_item, grade_item, number_item}
+use Rattle.csvtext.specs.Grammar.{comma, line_end}
+use Rattle.csvtext.specs.Items.{name_item, grade_item, number_item}
 use Rattle.joblist.specs.Import.{Line, line, job_on, one_job}
 
 -- A line is refused by the first of its fields that is refused.

@@ -6,9 +6,9 @@ use native.Mathlib.Omega.{arith}
 use Rattle.plan.specs.Refusal.{Refusal, refusal_at, wrong_line}
 use Rattle.fields.specs.Parsers.{Parsed, got, no}
 use Rattle.fields.proofs.Only.{Refuses, refuses_onward}
-use Rattle.csv.specs.Grammar.{comma, line_end}
-use Rattle.csv.specs.Items.{name_item, grade_item, number_item}
-use Rattle.csv.proofs.ItemRefusals.{name_refuses, grade_refuses, number_refuses}
+use Rattle.csvtext.specs.Grammar.{comma, line_end}
+use Rattle.csvtext.specs.Items.{name_item, grade_item, number_item}
+use Rattle.csvtext.proofs.ItemRefusals.{name_refuses, grade_refuses, number_refuses}
 use Rattle.joblist.specs.Import.{line}
 
 pub line_refuses : (such : Refusal → Type 0) (text : List ℕ) (at : ℕ) → such (refusal_at wrong_line at) → Refuses such (line text at)

@@ -18,8 +18,8 @@ use Rattle.plan.specs.declared.kinds.Job.{Job}
 use Rattle.plan.specs.declared.kinds.JobList.{JobList}
 use Rattle.fields.specs.Parsers.{Parsed, got, no, Parser, onward, test}
 use Rattle.fields.proofs.Only.{among, Only, only_onward, only_test}
-use Rattle.csv.specs.Items.{exactly}
-use Rattle.csv.proofs.ItemRefusals.{exactly_refuses}
+use Rattle.csvtext.specs.Items.{exactly}
+use Rattle.csvtext.proofs.ItemRefusals.{exactly_refuses}
 use Rattle.joblist.specs.Import.{line, one_job, all_lines, header, job_text, imported_from, imported}
 use Rattle.joblist.proofs.LineRefusals.{line_refuses}
 use Rattle.joblist.specs.Export.{wrote, refused, list_text, ExportEffect, withheld, exported}

@@ -6,9 +6,9 @@ use native.Mathlib.Omega.{arith}
 use lib.ListN.{length}
 use Rattle.fields.specs.Parsers.{got}
 use Rattle.fields.proofs.ParserLaws.{through, same_value}
-use Rattle.csv.specs.Grammar.{comma, line_end}
-use Rattle.csv.specs.Items.{name_item, grade_item, number_item}
-use Rattle.csv.proofs.ItemInside.{name_inside, grade_inside}
+use Rattle.csvtext.specs.Grammar.{comma, line_end}
+use Rattle.csvtext.specs.Items.{name_item, grade_item, number_item}
+use Rattle.csvtext.proofs.ItemInside.{name_inside, grade_inside}
 use Rattle.joblist.specs.Import.{Line, line, imported}
 use Rattle.joblist.specs.Grounds.{WrongLine, not_formed, name_byte, name_taken_lem, grade, bounds, WrongText, no_header, no_line, line_too_many, in_line}
 use Rattle.joblist.proofs.ImportExactly.{import_exactly}

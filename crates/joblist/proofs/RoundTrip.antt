@@ -19,13 +19,13 @@ use Rattle.plan.specs.declared.kinds.JobList.{JobList}
 use Rattle.fields.specs.Parsers.{Parsed, got, no}
 use Rattle.fields.proofs.BytesAt.{Stands, stands_first, stands_rest, stands_as}
 use Rattle.text.specs.Text.{decimal, name_text}
-use Rattle.csv.specs.Grammar.{comma, line_end, field}
-use Rattle.csv.specs.Decimals.{most_number}
+use Rattle.csvtext.specs.Grammar.{comma, line_end, field}
+use Rattle.csvtext.specs.Decimals.{most_number}
 use Rattle.plan.specs.JobLists.{names_of, list_of}
-use Rattle.csv.specs.Items.{exactly, item, name_item, grade_item, number_item}
+use Rattle.csvtext.specs.Items.{exactly, item, name_item, grade_item, number_item}
 use Rattle.joblist.specs.Import.{Line, line, one_job, all_lines, header, job_text, ImportEffect, imported_from, imported}
 use Rattle.joblist.specs.Export.{field_text, grade_text, line_text, lines_text, list_text, ExportEffect, wrote, withheld, exported}
-use Rattle.csv.proofs.TextBack.{printable, Ends, comma_ends, line_ends, begins_self, decimal_back, decimal_printable, number_back, name_printable, name_back}
+use Rattle.csvtext.proofs.TextBack.{printable, Ends, comma_ends, line_ends, begins_self, decimal_back, decimal_printable, number_back, name_printable, name_back}
 use Rattle.joblist.proofs.LineLoop.{lines_over, lines_step}
 use Rattle.joblist.proofs.Soundness.{text_taken}
 use Rattle.joblist.proofs.RuleParts.{Meets, meets}

@@ -9,7 +9,7 @@ use lib.Dec.{leb, ltb}
 use Rattle.base.proofs.Logic.{if_less}
 use Rattle.plan.specs.Edition.{most_deadline, most_size}
 use Rattle.plan.specs.Rules.{window_allowed, size_allowed}
-use Rattle.csv.specs.Decimals.{most_number}
+use Rattle.csvtext.specs.Decimals.{most_number}
 
 exact : (x : ℕ) → x < most_number → min x most_number ≡ x
 exact x h = omega arith

@@ -19,11 +19,11 @@ use Rattle.plan.specs.declared.kinds.Job.{Job}
 use Rattle.fields.specs.Parsers.{Parsed, got, no, Parser, onward}
 use Rattle.fields.proofs.ByteLaws.{value_below}
 use Rattle.fields.proofs.ParserLaws.{through, past, same_value}
-use Rattle.csv.specs.Grammar.{comma, line_end}
+use Rattle.csvtext.specs.Grammar.{comma, line_end}
 use Rattle.plan.specs.JobLists.{names_of, list_of}
-use Rattle.csv.specs.Items.{exactly, item, name_item, grade_item, number_item}
+use Rattle.csvtext.specs.Items.{exactly, item, name_item, grade_item, number_item}
 use Rattle.joblist.specs.Import.{Line, line, one_job, all_lines, header, job_text, imported_from, imported}
-use Rattle.csv.proofs.ItemLaws.{item_small}
+use Rattle.csvtext.proofs.ItemLaws.{item_small}
 use Rattle.plan.proofs.JobLists.{length_snoc}
 
 -- The job at an index.

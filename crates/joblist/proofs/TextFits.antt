@@ -16,7 +16,7 @@ use Rattle.plan.specs.declared.kinds.Job.{Job}
 use Rattle.plan.specs.declared.kinds.JobList.{JobList}
 use Rattle.text.specs.Text.{text, decimal, name_text, most_digits}
 use Rattle.text.proofs.Decimal.{decimal_length}
-use Rattle.csv.specs.Grammar.{quote}
+use Rattle.csvtext.specs.Grammar.{quote}
 use Rattle.joblist.specs.Import.{header}
 use Rattle.joblist.specs.Export.{needs_quotes, doubled, field_text, grade_text, line_text, lines_text, list_text, Answer, wrote, refused, ExportEffect, withheld, exported}
 use Rattle.joblist.specs.Longest.{longest_line, longest_text}

@@ -6,7 +6,7 @@ use Rattle.plan.specs.Rules.{hi, job_in, counted_in, jobs_hold}
 use Rattle.plan.specs.declared.kinds.Job.{Job}
 use Rattle.plan.specs.declared.kinds.JobList.{JobList}
 use Rattle.text.specs.Text.{text, decimal, name_text}
-use Rattle.csv.specs.Grammar.{comma, quote, carriage_return, line_feed, line_end}
+use Rattle.csvtext.specs.Grammar.{comma, quote, carriage_return, line_feed, line_end}
 use Rattle.joblist.specs.Import.{header}
 
 -- A field must be in quotes if it holds a quote, a comma, CR or LF.

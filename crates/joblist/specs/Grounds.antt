@@ -7,7 +7,7 @@ use Rattle.plan.specs.Refusal.{Refusal, wrong_job_count, wrong_name_byte, name_t
 use Rattle.plan.specs.Rules.{name_allowed, is_absent, grade_allowed, window_allowed, size_allowed}
 use Rattle.plan.specs.declared.kinds.Job.{Job}
 use Rattle.fields.specs.Parsers.{got, no}
-use Rattle.csv.specs.Grammar.{begins}
+use Rattle.csvtext.specs.Grammar.{begins}
 use Rattle.joblist.specs.Import.{Line, line, one_job, header}
 
 -- After the header, and a line for each of these jobs that was taken, the next line would begin at `at`.

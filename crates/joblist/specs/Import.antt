@@ -10,8 +10,8 @@ use Rattle.plan.specs.declared.kinds.Job.{Job}
 use Rattle.plan.specs.declared.kinds.JobList.{JobList}
 use Rattle.fields.specs.Parsers.{Parsed, got, no, Parser, ◌>>=◌, ◌>>◌, done, here, at_end, test}
 use Rattle.text.specs.Text.{text}
-use Rattle.csv.specs.Grammar.{comma, line_end}
-use Rattle.csv.specs.Items.{exactly, name_item, grade_item, number_item}
+use Rattle.csvtext.specs.Grammar.{comma, line_end}
+use Rattle.csvtext.specs.Items.{exactly, name_item, grade_item, number_item}
 
 -- The five fields of a line, with the offsets of the grade's field and of the release's.
 pub record Line : Type 0 where

@@ -5,7 +5,7 @@ ghost use Rattle.plan.specs.Edition.{most_jobs};
 ghost use Rattle.plan.specs.Rules.{job_in};
 ghost use Rattle.text.specs.Text.{decimal, name_text};
 ghost use Rattle.text.specs.Inner.Growth.{Grown};
-ghost use Rattle.csv.specs.Grammar.{comma, line_end};
+ghost use Rattle.csvtext.specs.Grammar.{comma, line_end};
 ghost use Rattle.joblist.specs.Export.{needs_quotes, doubled, field_text, grade_text, line_text, lines_text};
 ghost use Rattle.joblist.specs.Answers.{Exports};
 ghost use Rattle.joblist.specs.Longest.{longest_name, longest_numbers, longest_line};

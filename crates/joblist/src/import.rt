@@ -9,7 +9,7 @@ ghost use Rattle.joblist.specs.Inner.Parts.{LinesAnswer};
 
 use crate::header::header;
 use crate::line::{JobRead, job_refusal, read_job};
-use csv::item::read_exactly;
+use csvtext::item::read_exactly;
 use fields::field::{Passed, passed_refusal};
 use plan::edition::Edition;
 use plan::kinds::{JobList, no_job};

@@ -3,7 +3,7 @@ ghost use Rattle.std.specs.Prelude.{◌≡◌};
 ghost use Rattle.joblist.specs.Import.{line, one_job};
 ghost use Rattle.joblist.specs.Inner.Parts.{line_view, line_refusal, job_view, job_refusal};
 
-use csv::item::{read_grade, read_name, read_number};
+use csvtext::item::{read_grade, read_name, read_number};
 use fields::field::{Field, field_refusal};
 use plan::kinds::{Job, Name, Slots, Units};
 use plan::refusal::{DONE, NAME_TAKEN, Refusal, WRONG_GRADE, WRONG_JOB_BOUNDS, WRONG_NAME_BYTE};

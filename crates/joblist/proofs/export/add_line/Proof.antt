@@ -8,7 +8,7 @@ use lib.ListN.{length}
 use Rattle.text.specs.Text.{name_text}
 use Rattle.text.specs.Inner.Growth.{Grown}
 use Rattle.text.proofs.Growth.{adds_grown, grown_twice, grown_same}
-use Rattle.csv.specs.Grammar.{comma}
+use Rattle.csvtext.specs.Grammar.{comma}
 use Rattle.joblist.specs.Export.{field_text, grade_text}
 use Rattle.joblist.specs.Longest.{longest_name}
 use Rattle.joblist.proofs.ExportLaws.{grade_length, line_joined}

@@ -7,7 +7,7 @@ use lib.ListN.{length}
 use Rattle.fields.proofs.ParserLaws.{failed, held}
 use Rattle.text.specs.Inner.Growth.{Grown}
 use Rattle.text.proofs.Growth.{adds_grown, grown_twice, grown_same}
-use Rattle.csv.specs.Grammar.{quote}
+use Rattle.csvtext.specs.Grammar.{quote}
 use Rattle.joblist.specs.Export.{field_text}
 use Rattle.joblist.proofs.ExportLaws.{field_plain, field_quoted}
 use Rattle.joblist.proofs.export.add_name.Statement.{statement}

@@ -2,7 +2,7 @@
 use mathlib.Core.Path.{sym}
 use mathlib.Core.Bool.{◌||◌, or-false}
 use lib.Dec.{eqb}
-use Rattle.csv.specs.Grammar.{comma, quote, carriage_return, line_feed}
+use Rattle.csvtext.specs.Grammar.{comma, quote, carriage_return, line_feed}
 use Rattle.joblist.specs.Export.{needs_quotes}
 use Rattle.joblist.proofs.export.is_special.Statement.{statement}
 use Rattle.joblist.proofs.export.is_special.Tie as tie

@@ -8,7 +8,7 @@ use Rattle.plan.specs.Refusal.{wrong_header}
 use Rattle.fields.specs.Answers.{passed_view, passed_refusal}
 use Rattle.fields.proofs.ParserLaws.{so, refused, passed_refused}
 use Rattle.plan.specs.declared.kinds.JobList.{JobList}
-use Rattle.csv.specs.Items.{exactly}
+use Rattle.csvtext.specs.Items.{exactly}
 use Rattle.joblist.specs.Import.{all_lines, header}
 use Rattle.joblist.proofs.ImportLaws.{shown, lines_no, lines_got, import_no_header, import_no_lines, import_none, import_whole}
 use Rattle.joblist.proofs.import.import.Statement.{statement}

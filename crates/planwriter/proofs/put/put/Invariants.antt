@@ -1,0 +1,22 @@
+-- `planwriter::put::put` meets its contract: the k bytes of `rest`, then the bytes written so far,
+-- are the whole field.
+use mathlib.Core.List.{[], ◌++◌, append-nil}
+use mathlib.Core.Path.{◌≡◌, refl, ◌∙◌, ap}
+use Prim.Native.Nat.{suc, ◌+◌, ◌-◌, ◌%◌, ◌≤◌, ◌<◌, ◌^◌}
+use native.Mathlib.Nat.{add-zero, mod-lt}
+use native.Mathlib.Omega.{arith}
+use borrow.Author.Rules.{rules}
+use lib.Dec.{lit<}
+use lib.ListN.{length, drop, drop_of_length-le}
+use lib.Seq.{sets, length-sets}
+use Rattle.fields.specs.Bytes.{bytes}
+use Rattle.fields.proofs.ByteLaws.{length_bytes, bytes_turn}
+use Rattle.planwriter.proofs.Sets.{put_turn}
+use Rattle.planwriter.proofs.put.put.Given as goal
+
+abbrev pub invariant-loop-k : goal.invariant-loop-k
+invariant-loop-k l =
+    (l.k ≤ l.w) × (l.rest < 256 ^ l.k) × (l.out ≡ sets l.initial.out (l.at + l.k) (drop l.k (bytes l.w l.x))) × (bytes l.k l.rest ++ drop l.k (bytes l.w l.x) ≡ bytes l.w l.x)
+
+abbrev pub decreases-loop-k : goal.decreases-loop-k
+decreases-loop-k l = l.k

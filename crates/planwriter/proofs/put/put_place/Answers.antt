@@ -1,0 +1,29 @@
+-- `planwriter::put::put_place` meets its contract.
+use mathlib.Core.Path.{refl, sym, ap}
+use native.Mathlib.Omega.{arith}
+use native.Mathlib.Nat.{add-zero}
+use borrow.Author.Rules.{rules}
+use lib.ListN.{length}
+use Rattle.planwriter.proofs.JobAndRowBytes.{place_none, place_row, row_long}
+use Rattle.planwriter.proofs.put.put_place.Goals as goal
+
+pub returns-then-units-eq0 : goal.returns-then-units-eq0
+returns-then-units-eq0 c =
+    let a = c.args in
+    rw (place_none a.name a.interval a.units c.if-units-eq0.true) (sym (add-zero a.at), refl)
+
+pub put_row-requires : goal.put_row-requires
+put_row-requires c =
+    let a = c.args in
+    let pre = c.requires in
+    let is = place_row a.name a.interval a.units c.if-units-eq0.false pre.1 in
+    (omega (arith, pre.0, ap length is, row_long a.name a.interval a.units), omega (arith, pre.1))
+
+pub returns : goal.returns
+returns c =
+    let at-put-row = c in
+    let at-if1 = at-put-row in
+    let entry = at-if1 in
+    let a = entry.args in
+    rw (place_row a.name a.interval a.units at-if1.if-units-eq0.false entry.requires.1, row_long a.name a.interval a.units)
+    at-put-row.put_row.ensures
