@@ -37,9 +37,9 @@ pub kept_difference : (a b : ℕ) (s : ℤ) → a < most_side → b < most_side 
 kept_difference a b s h k e = ap (λ z. to_z w64 (of_z w64 z)) e ∙ to_z-of_z (difference_fits a b h k)
 
 -- So does a choice of two signed numbers that fit.
-pub kept_choice : (x : Bool) (s t r : ℤ) → SFits w64 s → SFits w64 t → r ≡ cond x s t → SFits w64 r
-kept_choice true s t r f g e = rw e f
-kept_choice false s t r f g e = rw e g
+pub kept_choice : (x : Bool) (s t r : ℤ) → SFits w64 s → SFits w64 t → r ≡ cond x s t → (to_z w64 (of_z w64 r) ≡ cond x s t) × SFits w64 (to_z w64 (of_z w64 r))
+kept_choice true s t r f g e = rw (e, to_z-of_z f) (refl, f)
+kept_choice false s t r f g e = rw (e, to_z-of_z g) (refl, g)
 
 -- If a ≤ c, then a − b ≤ c.
 pub difference_at_most : (a b c : ℕ) → a ≤ c → le_z (sub_ℕ a b) (pos c) ≡ true

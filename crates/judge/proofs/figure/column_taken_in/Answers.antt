@@ -92,24 +92,24 @@ loop-l-preserved c =
     let some = at-loop-test.loop-l-test.true in
     let l = here.l in
     let asked = here.asked.0 in
-    let best = here.best in
-    let slack = at-slack-from.slack_from-slack.result in
+    let best = to_z w64 here.best-bits in
+    let slack = to_z w64 (of_z w64 at-slack-from.slack_from-slack.result) in
     let time = get_or a.times.now a.m 0 in
     let carries = at-capacity.capacity-carries in
     let more = small in
-    let is : slack ≡ sub_ℕ carries.result.0 (asked + get_or a.sums.now (l - 1) 0) = at-slack-from.slack_from-slack.ensures in
+    let is : slack ≡ sub_ℕ carries.result.0 (asked + get_or a.sums.now (l - 1) 0) = kept_difference _ _ _ carries.ensures.1 more at-slack-from.slack_from-slack.ensures in
     let fits : SFits w64 slack = rw is (difference_fits _ _ carries.ensures.1 more) in
-    let zz = c.loop-l in let kept : SFits w64 c.lesser_of-best.result = ? in
-    let turn = taken_next a.d.0 a.sums.now a.times.now a.m l asked slack (sooner (slack_view a.known) best here.at time) (sooner (slack_view a.known) c.lesser_of-best.result at-pick.pick-at.result time) some here.invariant.0 here.invariant.1
+    let kept = kept_choice (le_z slack best) slack best c.lesser_of-best.result fits here.invariant.5 c.lesser_of-best.ensures in
+    let turn = taken_next a.d.0 a.sums.now a.times.now a.m l asked slack (sooner (slack_view a.known) best here.at time) (sooner (slack_view a.known) (to_z w64 (of_z w64 c.lesser_of-best.result)) at-pick.pick-at.result time) some here.invariant.0 here.invariant.1
     (is ∙ ap (λ n. sub_ℕ n (asked + get_or a.sums.now (l - 1) 0)) carries.ensures.0)
-    (ap₂ (λ s n. sooner (slack_view a.known) s n time) c.lesser_of-best.ensures at-pick.pick-at.ensures ∙ sym (sooner_two (slack_view a.known) best slack here.at (l - 1) time (omega (arith, some, here.invariant.4)))) in
+    (ap₂ (λ s n. sooner (slack_view a.known) s n time) kept.0 at-pick.pick-at.ensures ∙ sym (sooner_two (slack_view a.known) best slack here.at (l - 1) time (omega (arith, some, here.invariant.4)))) in
     let one_more : a.m - (l - 1) ≡ a.m - l + 1 = omega (arith, some, here.invariant.0) in (
       omega (arith, here.invariant.0),
       turn.0,
       omega (arith, start.requires.3 (l - 1) (omega (arith, some, here.invariant.0)), ap (λ n. n * (most_jobs * most_at_place)) one_more, here.invariant.2),
       turn.1 ∙ here.invariant.3,
       rw at-pick.pick-at.ensures (choice_from (le_z slack best) (l - 1) here.at (l - 1) (omega arith) (omega (arith, here.invariant.4))),
-      kept,
+      kept.1,
     )
 
 pub returns : goal.returns
