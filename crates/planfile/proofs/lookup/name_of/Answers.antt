@@ -33,6 +33,19 @@ overflow_add-result c =
     = let a = c.args in shown_inside a.file.now a.position (below) in
     record { fits = omega (arith, inside, from_is) }
 
+pub slice_bounds-result-end-2 : goal.slice_bounds-result-end-2
+unfolding name_found
+slice_bounds-result-end-2 c =
+    let below : c.args.position < count_of (read_file c.args.file.now)
+    = let a = c.args in
+      found_below (read_file a.file.now) a.position (λ e. c.if-from-eq0.false (c.name_at-from.ensures ∙ e)) in
+    let from_is : c.name_at-from.result ≡ name_at c.args.position
+    = let a = c.args in
+      c.name_at-from.ensures ∙ found_name (read_file a.file.now) a.position (below) in
+    let inside : name_at c.args.position + 8 ≤ length c.args.file.now
+    = let a = c.args in shown_inside a.file.now a.position (below) in
+    omega (arith, inside, from_is)
+
 pub returns : goal.returns
 unfolding name_shown name_found
 returns c =

@@ -15,4 +15,4 @@ pub returns : goal.returns
 returns c =
     let a = c.args in
     let f = c.find_from in
-    position_first a.names.now a.name f.result f.ensures.0 (λ k lt. f.ensures.1.0 k (omega arith) lt) f.ensures.1.1
+    position_first a.names.now a.name f.result f.ensures.within (λ k lt. f.ensures.before k (omega arith) lt) f.ensures.found

@@ -15,6 +15,7 @@ use Rattle.planfile.specs.Inner.Parts.{row_view, row_refusal}
 use Rattle.fields.proofs.ParserLaws.{so, refused}
 use Rattle.planfile.proofs.Rows.{row_inside, left_next, left_stop, left_done}
 use Rattle.planfile.proofs.store.store_rows.Goals as goal
+use Rattle.planfile.proofs.store.store_rows.Goals.{then-place-table, else-place-table}
 
 pub loop-k-init : goal.loop-k-init
 loop-k-init c =
@@ -70,9 +71,9 @@ loop-k-preserved c =
     let read_here : one_row most_intervals c.args.names.now c.args.spans c.loop-k.low c.args.file.now c.loop-k.next ≡ got (record { at = c.in-Row.row.at; units = c.in-Row.row.units }) c.in-Row.after
     = so row_view c.read_row-read.ensures c.in-Row.is in
     let stored : c.if-place-table.table ≡ set c.loop-k.table c.in-Row.row.at c.in-Row.row.units
-    = ⊎_elim (λ w. w.1)
-      (λ w. w.1 ∙ sym (set_out c.loop-k.table c.in-Row.row.at c.in-Row.row.units w.0.left))
-      c.if-place-table.branch in
+    = elim c.if-place-table.branch [
+          then-place-table w ↦ w.table-is
+        | else-place-table w ↦ w.table-is ∙ sym (set_out c.loop-k.table c.in-Row.row.at c.in-Row.row.units w.if-place-table.false) ] in
     let a = c.args in
     let l = c.loop-k in
     rw (stored) (omega arith, simp length-set l.invariant.1, left_next a.rows l.k most_intervals a.names.now a.spans l.low l.table a.file.now l.next l.invariant.2 (omega arith) (read_here))

@@ -1,0 +1,86 @@
+-- `desk::draw_over` meets its contract: the table is cleared, and if nothing is short the jobs are placed in it, first
+-- those from the back.
+use mathlib.Core.Path.{◌≡◌, refl, sym, ◌∙◌, ap}
+use mathlib.Core.Bool.{false, true, true≢false}
+use mathlib.Core.List.{List, [], ◌∷◌, ◌++◌}
+use mathlib.Core.Logic.{⊎_elim}
+use Prim.Native.Nat.{ℕ, suc, ◌*◌, ◌-◌, ◌≤◌}
+use native.Mathlib.Omega.{arith}
+use borrow.Author.Rules.{rules}
+use lib.ListN.{length, get_or, drop, replicate, length-drop}
+use lib.Seq.{length-take-le}
+use Rattle.base.specs.Fill.{filled}
+use Rattle.plan.specs.Edition.{most_intervals, places}
+use Rattle.plan.specs.Boundaries.{boundaries, first_release}
+use Rattle.plan.specs.Columns.{Columns}
+use Rattle.plan.specs.Report.{Report, is_none, number_of}
+use Rattle.plan.specs.declared.kinds.Outline.{Outline}
+use Rattle.plan.specs.declared.kinds.Plan.{Plan}
+use Rattle.plan.proofs.Reports.{none_empty}
+use Rattle.desk.specs.Timetable.{Draft, class_placed, all_room, cleared, timetable}
+use Rattle.desk.specs.Desk.{jobs_fault, table_after}
+use Rattle.desk.specs.Answers.{shortage_view}
+use Rattle.desk.proofs.CodeLaws.{job_columns}
+use Rattle.desk.proofs.draw_over.Goals as goal
+
+-- The rooms that the code fills are those of the plan.
+rooms-are : (p : Plan) {o : Outline} {grades releases sizes deadlines times rooms : List ℕ} → Columns p o grades releases sizes deadlines → times ≡ boundaries p
+    → rooms ≡ filled (λ j. o.n.0 * (get_or times (suc j) 0 - get_or times j 0)) (length times - 1) (replicate most_intervals 0) → rooms ≡ all_room p
+unfolding all_room
+rooms-are p cols at e = e ∙ rw (at, ← cols.n) refl
+
+-- The table after both classes is the timetable.
+both-placed : (p : Plan) (table : List ℕ) {rooms cells : List ℕ} {back front : Draft} → rooms ≡ all_room p → cells ≡ cleared table
+    → back ≡ class_placed p true (record { rooms = rooms; table = cells }) → front ≡ class_placed p false back → front.table ≡ timetable p table
+unfolding timetable
+both-placed p table room cells back front =
+    ap (λ (d : Draft). d.table) (front ∙ ap (class_placed p false) (back ∙ rw (room, cells) refl))
+
+-- A refusal of the jobs leaves the table cleared.
+refused : (p : Plan) (table : List ℕ) (jobs : Report) → is_none jobs ≡ false → cleared table ≡ table_after p table [] jobs
+refused p table [] h = absurd (true≢false h)
+refused p table (number ∷ rest) h = refl
+
+cleared-long : (table : List ℕ) → places ≤ length table → length (cleared table) ≡ length table
+cleared-long table h = simp length-drop (omega arith)
+
+pub slice_bounds-clear-end-2 : goal.slice_bounds-clear-end-2
+slice_bounds-clear-end-2 c =
+    let entry = c in
+    sym (length-take-le places entry.args.table.now entry.requires.2)
+
+pub shape_of-table : goal.shape_of-table
+shape_of-table c =
+    let table-clear : c.clear.new.row ++ drop places c.args.table.now ≡ cleared c.args.table.now
+    = let entry = c in
+      ap (λ l. l ++ drop places entry.args.table.now)
+      (c.clear.ensures ∙ ap (λ n. replicate n 0) (length-take-le places entry.args.table.now entry.requires.2)) in
+    let at_clear = c in
+    let entry = at_clear in
+    let long = ap length (table-clear) ∙ cleared-long entry.args.table.now entry.requires.2 in
+    ⊎_elim (λ w. ap length w.14 ∙ w.11.ensures.0 ∙ w.6.ensures.0 ∙ long) (λ w. ap length w.1 ∙ long) c.if-is_nothing.branch
+
+pub returns : goal.returns
+returns c =
+    let table-clear : c.clear.new.row ++ drop places c.args.table.now ≡ cleared c.args.table.now
+    = let entry = c in
+      ap (λ l. l ++ drop places entry.args.table.now)
+      (c.clear.ensures ∙ ap (λ n. replicate n 0) (length-take-le places entry.args.table.now entry.requires.2)) in
+    λ p cols at begin. let at-is-nothing = c in
+    let at-shortage-over = at-is-nothing in
+    let at_clear = at-shortage-over in
+    let entry = at_clear in
+    let table = entry.args.table.now in
+    let short : shortage_view at-shortage-over.shortage_over-short.result ≡ jobs_fault p = at-shortage-over.shortage_over-short.ensures p cols at begin in
+    let told = at-is-nothing.is_nothing.ensures ∙ ap is_none short in (
+      c.number_of.ensures ∙ ap number_of short,
+      ⊎_elim
+          (λ w.
+          let jobs = job_columns p cols w.1.ensures in
+          let spans = ap (λ l. length l - 1) at in
+          w.14
+          ∙ both-placed p table (rooms-are p cols at w.3.ensures) (table-clear) (w.6.ensures.1 p jobs at spans) (w.11.ensures.1 p jobs at spans)
+          ∙ ap (table_after p table []) (sym (none_empty (jobs_fault p) (sym told ∙ w.0.taken))))
+          (λ w. w.1 ∙ table-clear ∙ refused p table (jobs_fault p) (sym told ∙ w.0.left))
+          c.if-is_nothing.branch,
+    )

@@ -1,0 +1,32 @@
+-- `desk::pairs::none_due` meets its contract: after i iterations the first i jobs are looked at.
+use mathlib.Core.Path.{◌≡◌, sym, ap}
+use mathlib.Core.Bool.{not, ◌&&◌}
+use Prim.Native.Nat.{◌-◌, ◌≤◌}
+use native.Mathlib.Omega.{arith}
+use borrow.Author.Rules.{rules}
+use lib.Dec.{eqb}
+use lib.ListN.{get_or}
+use Rattle.base.specs.Below.{every}
+use Rattle.base.proofs.Below.{every_start, every_next}
+use Rattle.desk.specs.Inner.Lists.{is_due_at}
+use Rattle.desk.proofs.pairs.none_due.Goals as goal
+
+pub loop-i-init : goal.loop-i-init
+loop-i-init c =
+    (omega arith, sym (every_start _))
+
+pub loop-i-preserved : goal.loop-i-preserved
+loop-i-preserved c =
+    let at-is-of = c in
+    let at-loop = at-is-of in
+    let a = at-loop.args in
+    let i = at-loop.loop-i.i in (
+      omega arith,
+      every_next _ i at-loop.loop-i.invariant.1
+          (ap (λ b. not (b && eqb (get_or a.deadlines.now i 0) a.time)) at-is-of.is_of.ensures),
+    )
+
+pub returns : goal.returns
+returns c =
+    let whole : c.loop-i.i ≡ c.args.jobs = omega arith in
+    rw whole at c.loop-i.invariant.1

@@ -1,0 +1,41 @@
+-- `desk::pairs::short_from` meets its contract: after k iterations none of the first k pairs asks too much.
+use mathlib.Core.Path.{◌≡◌, sym, ◌∙◌}
+use mathlib.Core.List.{[]}
+use Prim.Native.Nat.{◌-◌, ◌≤◌}
+use native.Mathlib.Omega.{arith}
+use borrow.Author.Rules.{rules}
+use lib.ListN.{length, get_or}
+use Rattle.plan.specs.Report.{first}
+use Rattle.plan.proofs.Reports.{first_start, first_next, passes}
+use Rattle.desk.specs.Inner.Lists.{pairs_from}
+use Rattle.desk.proofs.CodeLaws.{first_told}
+use mathlib.Core.Path.{ap}
+use mathlib.Core.Bool.{not}
+use Rattle.desk.proofs.pairs.short_from.Goals as goal
+
+pub loop-k-init : goal.loop-k-init
+loop-k-init c =
+    (omega arith, first_start _)
+
+pub pair_of-pair-requires : goal.pair_of-pair-requires
+pair_of-pair-requires c =
+    let at-loop = c in
+    let entry = at-loop in
+    (entry.requires.1, entry.requires.2 at-loop.loop-k.k)
+
+pub returns-then-not-is_nothing : goal.returns-then-not-is_nothing
+returns-then-not-is_nothing c =
+    let at-pair-of = c in
+    let at-loop-test = at-pair-of in
+    first_told _ _ _ at-loop-test.loop-k.invariant.1 at-loop-test.loop-k-test.true at-pair-of.pair_of-pair.ensures c.is_nothing.ensures (ap not c.if-not-is_nothing.true)
+
+pub loop-k-preserved : goal.loop-k-preserved
+loop-k-preserved c =
+    let at-pair-of = c in
+    let at-loop = at-pair-of in
+    (omega arith, first_next _ at-loop.loop-k.k at-loop.loop-k.invariant.1 (passes _ _ _ at-pair-of.pair_of-pair.ensures c.is_nothing.ensures (ap not c.if-not-is_nothing.false)))
+
+pub returns : goal.returns
+returns c =
+    let whole : c.loop-k.k ≡ length c.args.times.now = omega arith in
+    sym (rw whole at c.loop-k.invariant.1)

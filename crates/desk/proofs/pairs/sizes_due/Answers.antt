@@ -1,0 +1,42 @@
+-- `desk::pairs::sizes_due` meets its contract: after i iterations the sum over the first i jobs.
+use mathlib.Core.Path.{◌≡◌, sym, ◌∙◌, ap}
+use mathlib.Core.Bool.{◌&&◌}
+use Prim.Native.Nat.{◌*◌, ◌-◌, ◌≤◌}
+use native.Mathlib.Omega.{arith}
+use borrow.Author.Rules.{rules}
+use lib.Dec.{leb}
+use lib.ListN.{get_or}
+use Rattle.base.specs.Sum.{sum, on}
+use Rattle.base.proofs.SumLaws.{sum_start}
+use Rattle.judge.proofs.RunningSums.{sum_next}
+use Rattle.desk.specs.Inner.Lists.{due_size, most_in_column}
+use Rattle.desk.proofs.pairs.sizes_due.Goals as goal
+
+pub loop-i-init : goal.loop-i-init
+loop-i-init c =
+    (omega arith, sym (sum_start _), omega arith)
+
+pub overflow_add-total : goal.overflow_add-total
+overflow_add-total c =
+    let at-wanted-size = c in
+    let at-loop = at-wanted-size in
+    record { fits = omega (arith, at-wanted-size.wanted_size-size.ensures.1, at-loop.loop-i.invariant.2, at-loop.requires) }
+
+pub loop-i-preserved : goal.loop-i-preserved
+loop-i-preserved c =
+    let at-wanted-size = c in
+    let at-is-of = at-wanted-size in
+    let at-loop = at-is-of in
+    let a = at-loop.args in
+    let i = at-loop.loop-i.i in (
+      omega arith,
+      sum_next _ i at-loop.loop-i.invariant.1
+          (at-wanted-size.wanted_size-size.ensures.0
+          ∙ ap (λ b. on (b && leb (get_or a.deadlines.now i 0) a.time) (get_or a.sizes.now i 0)) at-is-of.is_of.ensures),
+      omega (arith, at-wanted-size.wanted_size-size.ensures.1, at-loop.loop-i.invariant.2),
+    )
+
+pub returns : goal.returns
+returns c =
+    let whole : c.loop-i.i ≡ c.args.jobs = omega arith in
+    (rw whole at c.loop-i.invariant.1, rw whole at c.loop-i.invariant.2)

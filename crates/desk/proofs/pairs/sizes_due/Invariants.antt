@@ -1,0 +1,20 @@
+-- `desk::pairs::sizes_due` meets its contract: after i iterations the sum over the first i jobs.
+use mathlib.Core.Path.{◌≡◌, sym, ◌∙◌, ap}
+use mathlib.Core.Bool.{◌&&◌}
+use Prim.Native.Nat.{◌*◌, ◌-◌, ◌≤◌}
+use native.Mathlib.Omega.{arith}
+use borrow.Author.Rules.{rules}
+use lib.Dec.{leb}
+use lib.ListN.{get_or}
+use Rattle.base.specs.Sum.{sum, on}
+use Rattle.base.proofs.SumLaws.{sum_start}
+use Rattle.judge.proofs.RunningSums.{sum_next}
+use Rattle.desk.specs.Inner.Lists.{due_size, most_in_column}
+use Rattle.desk.proofs.pairs.sizes_due.Given as goal
+
+abbrev pub invariant-loop-i : goal.invariant-loop-i
+invariant-loop-i l =
+    (l.i ≤ l.jobs) × (l.total.0 ≡ sum (due_size l.back l.grades l.sizes l.deadlines l.time) l.i) × (l.total.0 ≤ l.i * most_in_column)
+
+abbrev pub decreases-loop-i : goal.decreases-loop-i
+decreases-loop-i l = l.jobs - l.i

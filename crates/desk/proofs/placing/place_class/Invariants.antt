@@ -1,0 +1,25 @@
+-- `desk::placing::place_class` meets its contract: after k iterations the draft is that of the turns at the first k
+-- boundaries in order, for every plan whose columns and boundaries are lent.
+use mathlib.Core.Path.{◌≡◌, refl, sym, ◌∙◌, ap}
+use Prim.Native.Nat.{suc, ◌+◌, ◌-◌, ◌≤◌}
+use native.Mathlib.Numerals.{add-one}
+use native.Mathlib.Omega.{arith}
+use borrow.Author.Rules.{rules}
+use lib.ListN.{length, get_or}
+use Rattle.plan.specs.Boundaries.{boundaries, intervals}
+use Rattle.plan.specs.declared.kinds.Plan.{Plan}
+use Rattle.judge.specs.Slack.{through}
+use Rattle.desk.specs.Timetable.{Draft, turn, turns_at, class_placed}
+use Rattle.desk.specs.Inner.Lists.{JobColumns}
+use Rattle.desk.proofs.CodeLaws.{through_start, through_next}
+use Rattle.desk.proofs.placing.place_class.Given as goal
+
+abbrev pub invariant-loop-k : goal.invariant-loop-k
+invariant-loop-k l =
+    (l.k ≤ l.spans) × (length l.table ≡ length l.initial.table)
+    × ((p : Plan) → JobColumns p l.jobs l.grades l.sizes l.deadlines → l.times ≡ boundaries p → l.spans ≡ intervals p
+    → record { l.rooms = l.rooms; l.table = l.table }
+    ≡ through (λ k'. turns_at p l.back (suc (turn l.back (intervals p) k'))) l.k (record { l.rooms = l.initial.rooms; l.table = l.initial.table }))
+
+abbrev pub decreases-loop-k : goal.decreases-loop-k
+decreases-loop-k l = l.spans - l.k

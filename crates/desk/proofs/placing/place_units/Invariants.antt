@@ -1,0 +1,20 @@
+-- `desk::placing::place_units` meets its contract: after k iterations the draft and the units left are those of
+-- the first k turns.
+use mathlib.Core.Path.{◌≡◌, refl, ap}
+use Prim.Native.Nat.{◌-◌, ◌≤◌}
+use native.Mathlib.Omega.{arith}
+use borrow.Author.Rules.{rules}
+use lib.ListN.{length, length-set}
+use Rattle.judge.specs.Slack.{through}
+use Rattle.desk.specs.Timetable.{turn, Placing, placed_at, placing}
+use Rattle.desk.proofs.CodeLaws.{through_start, through_next}
+use Rattle.desk.proofs.placing.place_units.Given as goal
+
+abbrev pub invariant-loop-k : goal.invariant-loop-k
+invariant-loop-k l =
+    (l.k ≤ l.m) × (length l.table ≡ length l.initial.table)
+    × (record { draft = record { l.rooms = l.rooms; l.table = l.table }; l.rest = l.rest }
+    ≡ through (λ k'. placed_at l.i (turn l.back l.m k')) l.k (record { draft = record { l.rooms = l.initial.rooms; l.table = l.initial.table }; l.rest = l.units }))
+
+abbrev pub decreases-loop-k : goal.decreases-loop-k
+decreases-loop-k l = l.m - l.k

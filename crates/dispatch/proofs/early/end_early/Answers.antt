@@ -1,0 +1,32 @@
+-- `dispatch::early::end_early` meets its contract: with columns of the plan the effect is that over them, and without room for a size
+-- the plan breaks rule 9.
+use mathlib.Core.Path.{◌≡◌, refl, sym, ◌∙◌}
+use mathlib.Core.List.{List}
+use Prim.Native.Nat.{ℕ}
+use borrow.Author.Rules.{rules}
+use borrow.Author.Tests.{not-true, not-false}
+use lib.ListN.{length, replicate, length-replicate}
+use Rattle.plan.specs.Edition.{most_jobs}
+use Rattle.plan.proofs.ColumnLaws.{columns_put, sizes_too_large}
+use Rattle.dispatch.specs.Step.{end_fault, told_ended}
+use Rattle.dispatch.proofs.SlotSoundness.{too_large_unsound}
+use mathlib.Core.Path.{ap}
+use mathlib.Core.Bool.{not}
+use Rattle.dispatch.proofs.early.end_early.Goals as goal
+
+pub returns-then-not-columns_of : goal.returns-then-not-columns_of
+unfolding end_fault told_ended
+returns-then-not-columns_of c =
+    let at-columns = c in
+    let a = at-columns.args in
+    rw (too_large_unsound a.p a.run (sizes_too_large a.p (sym at-columns.columns_of.ensures.0 ∙ not-true _ (ap not c.if-not-columns_of.true)))) refl
+
+pub returns : goal.returns
+returns c =
+    let at-if1 = c in
+    let at-columns = at-if1 in
+    let a = at-columns.args in
+    let none : List ℕ = replicate most_jobs 0 in
+    let long : length none ≡ most_jobs = length-replicate {A = ℕ} most_jobs 0 in
+    c.end_over.ensures a.p
+    (columns_put a.p none none none none at-columns.columns_of.ensures (not-false _ (ap not at-if1.if-not-columns_of.false)) long long long long)

@@ -1,0 +1,306 @@
+-- `dispatch::essential::grant_hi` meets its contract: after i iterations what is due to the HI jobs among the first i is
+-- written and added up, and every claim that was right still is.
+use mathlib.Core.Path.{◌≡◌, refl, sym, ◌∙◌, ap}
+use mathlib.Core.Bool.{Bool, true, false, ◌&&◌, and-true}
+use mathlib.Core.Logic.{⊎_elim}
+use Prim.Native.Nat.{ℕ, ◌*◌, ◌-◌, ◌≤◌, ◌<◌}
+use native.Mathlib.Omega.{arith}
+use borrow.Author.Rules.{rules}
+use borrow.Author.Tests.{ltb-true, ltb-false, leb-true, le-leb}
+use lib.Dec.{leb, ltb}
+use lib.ListN.{length}
+use Rattle.base.specs.Fill.{filled}
+use Rattle.base.specs.Sum.{sum, on}
+use Rattle.base.proofs.FillLaws.{filled_start, filled_next, filled_length}
+use Rattle.base.proofs.Logic.{both}
+use Rattle.base.proofs.SumLaws.{sum_start, sum_step}
+use Rattle.plan.specs.Edition.{most_jobs}
+use Rattle.plan.specs.declared.kinds.Units.{Units}
+use Rattle.dispatch.specs.Inner.Turns.{class_in, due_in, unknown, KnownDue}
+use Rattle.dispatch.proofs.TurnLaws.{same_known, noted}
+use Rattle.dispatch.proofs.essential.grant_hi.Goals as goal
+
+pub loop-i-init : goal.loop-i-init
+loop-i-init c =
+    (omega arith, sym (filled_start _ _), sym (sum_start _), omega arith, λ k known. known)
+
+pub is_of-requires : goal.is_of-requires
+is_of-requires c =
+    let turn
+    = c in
+    let at-loop
+    = (turn) in
+    let going : (c.loop-i.i < c.args.jobs) × (c.loop-i.total.0 ≤ c.args.v.0)
+    = let at-loop = c in
+      let a = at-loop.args in
+      let tests = both (ltb at-loop.loop-i.i a.jobs) (leb at-loop.loop-i.total.0 a.v.0) c.loop-i-test.true in
+      (ltb-true _ _ tests.0, leb-true _ _ tests.1) in
+    let below : c.loop-i.i < most_jobs
+    = omega (arith, (going).0, c.requires.0) in
+    below
+
+pub claim_at-due-requires : goal.claim_at-due-requires
+claim_at-due-requires c =
+    let turn
+    = c in
+    let at-loop
+    = (turn) in
+    let going : (c.loop-i.i < c.args.jobs) × (c.loop-i.total.0 ≤ c.args.v.0)
+    = let at-loop = c in
+      let a = at-loop.args in
+      let tests = both (ltb at-loop.loop-i.i a.jobs) (leb at-loop.loop-i.total.0 a.v.0) c.loop-i-test.true in
+      (ltb-true _ _ tests.0, leb-true _ _ tests.1) in
+    let below : c.loop-i.i < most_jobs
+    = omega (arith, (going).0, c.requires.0) in
+    let entry
+    = (at-loop) in
+    let class : ℕ → Bool
+    = class_in true (entry).args.clock.0 (entry).args.grades.now (entry).args.releases.now (entry).args.deadlines.now in
+    let hand
+    = c in
+    let i : ℕ
+    = (at-loop (hand)).loop.i in
+    let tested = c in
+    let i = (at-loop).loop.i in
+    let passes : class i ≡ true = sym tested.is_of.ensures ∙ c.if-is_of.true in
+    (below (turn), (at-loop).loop.invariant.4 i ((entry).requires.2 i (going (turn)).0 passes))
+
+pub overflow_cast-claims : goal.overflow_cast-claims
+overflow_cast-claims c =
+    record { fits = omega (arith, c.claim_at-due.ensures.1) }
+
+pub offset_bounds-claims-i : goal.offset_bounds-claims-i
+offset_bounds-claims-i c =
+    let turn
+    = c in
+    let at-loop
+    = (turn) in
+    let going : (c.loop-i.i < c.args.jobs) × (c.loop-i.total.0 ≤ c.args.v.0)
+    = let at-loop = c in
+      let a = at-loop.args in
+      let tests = both (ltb at-loop.loop-i.i a.jobs) (leb at-loop.loop-i.total.0 a.v.0) c.loop-i-test.true in
+      (ltb-true _ _ tests.0, leb-true _ _ tests.1) in
+    let below : c.loop-i.i < most_jobs
+    = omega (arith, (going).0, c.requires.0) in
+    record { fits = omega (arith, below (turn)) }
+
+pub bounds-claims-i : goal.bounds-claims-i
+bounds-claims-i c =
+    let turn
+    = c in
+    let at-loop
+    = (turn) in
+    let going : (c.loop-i.i < c.args.jobs) × (c.loop-i.total.0 ≤ c.args.v.0)
+    = let at-loop = c in
+      let a = at-loop.args in
+      let tests = both (ltb at-loop.loop-i.i a.jobs) (leb at-loop.loop-i.total.0 a.v.0) c.loop-i-test.true in
+      (ltb-true _ _ tests.0, leb-true _ _ tests.1) in
+    let below : c.loop-i.i < most_jobs
+    = omega (arith, (going).0, c.requires.0) in
+    below (turn)
+
+pub overflow_cast-grants : goal.overflow_cast-grants
+overflow_cast-grants c =
+    let turn
+    = c in
+    let at-loop
+    = (turn) in
+    let entry
+    = (at-loop) in
+    let dues : ℕ → ℕ
+    = due_in (entry).args.whole (entry).args.spans (entry).args.goals.now (entry).args.carried.now (entry).args.table.now in
+    let hand
+    = c in
+    let i : ℕ
+    = (at-loop (hand)).loop.i in
+    let class : ℕ → Bool
+    = class_in true (entry).args.clock.0 (entry).args.grades.now (entry).args.releases.now (entry).args.deadlines.now in
+    let granted : (c.if-is_of.due.0 ≡ on (class (hand) (i)) (dues (hand) (i))) × (c.if-is_of.due.0 ≤ unknown)
+    = ⊎_elim
+      (λ w.
+      let is = ap (λ (u : Units). u.0) w.5 in
+      (is ∙ w.2.ensures.0 ∙ ap (λ b. on b (dues (hand) (i))) (sym w.0.taken ∙ (hand).is-of.ensures), omega (arith, is, w.2.ensures.1)))
+      (λ w.
+      let is = ap (λ (u : Units). u.0) w.2 in
+      (is ∙ ap (λ b. on b (dues (hand) (i))) (sym w.0.left ∙ (hand).is-of.ensures), omega (arith, is)))
+      c.if-is_of.branch in
+    record { fits = omega (arith, (granted).1) }
+
+pub offset_bounds-grants-i : goal.offset_bounds-grants-i
+offset_bounds-grants-i c =
+    let turn
+    = c in
+    let at-loop
+    = (turn) in
+    let going : (c.loop-i.i < c.args.jobs) × (c.loop-i.total.0 ≤ c.args.v.0)
+    = let at-loop = c in
+      let a = at-loop.args in
+      let tests = both (ltb at-loop.loop-i.i a.jobs) (leb at-loop.loop-i.total.0 a.v.0) c.loop-i-test.true in
+      (ltb-true _ _ tests.0, leb-true _ _ tests.1) in
+    let below : c.loop-i.i < most_jobs
+    = omega (arith, (going).0, c.requires.0) in
+    let hand
+    = c in
+    record { fits = omega (arith, below (turn (hand))) }
+
+pub bounds-grants-i : goal.bounds-grants-i
+bounds-grants-i c =
+    let turn
+    = c in
+    let at-loop
+    = (turn) in
+    let going : (c.loop-i.i < c.args.jobs) × (c.loop-i.total.0 ≤ c.args.v.0)
+    = let at-loop = c in
+      let a = at-loop.args in
+      let tests = both (ltb at-loop.loop-i.i a.jobs) (leb at-loop.loop-i.total.0 a.v.0) c.loop-i-test.true in
+      (ltb-true _ _ tests.0, leb-true _ _ tests.1) in
+    let entry
+    = (at-loop) in
+    let class : ℕ → Bool
+    = class_in true (entry).args.clock.0 (entry).args.grades.now (entry).args.releases.now (entry).args.deadlines.now in
+    let dues : ℕ → ℕ
+    = due_in (entry).args.whole (entry).args.spans (entry).args.goals.now (entry).args.carried.now (entry).args.table.now in
+    let hand
+    = c in
+    let here = hand in
+    omega (
+      arith,
+      (going (turn here)).0,
+      (entry here).pre.1,
+      ap length (at-loop here).loop.inv.1,
+      filled_length (λ k. on (class here k) (dues here k)) (at-loop here).loop.i (entry here).args.grants.now,
+    )
+
+pub overflow_add-total : goal.overflow_add-total
+overflow_add-total c =
+    let turn
+    = c in
+    let at-loop
+    = (turn) in
+    let going : (c.loop-i.i < c.args.jobs) × (c.loop-i.total.0 ≤ c.args.v.0)
+    = let at-loop = c in
+      let a = at-loop.args in
+      let tests = both (ltb at-loop.loop-i.i a.jobs) (leb at-loop.loop-i.total.0 a.v.0) c.loop-i-test.true in
+      (ltb-true _ _ tests.0, leb-true _ _ tests.1) in
+    let below : c.loop-i.i < most_jobs
+    = omega (arith, (going).0, c.requires.0) in
+    let hand
+    = c in
+    let entry
+    = (at-loop) in
+    let dues : ℕ → ℕ
+    = due_in (entry).args.whole (entry).args.spans (entry).args.goals.now (entry).args.carried.now (entry).args.table.now in
+    let i : ℕ
+    = (at-loop (hand)).loop.i in
+    let class : ℕ → Bool
+    = class_in true (entry).args.clock.0 (entry).args.grades.now (entry).args.releases.now (entry).args.deadlines.now in
+    let granted : (c.if-is_of.due.0 ≡ on (class (hand) (i)) (dues (hand) (i))) × (c.if-is_of.due.0 ≤ unknown)
+    = ⊎_elim
+      (λ w.
+      let is = ap (λ (u : Units). u.0) w.5 in
+      (is ∙ w.2.ensures.0 ∙ ap (λ b. on b (dues (hand) (i))) (sym w.0.taken ∙ (hand).is-of.ensures), omega (arith, is, w.2.ensures.1)))
+      (λ w.
+      let is = ap (λ (u : Units). u.0) w.2 in
+      (is ∙ ap (λ b. on b (dues (hand) (i))) (sym w.0.left ∙ (hand).is-of.ensures), omega (arith, is)))
+      c.if-is_of.branch in
+    let joined = c in
+    omega (arith, (granted).1, (at-loop (hand)).loop.inv.3, below (turn (hand)))
+
+pub overflow_add-i : goal.overflow_add-i
+overflow_add-i c =
+    let turn
+    = c in
+    let at-loop
+    = (turn) in
+    let going : (c.loop-i.i < c.args.jobs) × (c.loop-i.total.0 ≤ c.args.v.0)
+    = let at-loop = c in
+      let a = at-loop.args in
+      let tests = both (ltb at-loop.loop-i.i a.jobs) (leb at-loop.loop-i.total.0 a.v.0) c.loop-i-test.true in
+      (ltb-true _ _ tests.0, leb-true _ _ tests.1) in
+    let below : c.loop-i.i < most_jobs
+    = omega (arith, (going).0, c.requires.0) in
+    let hand
+    = c in
+    omega (arith, below (turn (hand)))
+
+pub loop-i-smaller : goal.loop-i-smaller
+loop-i-smaller c =
+    let turn
+    = c in
+    let at-loop
+    = (turn) in
+    let going : (c.loop-i.i < c.args.jobs) × (c.loop-i.total.0 ≤ c.args.v.0)
+    = let at-loop = c in
+      let a = at-loop.args in
+      let tests = both (ltb at-loop.loop-i.i a.jobs) (leb at-loop.loop-i.total.0 a.v.0) c.loop-i-test.true in
+      (ltb-true _ _ tests.0, leb-true _ _ tests.1) in
+    let hand
+    = c in
+    omega (arith, (going (turn (hand))).0)
+
+pub loop-i-preserved : goal.loop-i-preserved
+loop-i-preserved c =
+    let turn
+    = c in
+    let at-loop
+    = (turn) in
+    let going : (c.loop-i.i < c.args.jobs) × (c.loop-i.total.0 ≤ c.args.v.0)
+    = let at-loop = c in
+      let a = at-loop.args in
+      let tests = both (ltb at-loop.loop-i.i a.jobs) (leb at-loop.loop-i.total.0 a.v.0) c.loop-i-test.true in
+      (ltb-true _ _ tests.0, leb-true _ _ tests.1) in
+    let entry
+    = (at-loop) in
+    let class : ℕ → Bool
+    = class_in true (entry).args.clock.0 (entry).args.grades.now (entry).args.releases.now (entry).args.deadlines.now in
+    let dues : ℕ → ℕ
+    = due_in (entry).args.whole (entry).args.spans (entry).args.goals.now (entry).args.carried.now (entry).args.table.now in
+    let hand
+    = c in
+    let i : ℕ
+    = (at-loop (hand)).loop.i in
+    let granted : (c.if-is_of.due.0 ≡ on (class (hand) (i)) (dues (hand) (i))) × (c.if-is_of.due.0 ≤ unknown)
+    = ⊎_elim
+      (λ w.
+      let is = ap (λ (u : Units). u.0) w.5 in
+      (is ∙ w.2.ensures.0 ∙ ap (λ b. on b (dues (hand) (i))) (sym w.0.taken ∙ (hand).is-of.ensures), omega (arith, is, w.2.ensures.1)))
+      (λ w.
+      let is = ap (λ (u : Units). u.0) w.2 in
+      (is ∙ ap (λ b. on b (dues (hand) (i))) (sym w.0.left ∙ (hand).is-of.ensures), omega (arith, is)))
+      c.if-is_of.branch in
+    let right : (k : ℕ) → KnownDue (entry (hand)).args.claims.now (dues (hand)) k → KnownDue c.if-is_of.claims (dues (hand)) k
+    = λ k was. let now = (at-loop (hand)).loop.inv.4 k was in
+      ⊎_elim
+      (λ w. same_known (dues (hand)) k w.4 (noted (dues (hand)) (at-loop (hand)).loop.claims (i) _ k w.2.ensures.0 now))
+      (λ w. same_known (dues (hand)) k w.1 now)
+      c.if-is_of.branch in
+    let joined = c in
+    let here = hand in
+    let loop = (at-loop here).loop in (
+      omega (arith, (going (turn here)).0),
+      filled_next _ loop.i _ loop.inv.1 (granted).0,
+      omega (arith, loop.inv.2, (granted).0, sum_step (λ k. on (class here k) (dues here k)) loop.i),
+      omega (arith, loop.inv.3, (granted).1),
+      right,
+    )
+
+pub shape_of-grants : goal.shape_of-grants
+shape_of-grants c =
+    ap length c.loop-i.invariant.1 ∙ filled_length _ _ _
+
+pub returns : goal.returns
+returns c =
+    let here = c in
+    let a = here.args in
+    let loop = here.loop-i in (
+      record {
+        reached = loop.i;
+        within = loop.invariant.0;
+        filled_to = loop.invariant.1;
+        adds_up = loop.invariant.2;
+        whole = λ fits.
+            let last : ltb loop.i a.jobs ≡ false = sym (and-true _) ∙ ap (λ b. ltb loop.i a.jobs && b) (sym (le-leb loop.total.0 a.v.0 fits)) ∙ c.loop-i-test.false in
+            omega (arith, loop.invariant.0, ltb-false loop.i a.jobs last);
+      },
+      loop.invariant.4,
+    )

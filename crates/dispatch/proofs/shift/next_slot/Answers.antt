@@ -1,0 +1,81 @@
+-- `dispatch::shift::next_slot` meets its contract: of a sound run with long enough buffers, 19 and 20 are all that is left
+-- to test, and the goals that are kept are those of the slot.
+use mathlib.Core.Path.{◌≡◌, refl, sym, ◌∙◌}
+use mathlib.Core.List.{List}
+use Prim.Native.Nat.{ℕ}
+use native.Mathlib.Omega.{arith}
+use borrow.Author.Rules.{rules}
+use Rattle.plan.specs.declared.kinds.Outline.{Outline}
+use Rattle.plan.specs.declared.kinds.Plan.{Plan}
+use Rattle.dispatch.specs.declared.Run.{Run}
+use Rattle.dispatch.specs.Answers.{run_at}
+use Rattle.dispatch.specs.Inner.Columns.{plan_on}
+use Rattle.dispatch.specs.Inner.Turns.{KeepsGoals}
+use Rattle.dispatch.proofs.SlotOver.{slot_refused, slot_done}
+use Rattle.dispatch.proofs.SlotsInTurn.{late_fault, fast_fault, no_fault, kept_are_goals}
+use Rattle.dispatch.proofs.SoundColumns.{release_on, deadline_on}
+use Rattle.dispatch.proofs.shift.next_slot.Goals as goal
+
+-- The same goals are kept, for an equal number of jobs.
+same-jobs : {m n : ℕ} (spans : ℕ) (sizes table goals : List ℕ) → m ≡ n → KeepsGoals n spans sizes table goals → KeepsGoals m spans sizes table goals
+same-jobs spans sizes table goals e kept = rw e kept
+
+pub returns-then-clock-last : goal.returns-then-clock-last
+returns-then-clock-last c =
+    let here = c in (
+      slot_refused (q here) (table here) (run here) (v here) (grants here)
+          (sym (late_fault (q here) (table here) (run here) (v here) (grants here) here.requires.0 here.requires.2 here.requires.3 (c.if-clock-last.true ∙ here.requires.1))) refl,
+      here.requires.4,
+      here.requires.5,
+    )
+
+pub returns-then-o-v : goal.returns-then-o-v
+returns-then-o-v c =
+    let at-else = c in
+    let here = at-else in (
+      slot_refused (q here) (table here) (run here) (v here) (grants here)
+          (sym (fast_fault (q here) (table here) (run here) (v here) (grants here) here.requires.0 here.requires.2 here.requires.3
+          (λ e. at-else.if-clock-last.false (e ∙ sym here.requires.1)) c.if-o-v.true)) refl,
+      here.requires.4,
+      here.requires.5,
+    )
+
+pub renew_goals-requires : goal.renew_goals-requires
+renew_goals-requires c =
+    let counting = c in
+    let here = counting in
+    (omega (arith, counting.counted_within-jobs.ensures), here.requires.4, same-jobs here.args.spans (sizes here) (table here) here.args.goals.now counting.counted_within-jobs.ensures here.requires.5)
+
+pub carry_kept-at-requires : goal.carry_kept-at-requires
+carry_kept-at-requires c =
+    let at-renew = c in
+    let at-spans = at-renew in
+    let at_count = at-spans in
+    let at-else = at_count in
+    let here = at-else in (
+      here.requires.0,
+      here.requires.3,
+      at-else.if-o-v.false,
+      kept_are_goals (o here) (grades here) (releases here) (sizes here) (deadlines here) (table here) at-renew.renew_goals.new.goals (run here).clock (run here).slow at-spans.spans_of-begun.result
+          at-spans.spans_of-begun.ensures.0
+          (λ e. at-spans.spans_of-begun.ensures.1 (q here) e refl
+          (λ i h. sym (release_on (o here) (grades here) (releases here) (sizes here) (deadlines here) i h))
+          (λ i h. sym (deadline_on (o here) (grades here) (releases here) (sizes here) (deadlines here) i h)))
+          (same-jobs at-spans.spans_of-begun.result (sizes here) (table here) at-renew.renew_goals.new.goals (sym at_count.counted_within-jobs.ensures) at-renew.renew_goals.ensures.1),
+    )
+
+pub returns : goal.returns
+returns c =
+    let at-carry = c in
+    let at-renew = at-carry in
+    let at-spans = at-renew in
+    let at_count = at-spans in
+    let at-else = at_count in
+    let at_first = at-else in
+    let here = at_first in (
+      slot_done (q here) (table here) (run here) (v here) (grants here)
+          (sym (no_fault (q here) (table here) (run here) (v here) (grants here) here.requires.0 here.requires.2 here.requires.3
+          (λ e. at_first.if-clock-last.false (e ∙ sym here.requires.1)) at-else.if-o-v.false)) refl at-carry.carry_kept-at.ensures.0 at-carry.carry_kept-at.ensures.1,
+      at-renew.renew_goals.ensures.0,
+      same-jobs at-spans.spans_of-begun.result (sizes here) (table here) at-renew.renew_goals.new.goals (sym at_count.counted_within-jobs.ensures) at-renew.renew_goals.ensures.1,
+    )

@@ -1,0 +1,22 @@
+-- `dispatch::shift::renew_goals` meets its contract: goals that are kept for the intervals begun stay, others are written.
+use mathlib.Core.Path.{sym, ◌∙◌, ap}
+use native.Mathlib.Omega.{arith}
+use borrow.Author.Rules.{rules}
+use lib.ListN.{length, get_or}
+use Rattle.base.proofs.FillLaws.{filled_at, filled_length}
+use Rattle.dispatch.specs.Inner.Turns.{kept_goal}
+use Rattle.dispatch.proofs.shift.renew_goals.Goals as goal
+
+pub returns-then-begun-spans : goal.returns-then-begun-spans
+returns-then-begun-spans c =
+    let entry = c in
+    (entry.requires.1, λ k l. entry.requires.2 k l ∙ ap (λ s. kept_goal s entry.args.sizes.now entry.args.table.now k) (sym c.if-begun-spans.true))
+
+pub returns : goal.returns
+returns c =
+    let entry = c in
+    let f = kept_goal entry.args.begun entry.args.sizes.now entry.args.table.now in
+    let was = entry.args.goals.now in (
+      ap length c.fill_goals.ensures ∙ filled_length f entry.args.jobs was ∙ entry.requires.1,
+      λ k l. ap (λ g. get_or g k 0) c.fill_goals.ensures ∙ filled_at f entry.args.jobs was k (rw entry.requires.1 (omega (arith, entry.requires.0))) l,
+    )

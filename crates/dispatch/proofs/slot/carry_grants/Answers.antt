@@ -1,0 +1,34 @@
+-- `dispatch::slot::carry_grants` meets its contract: after i iterations the first i grants are carried.
+use mathlib.Core.Path.{◌≡◌, sym, ◌∙◌, ap}
+use Prim.Native.Nat.{◌+◌, ◌-◌, ◌≤◌}
+use native.Mathlib.Omega.{arith}
+use borrow.Author.Rules.{rules}
+use lib.ListN.{get_or}
+use Rattle.base.specs.Fill.{filled}
+use Rattle.base.proofs.FillLaws.{filled_start, filled_next, filled_rest}
+use Rattle.dispatch.proofs.slot.carry_grants.Goals as goal
+
+pub loop-i-init : goal.loop-i-init
+loop-i-init c =
+    (omega arith, sym (filled_start _ _))
+
+pub overflow_add-carried : goal.overflow_add-carried
+overflow_add-carried c =
+    let as_was : get_or c.loop-i.carried c.loop-i.i 0 ≡ get_or c.args.carried.now c.loop-i.i 0
+    = ap (λ row. get_or row c.loop-i.i 0) c.loop-i.invariant.1 ∙ filled_rest _ c.loop-i.i _ c.loop-i.i (omega arith) in
+    let at-loop = c in
+    omega (arith, as_was, at-loop.requires.2 at-loop.loop-i.i (omega arith))
+
+pub loop-i-preserved : goal.loop-i-preserved
+loop-i-preserved c =
+    let as_was : get_or c.loop-i.carried c.loop-i.i 0 ≡ get_or c.args.carried.now c.loop-i.i 0
+    = ap (λ row. get_or row c.loop-i.i 0) c.loop-i.invariant.1 ∙ filled_rest _ c.loop-i.i _ c.loop-i.i (omega arith) in
+    let at-loop = c in
+    let a = at-loop.args in
+    let i = at-loop.loop-i.i in
+    (omega arith, filled_next _ i _ at-loop.loop-i.invariant.1 (ap (λ x. x + get_or a.grants.now i 0) (as_was)))
+
+pub returns : goal.returns
+returns c =
+    let whole : c.loop-i.i ≡ c.args.jobs = omega arith in
+    rw whole at c.loop-i.invariant.1

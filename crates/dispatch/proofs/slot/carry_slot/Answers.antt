@@ -1,0 +1,99 @@
+-- `dispatch::slot::carry_slot` meets its contract: with the jobs settled, the shares are the grants, and the run takes them.
+use mathlib.Core.Path.{◌≡◌, refl, sym, ◌∙◌, ap}
+use mathlib.Core.Bool.{Bool, true, false}
+use mathlib.Core.List.{List}
+use Prim.Native.Nat.{ℕ, ◌+◌, ◌<◌}
+use native.Mathlib.Omega.{arith}
+use borrow.Author.Rules.{rules}
+use lib.ListN.{get_or, replicate, length-replicate}
+use Rattle.base.specs.Fill.{filled}
+use Rattle.base.proofs.FillLaws.{filled_at}
+use Rattle.plan.specs.Edition.{most_jobs}
+use Rattle.plan.specs.Rules.{counted}
+use Rattle.plan.specs.declared.kinds.Outline.{Outline}
+use Rattle.plan.specs.declared.kinds.Plan.{Plan}
+use Rattle.dispatch.specs.declared.Run.{Run}
+use Rattle.dispatch.specs.Answers.{run_at}
+use Rattle.dispatch.specs.Dues.{carried_of, ended_of, slow_after}
+use Rattle.dispatch.specs.Step.{granted}
+use Rattle.dispatch.specs.Inner.Columns.{plan_on}
+use Rattle.dispatch.specs.Inner.Shares.{settled_of}
+use Rattle.dispatch.specs.Inner.Turns.{settled_in}
+use Rattle.dispatch.proofs.RowShares.{granted_length}
+use Rattle.dispatch.proofs.SlotOver.{same_room, same_sums, carried_fits, settled_mark, settled_granted, slot_run}
+use Rattle.dispatch.proofs.SlotSoundness.{SlotSound, slot_sound_lem}
+use Rattle.dispatch.proofs.SoundColumns.{size_on, deadline_on}
+use Rattle.dispatch.proofs.slot.carry_slot.Goals as goal
+
+-- HELPER
+
+settled_is : (c : tie.After-share-out) → (k : ℕ) → k < counted (q (start c)) → get_or (settled c) k 0 ≡ settled_of (q (start c)) (run (start c)) k
+settled c_is k l =
+    ap (λ r. get_or r k 0) (settling c).settle.ensures
+    ∙ filled_at (settled_in (run (start c)).ended (sizes (start c)) (run (start c)).carried) most_jobs (replicate most_jobs 0) k (rw (length-replicate {A = ℕ} most_jobs 0) (omega arith)) (omega arith)
+    ∙ ap (λ s. settledBy (ended_of (run (start c)) k) s (carried_of (run (start c)) k)) (sym (size_on (o (start c)) (grades (start c)) (releases (start c)) (sizes (start c)) (deadlines (start c)) k l))
+  where
+    settledBy : Bool → ℕ → ℕ → ℕ
+    settledBy true s c = s
+    settledBy false s c = c
+
+pub share_out-slow-requires : goal.share_out-slow-requires
+share_out-slow-requires c =
+    let here = c in (
+      here.requires.1,
+      λ k l. rw (← (deadline_on (o here) (grades here) (releases here) (sizes here) (deadlines here) k l)) ((parts here).rules.deadlines k l),
+      omega (arith, here.requires.2, (parts here).rules.rate),
+    )
+
+pub carry_grants-requires : goal.carry_grants-requires
+carry_grants-requires c =
+    let settling
+    = c in
+    let counting
+    = (settling) in
+    let start
+    = (counting) in
+    let settled : List ℕ
+    = (settling).settle.last.1.1.1.0 in
+    let left : List ℕ
+    = c.share_out-slow.new.grants in
+    let grants-are : (left) ≡ granted (q (start)) (table (start)) (run (start)) (v (start)) (grants (start))
+    = c.share_out-slow.ensures.1
+      ∙ settled_granted (q (start)) (table (start)) (run (start)) (settled) (v (start)) (settled_is c) (grants (start)) (start).pre.1 in
+    let jobs : (counting).counted-within.result ≡ counted (q (start))
+    = (counting).counted-within.ensures in
+    let at-share-out = c in
+    let here = start in (
+      omega (arith, jobs),
+      same_room (jobs) (grants-are) (rw (granted_length (q here) (table here) (run here) (v here) (grants here) here.pre.1) here.pre.1),
+      λ k l. same_sums (carried_of (run here) k) k (grants-are)
+          (carried_fits (q here) (table here) (run here) (v here) (grants here) (parts here) k (omega (arith, jobs))),
+    )
+
+pub returns : goal.returns
+returns c =
+    let settling
+    = c in
+    let counting
+    = (settling) in
+    let start
+    = (counting) in
+    let left : List ℕ
+    = c.share_out-slow.new.grants in
+    let settled : List ℕ
+    = (settling).settle.last.1.1.1.0 in
+    let grants-are : (left) ≡ granted (q (start)) (table (start)) (run (start)) (v (start)) (grants (start))
+    = c.share_out-slow.ensures.1
+      ∙ settled_granted (q (start)) (table (start)) (run (start)) (settled) (v (start)) (settled_is c) (grants (start)) (start).pre.1 in
+    let slow_is : c.share_out-slow.result ≡ slow_after (q (start)) (table (start)) (run (start)) (v (start))
+    = c.share_out-slow.ensures.0 ∙ settled_mark (q (start)) (table (start)) (run (start)) (settled) (v (start)) (settled_is c) in
+    let jobs : (counting).counted-within.result ≡ counted (q (start))
+    = (counting).counted-within.ensures in
+    let at-carry-grants = c in
+    let at-share-out = at-carry-grants in
+    let here = start in (
+      slot_run (q here) (table here) (run here) (v here) (grants here) here.pre.1 refl (slow_is)
+          (settling).below-after.ensures (grants-are)
+          (at-carry-grants.carry_grants.ensures ∙ ap (λ m. filled (λ k. carried_of (run here) k + get_or (left) k 0) m (run here).carried) (jobs)),
+      grants-are,
+    )

@@ -1,0 +1,24 @@
+-- `dispatch::slot::settle` meets its contract: after i iterations the first i entries are written.
+use mathlib.Core.Path.{◌≡◌, sym, ◌∙◌}
+use Prim.Native.Nat.{◌-◌, ◌≤◌}
+use native.Mathlib.Omega.{arith}
+use borrow.Author.Rules.{rules}
+use Rattle.base.specs.Fill.{filled}
+use Rattle.base.proofs.FillLaws.{filled_start, filled_next}
+use Rattle.plan.specs.Edition.{most_jobs}
+use Rattle.dispatch.specs.Inner.Turns.{settled_in}
+use Rattle.dispatch.proofs.slot.settle.Goals as goal
+
+pub loop-i-init : goal.loop-i-init
+loop-i-init c =
+    (omega arith, sym (filled_start _ _))
+
+pub loop-i-preserved : goal.loop-i-preserved
+loop-i-preserved c =
+    let at-loop = c in
+    (omega arith, filled_next _ at-loop.loop-i.i _ at-loop.loop-i.invariant.1 c.settled_of.ensures)
+
+pub returns : goal.returns
+returns c =
+    let whole : c.loop-i.i ≡ most_jobs = omega arith in
+    rw whole at c.loop-i.invariant.1

@@ -1,0 +1,53 @@
+-- `dispatch::slot::share_out` meets its contract: a slot that is not shared out under the mark of the run is slow, and then shared
+-- out under the slow mark.
+use mathlib.Core.Path.{refl, sym}
+use mathlib.Core.Bool.{true≢false}
+use mathlib.Core.List.{List}
+use Prim.Native.Nat.{ℕ}
+use borrow.Author.Rules.{rules}
+use Rattle.plan.specs.declared.kinds.Outline.{Outline}
+use Rattle.plan.specs.declared.kinds.Plan.{Plan}
+use Rattle.dispatch.specs.declared.Run.{Run}
+use Rattle.dispatch.specs.Inner.Columns.{plan_on}
+use Rattle.dispatch.specs.Inner.Shares.{settled_run}
+use Rattle.dispatch.proofs.SlotOver.{shared_under, shared_slow, shared_long}
+use Rattle.dispatch.proofs.SoundColumns.{release_on, deadline_on}
+use Rattle.dispatch.proofs.slot.share_out.Goals as goal
+
+pub share_under-requires : goal.share_under-requires
+share_under-requires c =
+    let at-spans-of = c in
+    let here = at-spans-of in (
+      here.requires.0,
+      here.requires.1,
+      here.requires.2,
+      λ e. at-spans-of.spans_of-spans.ensures.1 (q here) e refl
+          (λ i h. sym (release_on (o here) (grades here) (releases here) (sizes here) (deadlines here) i h))
+          (λ i h. sym (deadline_on (o here) (grades here) (releases here) (sizes here) (deadlines here) i h)),
+    )
+
+pub returns-then-share_under : goal.returns-then-share_under
+returns-then-share_under c =
+    let at-share-under = c in
+    let here = at-share-under in
+    shared_under (q here) (table here) (run here) (v here) (grants here) at-share-under.share_under.ensures c.if-share_under.true
+
+pub share_under-requires-2 : goal.share_under-requires-2
+share_under-requires-2 c =
+    let at-else = c in
+    let at-share-under = at-else in
+    let here = at-share-under in (
+      shared_long (q here) (table here) (run here) (v here) (grants here) at-share-under.share_under.ensures at-else.if-share_under.false here.requires.0,
+      here.requires.1,
+      here.requires.2,
+      λ e. absurd (true≢false e),
+    )
+
+pub returns : goal.returns
+returns c =
+    let at_second = c in
+    let at-else = at_second in
+    let at-share-under = at-else in
+    let here = at-share-under in
+    shared_slow (q here) (table here) here.args.clock here.args.slow here.args.carried.now (v here) (grants here)
+    at-share-under.share_under.ensures at-else.if-share_under.false at_second.share_under-2.ensures

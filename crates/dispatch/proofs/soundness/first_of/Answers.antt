@@ -1,0 +1,28 @@
+-- `dispatch::soundness::first_of` meets its contract:
+-- `so_far` is the least of the first i releases.
+use mathlib.Core.Path.{◌≡◌, sym, ◌∙◌, ap}
+use Prim.Native.Nat.{◌-◌, ◌≤◌}
+use native.Mathlib.Omega.{arith}
+use borrow.Author.Rules.{rules}
+use lib.ListN.{get_or}
+use Rattle.base.specs.Below.{least}
+use Rattle.base.proofs.Below.{least_start, least_one, least_next}
+use Rattle.dispatch.proofs.soundness.first_of.Goals as goal
+
+pub returns-then-jobs-eq0 : goal.returns-then-jobs-eq0
+returns-then-jobs-eq0 c =
+    sym (ap (least _) c.if-jobs-eq0.true ∙ least_start _)
+
+pub loop-i-init : goal.loop-i-init
+loop-i-init c =
+    (omega arith, omega arith, sym (least_one _))
+
+pub loop-i-preserved : goal.loop-i-preserved
+loop-i-preserved c =
+    let l = c.loop-i in
+    (omega arith, omega arith, c.lesser-so_far.ensures ∙ least_next _ l.i l.invariant.0 l.invariant.2)
+
+pub returns : goal.returns
+returns c =
+    let whole : c.loop-i.i ≡ c.args.jobs = omega arith in
+    c.loop-i.invariant.2 ∙ ap (least _) whole

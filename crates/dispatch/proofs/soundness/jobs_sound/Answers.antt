@@ -1,0 +1,29 @@
+-- `dispatch::soundness::jobs_sound` meets its contract. Loop invariant:
+-- `sound` is the test over the first i jobs.
+use mathlib.Core.Path.{◌≡◌, refl, sym, ◌∙◌, ap}
+use Prim.Native.Nat.{◌-◌, ◌≤◌}
+use native.Mathlib.Omega.{arith}
+use borrow.Author.Rules.{rules}
+use Rattle.base.specs.Below.{every}
+use Rattle.base.proofs.Below.{every_start, every_next}
+use Rattle.dispatch.specs.Inner.Readiness.{job_sound}
+use Rattle.dispatch.proofs.soundness.jobs_sound.Goals as goal
+
+pub loop-i-init : goal.loop-i-init
+loop-i-init c =
+    (omega arith, sym (every_start _))
+
+pub loop-i-preserved : goal.loop-i-preserved
+loop-i-preserved c =
+    let at-is-grade = c in
+    let at-size-allowed = at-is-grade in
+    let at-window-allowed = at-size-allowed in
+    let at-had = at-window-allowed in
+    let at_size = at-had in
+    let l = at_size.loop-i in
+    (omega arith, every_next _ l.i l.invariant.1 (rw (at-is-grade.is_grade.ensures, at-size-allowed.size_allowed.ensures, at-window-allowed.window_allowed.ensures, at-had.as_units-had.ensures, at_size.as_units-size.ensures) refl))
+
+pub returns : goal.returns
+returns c =
+    let whole : c.loop-i.i ≡ c.args.jobs = omega arith in
+    c.loop-i.invariant.1 ∙ ap (every _) whole

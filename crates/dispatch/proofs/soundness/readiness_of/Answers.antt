@@ -1,0 +1,91 @@
+-- `dispatch::soundness::readiness_of` meets its contract: each return
+-- by the tests before it.
+use mathlib.Core.Path.{◌≡◌, sym, ◌∙◌, ap, ap₂}
+use mathlib.Core.Bool.{true, ◌&&◌, ◌||◌}
+use Prim.Native.Nat.{min}
+use borrow.Author.Rules.{rules}
+use borrow.Author.Tests.{not-true, not-false}
+use lib.Dec.{ltb}
+use lib.ListN.{get_or}
+use Rattle.base.specs.Below.{every, least, greatest}
+use Rattle.plan.specs.Edition.{most_jobs}
+use Rattle.dispatch.proofs.SoundColumns.{rules_on, outside, told_broken, told_outside, told_over, told_running}
+use mathlib.Core.Bool.{not}
+use Rattle.dispatch.proofs.soundness.readiness_of.Goals as goal
+
+pub returns-then-not-rules : goal.returns-then-not-rules
+returns-then-not-rules c =
+    let entry
+    = c in
+    let rules : (c.rates_allowed.result && c.count_allowed.result && c.jobs_sound.result) ≡ rules_on (entry).args.o (entry).args.grades.now (entry).args.releases.now (entry).args.sizes.now (entry).args.deadlines.now (entry).args.clock.0 (entry).args.carried.now
+    = ap₂ ◌&&◌ (ap₂ ◌&&◌ c.rates_allowed.ensures c.count_allowed.ensures)
+      (c.jobs_sound.ensures ∙ ap (every _) c.counted_within-jobs.ensures) in
+    let at = c in
+    sym (told_broken (entry).args.o (entry).args.grades.now (entry).args.releases.now (entry).args.sizes.now (entry).args.deadlines.now (entry).args.clock.0 (entry).args.carried.now
+    (sym (rules) ∙ not-true _ (ap not c.if-not-rules.true)))
+
+pub returns-then-clock-first : goal.returns-then-clock-first
+returns-then-clock-first c =
+    let entry
+    = c in
+    let here
+    = c in
+    let jobs : (here).counted-within.result ≡ min (entry (here)).args.o.count most_jobs
+    = (here).counted-within.ensures in
+    let first : c.first_of-first.result.0 ≡ least (λ i. get_or (entry (here)).args.releases.now i 0) (min (entry (here)).args.o.count most_jobs)
+    = c.first_of-first.ensures ∙ ap (least _) (jobs) in
+    let last : c.last_of-last.result.0 ≡ greatest (λ i. get_or (entry (here)).args.deadlines.now i 0) (min (entry (here)).args.o.count most_jobs)
+    = c.last_of-last.ensures ∙ ap (greatest _) (jobs) in
+    let clock : (ltb (entry (here)).args.clock.0 c.first_of-first.result.0 || ltb c.last_of-last.result.0 (entry (here)).args.clock.0) ≡ outside (entry (here)).args.o (entry (here)).args.grades.now (entry (here)).args.releases.now (entry (here)).args.sizes.now (entry (here)).args.deadlines.now (entry (here)).args.clock.0 (entry (here)).args.carried.now
+    = ap₂ (λ x y. ltb (entry (here)).args.clock.0 x || ltb y (entry (here)).args.clock.0) (first) (last) in
+    let at = c in
+    sym (told_outside (entry (here)).args.o (entry (here)).args.grades.now (entry (here)).args.releases.now (entry (here)).args.sizes.now (entry (here)).args.deadlines.now (entry (here)).args.clock.0 (entry (here)).args.carried.now
+    (sym (clock) ∙ c.if-clock-first.true))
+
+pub returns-then-clock-last : goal.returns-then-clock-last
+returns-then-clock-last c =
+    let entry
+    = c in
+    let here
+    = c in
+    let rules : (c.rates_allowed.result && c.count_allowed.result && c.jobs_sound.result) ≡ rules_on (entry).args.o (entry).args.grades.now (entry).args.releases.now (entry).args.sizes.now (entry).args.deadlines.now (entry).args.clock.0 (entry).args.carried.now
+    = ap₂ ◌&&◌ (ap₂ ◌&&◌ c.rates_allowed.ensures c.count_allowed.ensures)
+      (c.jobs_sound.ensures ∙ ap (every _) c.counted_within-jobs.ensures) in
+    let rules-hold : rules_on (entry (here)).args.o (entry (here)).args.grades.now (entry (here)).args.releases.now (entry (here)).args.sizes.now (entry (here)).args.deadlines.now (entry (here)).args.clock.0 (entry (here)).args.carried.now ≡ true
+    = sym (rules (here)) ∙ not-false _ (ap not c.if-not-rules.false) in
+    let jobs : (here).counted-within.result ≡ min (entry (here)).args.o.count most_jobs
+    = (here).counted-within.ensures in
+    let last : c.last_of-last.result.0 ≡ greatest (λ i. get_or (entry (here)).args.deadlines.now i 0) (min (entry (here)).args.o.count most_jobs)
+    = c.last_of-last.ensures ∙ ap (greatest _) (jobs) in
+    let first : c.first_of-first.result.0 ≡ least (λ i. get_or (entry (here)).args.releases.now i 0) (min (entry (here)).args.o.count most_jobs)
+    = c.first_of-first.ensures ∙ ap (least _) (jobs) in
+    let clock : (ltb (entry (here)).args.clock.0 c.first_of-first.result.0 || ltb c.last_of-last.result.0 (entry (here)).args.clock.0) ≡ outside (entry (here)).args.o (entry (here)).args.grades.now (entry (here)).args.releases.now (entry (here)).args.sizes.now (entry (here)).args.deadlines.now (entry (here)).args.clock.0 (entry (here)).args.carried.now
+    = ap₂ (λ x y. ltb (entry (here)).args.clock.0 x || ltb y (entry (here)).args.clock.0) (first) (last) in
+    let at-if2 = c in
+    let at = at-if2 in
+    sym (told_over (entry (here)).args.o (entry (here)).args.grades.now (entry (here)).args.releases.now (entry (here)).args.sizes.now (entry (here)).args.deadlines.now (entry (here)).args.clock.0 (entry (here)).args.carried.now
+    (rules-hold) (sym (clock) ∙ at-if2.if-clock-first.false) (c.if-clock-last.true ∙ last))
+
+pub returns : goal.returns
+returns c =
+    let entry
+    = c in
+    let here
+    = c in
+    let rules : (c.rates_allowed.result && c.count_allowed.result && c.jobs_sound.result) ≡ rules_on (entry).args.o (entry).args.grades.now (entry).args.releases.now (entry).args.sizes.now (entry).args.deadlines.now (entry).args.clock.0 (entry).args.carried.now
+    = ap₂ ◌&&◌ (ap₂ ◌&&◌ c.rates_allowed.ensures c.count_allowed.ensures)
+      (c.jobs_sound.ensures ∙ ap (every _) c.counted_within-jobs.ensures) in
+    let rules-hold : rules_on (entry (here)).args.o (entry (here)).args.grades.now (entry (here)).args.releases.now (entry (here)).args.sizes.now (entry (here)).args.deadlines.now (entry (here)).args.clock.0 (entry (here)).args.carried.now ≡ true
+    = sym (rules (here)) ∙ not-false _ (ap not c.if-not-rules.false) in
+    let jobs : (here).counted-within.result ≡ min (entry (here)).args.o.count most_jobs
+    = (here).counted-within.ensures in
+    let last : c.last_of-last.result.0 ≡ greatest (λ i. get_or (entry (here)).args.deadlines.now i 0) (min (entry (here)).args.o.count most_jobs)
+    = c.last_of-last.ensures ∙ ap (greatest _) (jobs) in
+    let first : c.first_of-first.result.0 ≡ least (λ i. get_or (entry (here)).args.releases.now i 0) (min (entry (here)).args.o.count most_jobs)
+    = c.first_of-first.ensures ∙ ap (least _) (jobs) in
+    let clock : (ltb (entry (here)).args.clock.0 c.first_of-first.result.0 || ltb c.last_of-last.result.0 (entry (here)).args.clock.0) ≡ outside (entry (here)).args.o (entry (here)).args.grades.now (entry (here)).args.releases.now (entry (here)).args.sizes.now (entry (here)).args.deadlines.now (entry (here)).args.clock.0 (entry (here)).args.carried.now
+    = ap₂ (λ x y. ltb (entry (here)).args.clock.0 x || ltb y (entry (here)).args.clock.0) (first) (last) in
+    let at-if2 = c in
+    let at = at-if2 in
+    sym (told_running (entry (here)).args.o (entry (here)).args.grades.now (entry (here)).args.releases.now (entry (here)).args.sizes.now (entry (here)).args.deadlines.now (entry (here)).args.clock.0 (entry (here)).args.carried.now
+    (rules-hold) (sym (clock) ∙ at-if2.if-clock-first.false) (λ e. c.if-clock-last.false (e ∙ sym (last))))

@@ -1,0 +1,8 @@
+-- `joblist::import::refused` meets its contract.
+use mathlib.Core.Path.{refl}
+use borrow.Author.Rules.{rules}
+use Rattle.joblist.proofs.import.refused.Goals as goal
+
+pub returns : goal.returns
+returns c =
+    rw c.no_jobs.ensures refl
