@@ -18,8 +18,8 @@ abbrev pub invariant-loop-k : goal.invariant-loop-k
 invariant-loop-k l =
     (l.k ≤ l.spans) × (length l.table ≡ length l.initial.table)
     × ((p : Plan) → JobColumns p l.jobs l.grades l.sizes l.deadlines → l.times ≡ boundaries p → l.spans ≡ intervals p
-    → record { l.rooms = l.rooms; l.table = l.table }
-    ≡ through (λ k'. turns_at p l.back (suc (turn l.back (intervals p) k'))) l.k (record { l.rooms = l.initial.rooms; l.table = l.initial.table }))
+    → record { rooms = l.rooms; table = l.table }
+    ≡ through (λ k'. turns_at p l.back (suc (turn l.back (intervals p) k'))) l.k (record { rooms = l.initial.rooms; table = l.initial.table }))
 
 abbrev pub decreases-loop-k : goal.decreases-loop-k
 decreases-loop-k l = l.spans - l.k

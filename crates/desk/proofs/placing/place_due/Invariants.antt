@@ -19,8 +19,8 @@ abbrev pub invariant-loop-q : goal.invariant-loop-q
 invariant-loop-q l =
     (l.q ≤ l.jobs) × (length l.table ≡ length l.initial.table)
     × ((p : Plan) → JobColumns p l.jobs l.grades l.sizes l.deadlines → boundary p l.m ≡ l.time
-    → record { l.rooms = l.rooms; l.table = l.table }
-    ≡ through (λ q'. job_turn p l.back l.m (turn l.back (counted p) q')) l.q (record { l.rooms = l.initial.rooms; l.table = l.initial.table }))
+    → record { rooms = l.rooms; table = l.table }
+    ≡ through (λ q'. job_turn p l.back l.m (turn l.back (counted p) q')) l.q (record { rooms = l.initial.rooms; table = l.initial.table }))
 
 abbrev pub decreases-loop-q : goal.decreases-loop-q
 decreases-loop-q l = l.jobs - l.q

@@ -13,8 +13,8 @@ use Rattle.desk.proofs.placing.place_units.Given as goal
 abbrev pub invariant-loop-k : goal.invariant-loop-k
 invariant-loop-k l =
     (l.k ≤ l.m) × (length l.table ≡ length l.initial.table)
-    × (record { draft = record { l.rooms = l.rooms; l.table = l.table }; l.rest = l.rest }
-    ≡ through (λ k'. placed_at l.i (turn l.back l.m k')) l.k (record { draft = record { l.rooms = l.initial.rooms; l.table = l.initial.table }; l.rest = l.units }))
+    × (record { draft = record { rooms = l.rooms; table = l.table }; rest = l.rest }
+    ≡ through (λ k'. placed_at l.i (turn l.back l.m k')) l.k (record { draft = record { rooms = l.initial.rooms; table = l.initial.table }; rest = l.units }))
 
 abbrev pub decreases-loop-k : goal.decreases-loop-k
 decreases-loop-k l = l.m - l.k
