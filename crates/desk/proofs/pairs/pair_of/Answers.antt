@@ -74,44 +74,38 @@ overflow_add-carried c =
       omega (arith, mul-le-mul {n₁ = a.n.0} {m₁ = a.late.0 - a.start.0} {n₂ = 65535} {m₂ = 4294967295} (omega arith) (omega arith)),
       omega (arith, mul-le-mul {n₁ = a.d.0} {m₁ = a.due.0 - a.late.0} {n₂ = 65535} {m₂ = 4294967295} (omega arith) (omega arith)),
       ) in
-    let entry
-    = c in
-    let normal : c.over-normal.result.0 ≡ (entry).args.n.0 * ((entry).args.late.0 - (entry).args.start.0)
+    let normal : c.over-normal.result.0 ≡ c.args.n.0 * (c.args.late.0 - c.args.start.0)
     = ap (λ (u : Units). u.0) c.over-normal.ensures
-      ∙ ap (λ (t : Slots). (entry).args.n.0 * t.0) c.elapsed.ensures in
-    let floor : c.over-floor.result.0 ≡ (entry).args.d.0 * ((entry).args.due.0 - (entry).args.late.0)
+      ∙ ap (λ (t : Slots). c.args.n.0 * t.0) c.elapsed.ensures in
+    let floor : c.over-floor.result.0 ≡ c.args.d.0 * (c.args.due.0 - c.args.late.0)
     = ap (λ (u : Units). u.0) c.over-floor.ensures
-      ∙ ap (λ (t : Slots). (entry).args.d.0 * t.0) c.elapsed-2.ensures in
+      ∙ ap (λ (t : Slots). c.args.d.0 * t.0) c.elapsed-2.ensures in
     let at-over2 = c in
-    record { fits = omega (arith, normal, floor, most (entry)) }
+    record { fits = omega (arith, normal, floor, most) }
 
 pub returns-then-asked-carried : goal.returns-then-asked-carried
 returns-then-asked-carried c =
-    let entry
-    = c in
-    let normal : c.over-normal.result.0 ≡ (entry).args.n.0 * ((entry).args.late.0 - (entry).args.start.0)
+    let normal : c.over-normal.result.0 ≡ c.args.n.0 * (c.args.late.0 - c.args.start.0)
     = ap (λ (u : Units). u.0) c.over-normal.ensures
-      ∙ ap (λ (t : Slots). (entry).args.n.0 * t.0) c.elapsed.ensures in
-    let floor : c.over-floor.result.0 ≡ (entry).args.d.0 * ((entry).args.due.0 - (entry).args.late.0)
+      ∙ ap (λ (t : Slots). c.args.n.0 * t.0) c.elapsed.ensures in
+    let floor : c.over-floor.result.0 ≡ c.args.d.0 * (c.args.due.0 - c.args.late.0)
     = ap (λ (u : Units). u.0) c.over-floor.ensures
-      ∙ ap (λ (t : Slots). (entry).args.d.0 * t.0) c.elapsed-2.ensures in
+      ∙ ap (λ (t : Slots). c.args.d.0 * t.0) c.elapsed-2.ensures in
     let at-over2 = c in
-    let a = (entry).args in
+    let a = (c).args in
     pair-with a.n.0 a.d.0 a.start.0 a.due.0 a.late.0 a.high a.low at-over2.if-high-low.false
     (sym (le-ltb (carries a.n.0 a.d.0 a.start.0 a.due.0 a.late.0 a.high a.low) (a.high - 1 + (a.low - 1)) (omega (arith, c.if-asked-carried.true, normal, floor))))
 
 pub returns : goal.returns
 returns c =
-    let entry
-    = c in
-    let normal : c.over-normal.result.0 ≡ (entry).args.n.0 * ((entry).args.late.0 - (entry).args.start.0)
+    let normal : c.over-normal.result.0 ≡ c.args.n.0 * (c.args.late.0 - c.args.start.0)
     = ap (λ (u : Units). u.0) c.over-normal.ensures
-      ∙ ap (λ (t : Slots). (entry).args.n.0 * t.0) c.elapsed.ensures in
-    let floor : c.over-floor.result.0 ≡ (entry).args.d.0 * ((entry).args.due.0 - (entry).args.late.0)
+      ∙ ap (λ (t : Slots). c.args.n.0 * t.0) c.elapsed.ensures in
+    let floor : c.over-floor.result.0 ≡ c.args.d.0 * (c.args.due.0 - c.args.late.0)
     = ap (λ (u : Units). u.0) c.over-floor.ensures
-      ∙ ap (λ (t : Slots). (entry).args.d.0 * t.0) c.elapsed-2.ensures in
+      ∙ ap (λ (t : Slots). c.args.d.0 * t.0) c.elapsed-2.ensures in
     let at-over2 = c in
-    let a = (entry).args in
+    let a = (c).args in
     ap₂ (λ x y. no_timetable ∷ a.due.0 ∷ a.late.0 ∷ (a.high - 1 + (a.low - 1)) ∷ (x + y) ∷ []) (normal) (floor)
     ∙ pair-with a.n.0 a.d.0 a.start.0 a.due.0 a.late.0 a.high a.low at-over2.if-high-low.false
     (sym (lt-ltb (carries a.n.0 a.d.0 a.start.0 a.due.0 a.late.0 a.high a.low) (a.high - 1 + (a.low - 1)) (omega (arith, c.if-asked-carried.false, normal, floor))))

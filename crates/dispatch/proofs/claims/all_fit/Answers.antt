@@ -24,8 +24,6 @@ loop-i-init c =
 
 pub offset_bounds-releases-i : goal.offset_bounds-releases-i
 offset_bounds-releases-i c =
-    let at-loop
-    = c in
     let going : (c.loop-i.i < c.args.jobs) × (c.loop-i.total.0 ≤ c.args.v.0)
     = let at-loop = c in
       let a = at-loop.args in
@@ -37,8 +35,6 @@ offset_bounds-releases-i c =
 
 pub bounds-releases-i : goal.bounds-releases-i
 bounds-releases-i c =
-    let at-loop
-    = c in
     let going : (c.loop-i.i < c.args.jobs) × (c.loop-i.total.0 ≤ c.args.v.0)
     = let at-loop = c in
       let a = at-loop.args in
@@ -50,8 +46,6 @@ bounds-releases-i c =
 
 pub offset_bounds-deadlines-i : goal.offset_bounds-deadlines-i
 offset_bounds-deadlines-i c =
-    let at-loop
-    = c in
     let going : (c.loop-i.i < c.args.jobs) × (c.loop-i.total.0 ≤ c.args.v.0)
     = let at-loop = c in
       let a = at-loop.args in
@@ -63,8 +57,6 @@ offset_bounds-deadlines-i c =
 
 pub bounds-deadlines-i : goal.bounds-deadlines-i
 bounds-deadlines-i c =
-    let at-loop
-    = c in
     let going : (c.loop-i.i < c.args.jobs) × (c.loop-i.total.0 ≤ c.args.v.0)
     = let at-loop = c in
       let a = at-loop.args in
@@ -76,8 +68,6 @@ bounds-deadlines-i c =
 
 pub offset_bounds-grades-i : goal.offset_bounds-grades-i
 offset_bounds-grades-i c =
-    let at-loop
-    = c in
     let going : (c.loop-i.i < c.args.jobs) × (c.loop-i.total.0 ≤ c.args.v.0)
     = let at-loop = c in
       let a = at-loop.args in
@@ -89,8 +79,6 @@ offset_bounds-grades-i c =
 
 pub bounds-grades-i : goal.bounds-grades-i
 bounds-grades-i c =
-    let at-loop
-    = c in
     let going : (c.loop-i.i < c.args.jobs) × (c.loop-i.total.0 ≤ c.args.v.0)
     = let at-loop = c in
       let a = at-loop.args in
@@ -102,8 +90,6 @@ bounds-grades-i c =
 
 pub due_at-claim-requires : goal.due_at-claim-requires
 due_at-claim-requires c =
-    let at-loop
-    = c in
     let going : (c.loop-i.i < c.args.jobs) × (c.loop-i.total.0 ≤ c.args.v.0)
     = let at-loop = c in
       let a = at-loop.args in
@@ -115,15 +101,13 @@ due_at-claim-requires c =
 
 pub overflow_cast-claims : goal.overflow_cast-claims
 overflow_cast-claims c =
-    let at-loop
-    = c in
     let due : ℕ
-    = let a = (at-loop).args in
-      due_in a.slow a.spans a.sizes.now a.carried.now a.table.now (at-loop).loop.i in
+    = let a = c.args in
+      due_in a.slow a.spans a.sizes.now a.carried.now a.table.now c.loop-i.i in
     let claims : ℕ → ℕ
-    = let a = (at-loop).args in
+    = let a = c.args in
       claim_in a.clock.0 a.slow a.slow a.spans a.grades.now a.releases.now a.sizes.now a.deadlines.now a.carried.now a.table.now in
-    let claimed : (c.if-is_served.claim.0 ≡ (claims) (at-loop).loop.i) × (c.if-is_served.claim.0 ≤ unknown)
+    let claimed : (c.if-is_served.claim.0 ≡ (claims) c.loop-i.i) × (c.if-is_served.claim.0 ≤ unknown)
     = ⊎_elim
       (λ w.
       let is = ap (λ (u : Units). u.0) w.2 in
@@ -136,8 +120,6 @@ overflow_cast-claims c =
 
 pub offset_bounds-claims-i : goal.offset_bounds-claims-i
 offset_bounds-claims-i c =
-    let at-loop
-    = c in
     let going : (c.loop-i.i < c.args.jobs) × (c.loop-i.total.0 ≤ c.args.v.0)
     = let at-loop = c in
       let a = at-loop.args in
@@ -149,8 +131,6 @@ offset_bounds-claims-i c =
 
 pub bounds-claims-i : goal.bounds-claims-i
 bounds-claims-i c =
-    let at-loop
-    = c in
     let going : (c.loop-i.i < c.args.jobs) × (c.loop-i.total.0 ≤ c.args.v.0)
     = let at-loop = c in
       let a = at-loop.args in
@@ -162,20 +142,18 @@ bounds-claims-i c =
 
 pub overflow_add-total : goal.overflow_add-total
 overflow_add-total c =
-    let at-loop
-    = c in
     let going : (c.loop-i.i < c.args.jobs) × (c.loop-i.total.0 ≤ c.args.v.0)
     = let at-loop = c in
       let a = at-loop.args in
       let tests = both (ltb at-loop.loop-i.i a.jobs) (leb at-loop.loop-i.total.0 a.v.0) c.loop-i-test.true in
       (ltb-true _ _ tests.0, leb-true _ _ tests.1) in
     let due : ℕ
-    = let a = (at-loop).args in
-      due_in a.slow a.spans a.sizes.now a.carried.now a.table.now (at-loop).loop.i in
+    = let a = c.args in
+      due_in a.slow a.spans a.sizes.now a.carried.now a.table.now c.loop-i.i in
     let claims : ℕ → ℕ
-    = let a = (at-loop).args in
+    = let a = c.args in
       claim_in a.clock.0 a.slow a.slow a.spans a.grades.now a.releases.now a.sizes.now a.deadlines.now a.carried.now a.table.now in
-    let claimed : (c.if-is_served.claim.0 ≡ (claims) (at-loop).loop.i) × (c.if-is_served.claim.0 ≤ unknown)
+    let claimed : (c.if-is_served.claim.0 ≡ (claims) c.loop-i.i) × (c.if-is_served.claim.0 ≤ unknown)
     = ⊎_elim
       (λ w.
       let is = ap (λ (u : Units). u.0) w.2 in
@@ -190,8 +168,6 @@ overflow_add-total c =
 
 pub overflow_add-i : goal.overflow_add-i
 overflow_add-i c =
-    let at-loop
-    = c in
     let going : (c.loop-i.i < c.args.jobs) × (c.loop-i.total.0 ≤ c.args.v.0)
     = let at-loop = c in
       let a = at-loop.args in
@@ -203,8 +179,6 @@ overflow_add-i c =
 
 pub loop-i-smaller : goal.loop-i-smaller
 loop-i-smaller c =
-    let at-loop
-    = c in
     let going : (c.loop-i.i < c.args.jobs) × (c.loop-i.total.0 ≤ c.args.v.0)
     = let at-loop = c in
       let a = at-loop.args in
@@ -214,20 +188,18 @@ loop-i-smaller c =
 
 pub loop-i-preserved : goal.loop-i-preserved
 loop-i-preserved c =
-    let at-loop
-    = c in
     let going : (c.loop-i.i < c.args.jobs) × (c.loop-i.total.0 ≤ c.args.v.0)
     = let at-loop = c in
       let a = at-loop.args in
       let tests = both (ltb at-loop.loop-i.i a.jobs) (leb at-loop.loop-i.total.0 a.v.0) c.loop-i-test.true in
       (ltb-true _ _ tests.0, leb-true _ _ tests.1) in
     let claims : ℕ → ℕ
-    = let a = (at-loop).args in
+    = let a = c.args in
       claim_in a.clock.0 a.slow a.slow a.spans a.grades.now a.releases.now a.sizes.now a.deadlines.now a.carried.now a.table.now in
     let due : ℕ
-    = let a = (at-loop).args in
-      due_in a.slow a.spans a.sizes.now a.carried.now a.table.now (at-loop).loop.i in
-    let claimed : (c.if-is_served.claim.0 ≡ (claims) (at-loop).loop.i) × (c.if-is_served.claim.0 ≤ unknown)
+    = let a = c.args in
+      due_in a.slow a.spans a.sizes.now a.carried.now a.table.now c.loop-i.i in
+    let claimed : (c.if-is_served.claim.0 ≡ (claims) c.loop-i.i) × (c.if-is_served.claim.0 ≤ unknown)
     = ⊎_elim
       (λ w.
       let is = ap (λ (u : Units). u.0) w.2 in
@@ -238,7 +210,7 @@ loop-i-preserved c =
       c.if-is_served.branch in
     let joined = c in
     let turn = joined in
-    let loop = (at-loop).loop in (
+    let loop = (c).loop in (
       omega (arith, (going).0),
       filled_next _ loop.i _ loop.inv.1 (claimed).0,
       omega (arith, loop.inv.2, (claimed).0, sum_step (claims) loop.i),
@@ -246,10 +218,8 @@ loop-i-preserved c =
 
 pub returns : goal.returns
 returns c =
-    let at-loop
-    = c in
     let claims : ℕ → ℕ
-    = let a = (at-loop).args in
+    = let a = c.args in
       claim_in a.clock.0 a.slow a.slow a.spans a.grades.now a.releases.now a.sizes.now a.deadlines.now a.carried.now a.table.now in
     let stopped = c in
     let here = stopped in

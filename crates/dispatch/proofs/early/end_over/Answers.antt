@@ -25,215 +25,185 @@ use Rattle.dispatch.proofs.early.end_over.Goals as goal
 
 pub returns-then-not-is_sound : goal.returns-then-not-is_sound
 returns-then-not-is_sound c =
-    let entry
-    = c in
     let o : Outline
-    = (entry).args.o in
+    = c.args.o in
     let grades : List ℕ
-    = (entry).args.grades.now in
+    = c.args.grades.now in
     let releases : List ℕ
-    = (entry).args.releases.now in
+    = c.args.releases.now in
     let sizes : List ℕ
-    = (entry).args.sizes.now in
+    = c.args.sizes.now in
     let deadlines : List ℕ
-    = (entry).args.deadlines.now in
+    = c.args.deadlines.now in
     let run : Run
-    = (entry).args.run in
+    = c.args.run in
     let i : ℕ
-    = (entry).args.position in
+    = c.args.position in
     let q : Plan
     = plan_on (o) (grades) (releases) (sizes) (deadlines) in
     let tested : c.is_sound.result ≡ sound_at (q) (run).clock.0 (run).carried
     = c.is_sound.ensures ∙ ap is_sound c.readiness_of.ensures ∙ readiness_sound (q) (run).clock.0 (run).carried in
     let a = c in
-    columns.unsound_tells (o) (grades) (releases) (sizes) (deadlines) (run) (i) (sym (tested) ∙ not-true _ (ap not c.if-not-is_sound.true))
+    columns.unsound_tells (o) (grades) (releases) (sizes) (deadlines) (run) (i) (sym (tested) ∙ not-true _ (ap not (ap not c.if-not-is_sound.true)))
 
 pub returns-then-o-position : goal.returns-then-o-position
 returns-then-o-position c =
-    let entry
-    = c in
     let o : Outline
-    = (entry).args.o in
+    = c.args.o in
     let grades : List ℕ
-    = (entry).args.grades.now in
+    = c.args.grades.now in
     let releases : List ℕ
-    = (entry).args.releases.now in
+    = c.args.releases.now in
     let sizes : List ℕ
-    = (entry).args.sizes.now in
+    = c.args.sizes.now in
     let deadlines : List ℕ
-    = (entry).args.deadlines.now in
+    = c.args.deadlines.now in
     let run : Run
-    = (entry).args.run in
+    = c.args.run in
     let i : ℕ
-    = (entry).args.position in
+    = c.args.position in
     let q : Plan
     = plan_on (o) (grades) (releases) (sizes) (deadlines) in
     let tested : c.is_sound.result ≡ sound_at (q) (run).clock.0 (run).carried
     = c.is_sound.ensures ∙ ap is_sound c.readiness_of.ensures ∙ readiness_sound (q) (run).clock.0 (run).carried in
     let at-if1 = c in
     let a = at-if1 in
-    columns.uncounted_tells (o) (grades) (releases) (sizes) (deadlines) (run) (i) (sym (tested) ∙ not-false _ (ap not at-if1.if-not-is_sound.false)) c.if-o-position.true
+    columns.uncounted_tells (o) (grades) (releases) (sizes) (deadlines) (run) (i) (sym (tested) ∙ not-false _ (ap not (ap not at-if1.if-not-is_sound.false))) c.if-o-position.true
 
 pub offset_bounds-releases-position : goal.offset_bounds-releases-position
 offset_bounds-releases-position c =
-    let entry
-    = c in
     let o : Outline
-    = (entry).args.o in
+    = c.args.o in
     let grades : List ℕ
-    = (entry).args.grades.now in
+    = c.args.grades.now in
     let releases : List ℕ
-    = (entry).args.releases.now in
+    = c.args.releases.now in
     let sizes : List ℕ
-    = (entry).args.sizes.now in
+    = c.args.sizes.now in
     let deadlines : List ℕ
-    = (entry).args.deadlines.now in
+    = c.args.deadlines.now in
     let run : Run
-    = (entry).args.run in
+    = c.args.run in
     let i : ℕ
-    = (entry).args.position in
-    let at
-    = c in
+    = c.args.position in
     let q : Plan
     = plan_on (o) (grades) (releases) (sizes) (deadlines) in
     let tested : c.is_sound.result ≡ sound_at (q) (run).clock.0 (run).carried
     = c.is_sound.ensures ∙ ap is_sound c.readiness_of.ensures ∙ readiness_sound (q) (run).clock.0 (run).carried in
-    let sound : sound_at (q (at)) (run (at)).clock.0 (run (at)).carried ≡ true
-    = sym (tested (at)) ∙ not-false _ (ap not c.if-not-is_sound.false) in
-    let inside : i (at) < most_jobs
-    = has_entry (o (at)) (grades (at)) (releases (at)) (sizes (at)) (deadlines (at)) (run (at)) (i (at)) (sound) c.if-o-position.false in
+    let sound : sound_at (q) (run).clock.0 (run).carried ≡ true
+    = sym (tested) ∙ not-false _ (ap not (ap not c.if-not-is_sound.false)) in
+    let inside : i < most_jobs
+    = has_entry (o) (grades) (releases) (sizes) (deadlines) (run) (i) (sound) c.if-o-position.false in
     omega (arith, inside)
 
 pub bounds-releases-position : goal.bounds-releases-position
 bounds-releases-position c =
-    let entry
-    = c in
     let o : Outline
-    = (entry).args.o in
+    = c.args.o in
     let grades : List ℕ
-    = (entry).args.grades.now in
+    = c.args.grades.now in
     let releases : List ℕ
-    = (entry).args.releases.now in
+    = c.args.releases.now in
     let sizes : List ℕ
-    = (entry).args.sizes.now in
+    = c.args.sizes.now in
     let deadlines : List ℕ
-    = (entry).args.deadlines.now in
+    = c.args.deadlines.now in
     let run : Run
-    = (entry).args.run in
+    = c.args.run in
     let i : ℕ
-    = (entry).args.position in
-    let at
-    = c in
+    = c.args.position in
     let q : Plan
     = plan_on (o) (grades) (releases) (sizes) (deadlines) in
     let tested : c.is_sound.result ≡ sound_at (q) (run).clock.0 (run).carried
     = c.is_sound.ensures ∙ ap is_sound c.readiness_of.ensures ∙ readiness_sound (q) (run).clock.0 (run).carried in
-    let sound : sound_at (q (at)) (run (at)).clock.0 (run (at)).carried ≡ true
-    = sym (tested (at)) ∙ not-false _ (ap not c.if-not-is_sound.false) in
-    let inside : i (at) < most_jobs
-    = has_entry (o (at)) (grades (at)) (releases (at)) (sizes (at)) (deadlines (at)) (run (at)) (i (at)) (sound) c.if-o-position.false in
+    let sound : sound_at (q) (run).clock.0 (run).carried ≡ true
+    = sym (tested) ∙ not-false _ (ap not (ap not c.if-not-is_sound.false)) in
+    let inside : i < most_jobs
+    = has_entry (o) (grades) (releases) (sizes) (deadlines) (run) (i) (sound) c.if-o-position.false in
     omega (arith, inside)
 
 pub returns-then-clock-release : goal.returns-then-clock-release
 returns-then-clock-release c =
-    let entry
-    = c in
     let o : Outline
-    = (entry).args.o in
+    = c.args.o in
     let grades : List ℕ
-    = (entry).args.grades.now in
+    = c.args.grades.now in
     let releases : List ℕ
-    = (entry).args.releases.now in
+    = c.args.releases.now in
     let sizes : List ℕ
-    = (entry).args.sizes.now in
+    = c.args.sizes.now in
     let deadlines : List ℕ
-    = (entry).args.deadlines.now in
+    = c.args.deadlines.now in
     let run : Run
-    = (entry).args.run in
+    = c.args.run in
     let i : ℕ
-    = (entry).args.position in
-    let at
-    = c in
+    = c.args.position in
     let q : Plan
     = plan_on (o) (grades) (releases) (sizes) (deadlines) in
     let tested : c.is_sound.result ≡ sound_at (q) (run).clock.0 (run).carried
     = c.is_sound.ensures ∙ ap is_sound c.readiness_of.ensures ∙ readiness_sound (q) (run).clock.0 (run).carried in
-    let sound : sound_at (q (at)) (run (at)).clock.0 (run (at)).carried ≡ true
-    = sym (tested (at)) ∙ not-false _ (ap not c.if-not-is_sound.false) in
-    let within
-    = c in
-    let third : (ltb (run (at (within))).clock.0 (get_or (releases (at (within))) (i (at (within))) 0) || not c.is_open.result) ≡ (ltb (run (at (within))).clock.0 (get_or (releases (at (within))) (i (at (within))) 0) || not (is_open (outcome (q (at (within))) (run (at (within))) (i (at (within))))))
-    = ap (λ b. ltb (run (at (within))).clock.0 (get_or (releases (at (within))) (i (at (within))) 0) || not b)
-      (c.is_open.ensures ∙ ap is_open (c.outcome_over-ending.ensures (q (at (within))) (own_columns (grades (at (within))) (releases (at (within))) (sizes (at (within))) (deadlines (at (within))) (o (at (within)))))) in
+    let sound : sound_at (q) (run).clock.0 (run).carried ≡ true
+    = sym (tested) ∙ not-false _ (ap not (ap not c.if-not-is_sound.false)) in
+    let third : (ltb (run).clock.0 (get_or (releases) (i) 0) || not c.is_open.result) ≡ (ltb (run).clock.0 (get_or (releases) (i) 0) || not (is_open (outcome (q) (run) (i))))
+    = ap (λ b. ltb (run).clock.0 (get_or (releases) (i) 0) || not b)
+      (c.is_open.ensures ∙ ap is_open (c.outcome_over-ending.ensures (q) (own_columns (grades) (releases) (sizes) (deadlines) (o)))) in
     let at_open = c in
-    let w = within in
-    let a = at w in
-    columns.cannot_tells (o a) (grades a) (releases a) (sizes a) (deadlines a) (run a) (i a) (sound w) w.if2.left (sym (third) ∙ c.if-clock-release.true)
+    let w = c in
+    let a = c in
+    columns.cannot_tells (o) (grades) (releases) (sizes) (deadlines) (run) (i) (sound) w.if-o-position.left (sym (third) ∙ c.if-clock-release.true)
 
 pub bounds-after-position : goal.bounds-after-position
 bounds-after-position c =
-    let entry
-    = c in
     let o : Outline
-    = (entry).args.o in
+    = c.args.o in
     let grades : List ℕ
-    = (entry).args.grades.now in
+    = c.args.grades.now in
     let releases : List ℕ
-    = (entry).args.releases.now in
+    = c.args.releases.now in
     let sizes : List ℕ
-    = (entry).args.sizes.now in
+    = c.args.sizes.now in
     let deadlines : List ℕ
-    = (entry).args.deadlines.now in
+    = c.args.deadlines.now in
     let run : Run
-    = (entry).args.run in
+    = c.args.run in
     let i : ℕ
-    = (entry).args.position in
-    let at
-    = c in
+    = c.args.position in
     let q : Plan
     = plan_on (o) (grades) (releases) (sizes) (deadlines) in
     let tested : c.is_sound.result ≡ sound_at (q) (run).clock.0 (run).carried
     = c.is_sound.ensures ∙ ap is_sound c.readiness_of.ensures ∙ readiness_sound (q) (run).clock.0 (run).carried in
-    let sound : sound_at (q (at)) (run (at)).clock.0 (run (at)).carried ≡ true
-    = sym (tested (at)) ∙ not-false _ (ap not c.if-not-is_sound.false) in
-    let inside : i (at) < most_jobs
-    = has_entry (o (at)) (grades (at)) (releases (at)) (sizes (at)) (deadlines (at)) (run (at)) (i (at)) (sound) c.if-o-position.false in
-    let within
-    = c in
-    omega (arith, inside (within))
+    let sound : sound_at (q) (run).clock.0 (run).carried ≡ true
+    = sym (tested) ∙ not-false _ (ap not (ap not c.if-not-is_sound.false)) in
+    let inside : i < most_jobs
+    = has_entry (o) (grades) (releases) (sizes) (deadlines) (run) (i) (sound) c.if-o-position.false in
+    omega (arith, inside)
 
 pub returns : goal.returns
 returns c =
-    let entry
-    = c in
     let o : Outline
-    = (entry).args.o in
+    = c.args.o in
     let grades : List ℕ
-    = (entry).args.grades.now in
+    = c.args.grades.now in
     let releases : List ℕ
-    = (entry).args.releases.now in
+    = c.args.releases.now in
     let sizes : List ℕ
-    = (entry).args.sizes.now in
+    = c.args.sizes.now in
     let deadlines : List ℕ
-    = (entry).args.deadlines.now in
+    = c.args.deadlines.now in
     let run : Run
-    = (entry).args.run in
+    = c.args.run in
     let i : ℕ
-    = (entry).args.position in
-    let at
-    = c in
+    = c.args.position in
     let q : Plan
     = plan_on (o) (grades) (releases) (sizes) (deadlines) in
     let tested : c.is_sound.result ≡ sound_at (q) (run).clock.0 (run).carried
     = c.is_sound.ensures ∙ ap is_sound c.readiness_of.ensures ∙ readiness_sound (q) (run).clock.0 (run).carried in
-    let sound : sound_at (q (at)) (run (at)).clock.0 (run (at)).carried ≡ true
-    = sym (tested (at)) ∙ not-false _ (ap not c.if-not-is_sound.false) in
-    let within
-    = c in
-    let third : (ltb (run (at (within))).clock.0 (get_or (releases (at (within))) (i (at (within))) 0) || not c.is_open.result) ≡ (ltb (run (at (within))).clock.0 (get_or (releases (at (within))) (i (at (within))) 0) || not (is_open (outcome (q (at (within))) (run (at (within))) (i (at (within))))))
-    = ap (λ b. ltb (run (at (within))).clock.0 (get_or (releases (at (within))) (i (at (within))) 0) || not b)
-      (c.is_open.ensures ∙ ap is_open (c.outcome_over-ending.ensures (q (at (within))) (own_columns (grades (at (within))) (releases (at (within))) (sizes (at (within))) (deadlines (at (within))) (o (at (within)))))) in
+    let sound : sound_at (q) (run).clock.0 (run).carried ≡ true
+    = sym (tested) ∙ not-false _ (ap not (ap not c.if-not-is_sound.false)) in
+    let third : (ltb (run).clock.0 (get_or (releases) (i) 0) || not c.is_open.result) ≡ (ltb (run).clock.0 (get_or (releases) (i) 0) || not (is_open (outcome (q) (run) (i))))
+    = ap (λ b. ltb (run).clock.0 (get_or (releases) (i) 0) || not b)
+      (c.is_open.ensures ∙ ap is_open (c.outcome_over-ending.ensures (q) (own_columns (grades) (releases) (sizes) (deadlines) (o)))) in
     let at_open = c in
-    let w = within in
-    let a = at w in
-    columns.ends_tells (o a) (grades a) (releases a) (sizes a) (deadlines a) (run a) (i a) (sound w) w.if2.left (sym (third) ∙ c.if-clock-release.false)
+    let w = c in
+    let a = c in
+    columns.ends_tells (o) (grades) (releases) (sizes) (deadlines) (run) (i) (sound) w.if-o-position.left (sym (third) ∙ c.if-clock-release.false)

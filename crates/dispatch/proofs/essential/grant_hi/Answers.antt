@@ -26,10 +26,6 @@ loop-i-init c =
 
 pub is_of-requires : goal.is_of-requires
 is_of-requires c =
-    let turn
-    = c in
-    let at-loop
-    = (turn) in
     let going : (c.loop-i.i < c.args.jobs) × (c.loop-i.total.0 ≤ c.args.v.0)
     = let at-loop = c in
       let a = at-loop.args in
@@ -41,10 +37,6 @@ is_of-requires c =
 
 pub claim_at-due-requires : goal.claim_at-due-requires
 claim_at-due-requires c =
-    let turn
-    = c in
-    let at-loop
-    = (turn) in
     let going : (c.loop-i.i < c.args.jobs) × (c.loop-i.total.0 ≤ c.args.v.0)
     = let at-loop = c in
       let a = at-loop.args in
@@ -52,18 +44,14 @@ claim_at-due-requires c =
       (ltb-true _ _ tests.0, leb-true _ _ tests.1) in
     let below : c.loop-i.i < most_jobs
     = omega (arith, (going).0, c.requires.0) in
-    let entry
-    = (at-loop) in
     let class : ℕ → Bool
-    = class_in true (entry).args.clock.0 (entry).args.grades.now (entry).args.releases.now (entry).args.deadlines.now in
-    let hand
-    = c in
+    = class_in true c.args.clock.0 c.args.grades.now c.args.releases.now c.args.deadlines.now in
     let i : ℕ
-    = (at-loop (hand)).loop.i in
+    = c.loop-i.i in
     let tested = c in
-    let i = (at-loop).loop.i in
+    let i = (c).loop.i in
     let passes : class i ≡ true = sym tested.is_of.ensures ∙ c.if-is_of.true in
-    (below (turn), (at-loop).loop.invariant.4 i ((entry).requires.2 i (going (turn)).0 passes))
+    (below, (c).loop.invariant.4 i ((c).requires.2 i (going).0 passes))
 
 pub overflow_cast-claims : goal.overflow_cast-claims
 overflow_cast-claims c =
@@ -71,10 +59,6 @@ overflow_cast-claims c =
 
 pub offset_bounds-claims-i : goal.offset_bounds-claims-i
 offset_bounds-claims-i c =
-    let turn
-    = c in
-    let at-loop
-    = (turn) in
     let going : (c.loop-i.i < c.args.jobs) × (c.loop-i.total.0 ≤ c.args.v.0)
     = let at-loop = c in
       let a = at-loop.args in
@@ -82,14 +66,10 @@ offset_bounds-claims-i c =
       (ltb-true _ _ tests.0, leb-true _ _ tests.1) in
     let below : c.loop-i.i < most_jobs
     = omega (arith, (going).0, c.requires.0) in
-    record { fits = omega (arith, below (turn)) }
+    record { fits = omega (arith, below) }
 
 pub bounds-claims-i : goal.bounds-claims-i
 bounds-claims-i c =
-    let turn
-    = c in
-    let at-loop
-    = (turn) in
     let going : (c.loop-i.i < c.args.jobs) × (c.loop-i.total.0 ≤ c.args.v.0)
     = let at-loop = c in
       let a = at-loop.args in
@@ -97,41 +77,29 @@ bounds-claims-i c =
       (ltb-true _ _ tests.0, leb-true _ _ tests.1) in
     let below : c.loop-i.i < most_jobs
     = omega (arith, (going).0, c.requires.0) in
-    below (turn)
+    below
 
 pub overflow_cast-grants : goal.overflow_cast-grants
 overflow_cast-grants c =
-    let turn
-    = c in
-    let at-loop
-    = (turn) in
-    let entry
-    = (at-loop) in
     let dues : ℕ → ℕ
-    = due_in (entry).args.whole (entry).args.spans (entry).args.goals.now (entry).args.carried.now (entry).args.table.now in
-    let hand
-    = c in
+    = due_in c.args.whole c.args.spans c.args.goals.now c.args.carried.now c.args.table.now in
     let i : ℕ
-    = (at-loop (hand)).loop.i in
+    = c.loop-i.i in
     let class : ℕ → Bool
-    = class_in true (entry).args.clock.0 (entry).args.grades.now (entry).args.releases.now (entry).args.deadlines.now in
-    let granted : (c.if-is_of.due.0 ≡ on (class (hand) (i)) (dues (hand) (i))) × (c.if-is_of.due.0 ≤ unknown)
+    = class_in true c.args.clock.0 c.args.grades.now c.args.releases.now c.args.deadlines.now in
+    let granted : (c.if-is_of.due.0 ≡ on (class (i)) (dues (i))) × (c.if-is_of.due.0 ≤ unknown)
     = ⊎_elim
       (λ w.
       let is = ap (λ (u : Units). u.0) w.5 in
-      (is ∙ w.2.ensures.0 ∙ ap (λ b. on b (dues (hand) (i))) (sym w.0.taken ∙ (hand).is-of.ensures), omega (arith, is, w.2.ensures.1)))
+      (is ∙ w.2.ensures.0 ∙ ap (λ b. on b (dues (i))) (sym w.0.taken ∙ c.is_of.ensures), omega (arith, is, w.2.ensures.1)))
       (λ w.
       let is = ap (λ (u : Units). u.0) w.2 in
-      (is ∙ ap (λ b. on b (dues (hand) (i))) (sym w.0.left ∙ (hand).is-of.ensures), omega (arith, is)))
+      (is ∙ ap (λ b. on b (dues (i))) (sym w.0.left ∙ c.is_of.ensures), omega (arith, is)))
       c.if-is_of.branch in
     record { fits = omega (arith, (granted).1) }
 
 pub offset_bounds-grants-i : goal.offset_bounds-grants-i
 offset_bounds-grants-i c =
-    let turn
-    = c in
-    let at-loop
-    = (turn) in
     let going : (c.loop-i.i < c.args.jobs) × (c.loop-i.total.0 ≤ c.args.v.0)
     = let at-loop = c in
       let a = at-loop.args in
@@ -139,44 +107,30 @@ offset_bounds-grants-i c =
       (ltb-true _ _ tests.0, leb-true _ _ tests.1) in
     let below : c.loop-i.i < most_jobs
     = omega (arith, (going).0, c.requires.0) in
-    let hand
-    = c in
-    record { fits = omega (arith, below (turn (hand))) }
+    record { fits = omega (arith, below) }
 
 pub bounds-grants-i : goal.bounds-grants-i
 bounds-grants-i c =
-    let turn
-    = c in
-    let at-loop
-    = (turn) in
     let going : (c.loop-i.i < c.args.jobs) × (c.loop-i.total.0 ≤ c.args.v.0)
     = let at-loop = c in
       let a = at-loop.args in
       let tests = both (ltb at-loop.loop-i.i a.jobs) (leb at-loop.loop-i.total.0 a.v.0) c.loop-i-test.true in
       (ltb-true _ _ tests.0, leb-true _ _ tests.1) in
-    let entry
-    = (at-loop) in
     let class : ℕ → Bool
-    = class_in true (entry).args.clock.0 (entry).args.grades.now (entry).args.releases.now (entry).args.deadlines.now in
+    = class_in true c.args.clock.0 c.args.grades.now c.args.releases.now c.args.deadlines.now in
     let dues : ℕ → ℕ
-    = due_in (entry).args.whole (entry).args.spans (entry).args.goals.now (entry).args.carried.now (entry).args.table.now in
-    let hand
-    = c in
-    let here = hand in
+    = due_in c.args.whole c.args.spans c.args.goals.now c.args.carried.now c.args.table.now in
+    let here = c in
     omega (
       arith,
-      (going (turn here)).0,
-      (entry here).pre.1,
-      ap length (at-loop here).loop.inv.1,
-      filled_length (λ k. on (class here k) (dues here k)) (at-loop here).loop.i (entry here).args.grants.now,
+      (going).0,
+      (c).pre.1,
+      ap length (c).loop.inv.1,
+      filled_length (λ k. on (class k) (dues k)) (c).loop.i (c).args.grants.now,
     )
 
 pub overflow_add-total : goal.overflow_add-total
 overflow_add-total c =
-    let turn
-    = c in
-    let at-loop
-    = (turn) in
     let going : (c.loop-i.i < c.args.jobs) × (c.loop-i.total.0 ≤ c.args.v.0)
     = let at-loop = c in
       let a = at-loop.args in
@@ -184,34 +138,26 @@ overflow_add-total c =
       (ltb-true _ _ tests.0, leb-true _ _ tests.1) in
     let below : c.loop-i.i < most_jobs
     = omega (arith, (going).0, c.requires.0) in
-    let hand
-    = c in
-    let entry
-    = (at-loop) in
     let dues : ℕ → ℕ
-    = due_in (entry).args.whole (entry).args.spans (entry).args.goals.now (entry).args.carried.now (entry).args.table.now in
+    = due_in c.args.whole c.args.spans c.args.goals.now c.args.carried.now c.args.table.now in
     let i : ℕ
-    = (at-loop (hand)).loop.i in
+    = c.loop-i.i in
     let class : ℕ → Bool
-    = class_in true (entry).args.clock.0 (entry).args.grades.now (entry).args.releases.now (entry).args.deadlines.now in
-    let granted : (c.if-is_of.due.0 ≡ on (class (hand) (i)) (dues (hand) (i))) × (c.if-is_of.due.0 ≤ unknown)
+    = class_in true c.args.clock.0 c.args.grades.now c.args.releases.now c.args.deadlines.now in
+    let granted : (c.if-is_of.due.0 ≡ on (class (i)) (dues (i))) × (c.if-is_of.due.0 ≤ unknown)
     = ⊎_elim
       (λ w.
       let is = ap (λ (u : Units). u.0) w.5 in
-      (is ∙ w.2.ensures.0 ∙ ap (λ b. on b (dues (hand) (i))) (sym w.0.taken ∙ (hand).is-of.ensures), omega (arith, is, w.2.ensures.1)))
+      (is ∙ w.2.ensures.0 ∙ ap (λ b. on b (dues (i))) (sym w.0.taken ∙ c.is_of.ensures), omega (arith, is, w.2.ensures.1)))
       (λ w.
       let is = ap (λ (u : Units). u.0) w.2 in
-      (is ∙ ap (λ b. on b (dues (hand) (i))) (sym w.0.left ∙ (hand).is-of.ensures), omega (arith, is)))
+      (is ∙ ap (λ b. on b (dues (i))) (sym w.0.left ∙ c.is_of.ensures), omega (arith, is)))
       c.if-is_of.branch in
     let joined = c in
-    omega (arith, (granted).1, (at-loop (hand)).loop.inv.3, below (turn (hand)))
+    omega (arith, (granted).1, c.loop-i.inv.3, below)
 
 pub overflow_add-i : goal.overflow_add-i
 overflow_add-i c =
-    let turn
-    = c in
-    let at-loop
-    = (turn) in
     let going : (c.loop-i.i < c.args.jobs) × (c.loop-i.total.0 ≤ c.args.v.0)
     = let at-loop = c in
       let a = at-loop.args in
@@ -219,67 +165,51 @@ overflow_add-i c =
       (ltb-true _ _ tests.0, leb-true _ _ tests.1) in
     let below : c.loop-i.i < most_jobs
     = omega (arith, (going).0, c.requires.0) in
-    let hand
-    = c in
-    omega (arith, below (turn (hand)))
+    omega (arith, below)
 
 pub loop-i-smaller : goal.loop-i-smaller
 loop-i-smaller c =
-    let turn
-    = c in
-    let at-loop
-    = (turn) in
     let going : (c.loop-i.i < c.args.jobs) × (c.loop-i.total.0 ≤ c.args.v.0)
     = let at-loop = c in
       let a = at-loop.args in
       let tests = both (ltb at-loop.loop-i.i a.jobs) (leb at-loop.loop-i.total.0 a.v.0) c.loop-i-test.true in
       (ltb-true _ _ tests.0, leb-true _ _ tests.1) in
-    let hand
-    = c in
-    omega (arith, (going (turn (hand))).0)
+    omega (arith, (going).0)
 
 pub loop-i-preserved : goal.loop-i-preserved
 loop-i-preserved c =
-    let turn
-    = c in
-    let at-loop
-    = (turn) in
     let going : (c.loop-i.i < c.args.jobs) × (c.loop-i.total.0 ≤ c.args.v.0)
     = let at-loop = c in
       let a = at-loop.args in
       let tests = both (ltb at-loop.loop-i.i a.jobs) (leb at-loop.loop-i.total.0 a.v.0) c.loop-i-test.true in
       (ltb-true _ _ tests.0, leb-true _ _ tests.1) in
-    let entry
-    = (at-loop) in
     let class : ℕ → Bool
-    = class_in true (entry).args.clock.0 (entry).args.grades.now (entry).args.releases.now (entry).args.deadlines.now in
+    = class_in true c.args.clock.0 c.args.grades.now c.args.releases.now c.args.deadlines.now in
     let dues : ℕ → ℕ
-    = due_in (entry).args.whole (entry).args.spans (entry).args.goals.now (entry).args.carried.now (entry).args.table.now in
-    let hand
-    = c in
+    = due_in c.args.whole c.args.spans c.args.goals.now c.args.carried.now c.args.table.now in
     let i : ℕ
-    = (at-loop (hand)).loop.i in
-    let granted : (c.if-is_of.due.0 ≡ on (class (hand) (i)) (dues (hand) (i))) × (c.if-is_of.due.0 ≤ unknown)
+    = c.loop-i.i in
+    let granted : (c.if-is_of.due.0 ≡ on (class (i)) (dues (i))) × (c.if-is_of.due.0 ≤ unknown)
     = ⊎_elim
       (λ w.
       let is = ap (λ (u : Units). u.0) w.5 in
-      (is ∙ w.2.ensures.0 ∙ ap (λ b. on b (dues (hand) (i))) (sym w.0.taken ∙ (hand).is-of.ensures), omega (arith, is, w.2.ensures.1)))
+      (is ∙ w.2.ensures.0 ∙ ap (λ b. on b (dues (i))) (sym w.0.taken ∙ c.is_of.ensures), omega (arith, is, w.2.ensures.1)))
       (λ w.
       let is = ap (λ (u : Units). u.0) w.2 in
-      (is ∙ ap (λ b. on b (dues (hand) (i))) (sym w.0.left ∙ (hand).is-of.ensures), omega (arith, is)))
+      (is ∙ ap (λ b. on b (dues (i))) (sym w.0.left ∙ c.is_of.ensures), omega (arith, is)))
       c.if-is_of.branch in
-    let right : (k : ℕ) → KnownDue (entry (hand)).args.claims.now (dues (hand)) k → KnownDue c.if-is_of.claims (dues (hand)) k
-    = λ k was. let now = (at-loop (hand)).loop.inv.4 k was in
+    let right : (k : ℕ) → KnownDue c.args.claims.now (dues) k → KnownDue c.if-is_of.claims (dues) k
+    = λ k was. let now = c.loop-i.inv.4 k was in
       ⊎_elim
-      (λ w. same_known (dues (hand)) k w.4 (noted (dues (hand)) (at-loop (hand)).loop.claims (i) _ k w.2.ensures.0 now))
-      (λ w. same_known (dues (hand)) k w.1 now)
+      (λ w. same_known (dues) k w.4 (noted (dues) c.loop-i.claims (i) _ k w.2.ensures.0 now))
+      (λ w. same_known (dues) k w.1 now)
       c.if-is_of.branch in
     let joined = c in
-    let here = hand in
-    let loop = (at-loop here).loop in (
-      omega (arith, (going (turn here)).0),
+    let here = c in
+    let loop = (c).loop in (
+      omega (arith, (going).0),
       filled_next _ loop.i _ loop.inv.1 (granted).0,
-      omega (arith, loop.inv.2, (granted).0, sum_step (λ k. on (class here k) (dues here k)) loop.i),
+      omega (arith, loop.inv.2, (granted).0, sum_step (λ k. on (class k) (dues k)) loop.i),
       omega (arith, loop.inv.3, (granted).1),
       right,
     )

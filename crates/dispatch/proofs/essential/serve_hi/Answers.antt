@@ -20,134 +20,148 @@ use Rattle.dispatch.proofs.essential.serve_hi.Goals as goal
 
 pub grant_hi-total-requires : goal.grant_hi-total-requires
 grant_hi-total-requires c =
-    let entry
-    = c in
     let entry = c in
     (entry.requires.0, entry.requires.2, entry.requires.4)
 
 pub returns-then-total-v : goal.returns-then-total-v
 returns-then-total-v c =
-    let entry
-    = c in
+    let class : ℕ → Bool
+    = class_in true c.args.clock.0 c.args.grades.now c.args.releases.now c.args.deadlines.now in
+    let rank : ℕ → ℕ
+    = rank_in c.args.grades.now c.args.deadlines.now in
+    let dues : ℕ → ℕ
+    = due_in c.args.whole c.args.spans c.args.goals.now c.args.carried.now c.args.table.now in
     let at-grant-hi = c in
     let entry = at-grant-hi in
     let a = entry.args in
     let served =
-    granted_served (class entry) (rank entry) (dues entry) a.v.0 a.jobs a.grants.now entry.requires.2 at-grant-hi.grant_hi-total.ensures.0
+    granted_served (class) (rank) (dues) a.v.0 a.jobs a.grants.now entry.requires.2 at-grant-hi.grant_hi-total.ensures.0
     c.if-total-v.true in
     (served.0, ap (λ s. a.v.0 - s) served.1, refl, at-grant-hi.grant_hi-total.ensures.1)
 
 pub clear_grants-requires : goal.clear_grants-requires
 clear_grants-requires c =
-    let entry
-    = c in
-    let joined
-    = c in
-    let cleared : c.clear_grants.new.grants ≡ blank (entry (joined))
-    = c.clear_grants.ensures ∙ (as_before (joined)).0 in
-    let as_before : (filled (λ k. 0) (entry).args.jobs c.if-slow-claims.grants ≡ blank (entry)) × (length c.if-slow-claims.grants ≡ length (entry).args.grants.now)
+    let class : ℕ → Bool
+    = class_in true c.args.clock.0 c.args.grades.now c.args.releases.now c.args.deadlines.now in
+    let dues : ℕ → ℕ
+    = due_in c.args.whole c.args.spans c.args.goals.now c.args.carried.now c.args.table.now in
+    let blank : List ℕ
+    = filled (λ k. 0) c.args.jobs c.args.grants.now in
+    let cleared : c.clear_grants.new.grants ≡ blank
+    = c.clear_grants.ensures ∙ (as_before).0 in
+    let as_before : (filled (λ k. 0) c.args.jobs c.if-slow-claims.grants ≡ blank) × (length c.if-slow-claims.grants ≡ length c.args.grants.now)
     = ⊎_elim
       (λ w.
       let cleared =
-      granted_cleared (λ k. on (class (entry) k) (dues (entry) k)) (entry).args.v.0 (entry).args.jobs (entry).args.grants.now w.3.ensures.0 in
-      (ap (filled (λ k. 0) (entry).args.jobs) w.10 ∙ cleared.0, ap length w.10 ∙ cleared.1))
-      (λ w. (ap (filled (λ k. 0) (entry).args.jobs) w.2, ap length w.2))
+      granted_cleared (λ k. on (class k) (dues k)) c.args.v.0 c.args.jobs c.args.grants.now w.3.ensures.0 in
+      (ap (filled (λ k. 0) c.args.jobs) w.10 ∙ cleared.0, ap length w.10 ∙ cleared.1))
+      (λ w. (ap (filled (λ k. 0) c.args.jobs) w.2, ap length w.2))
       c.if-slow-claims.branch in
-    omega (arith, (as_before).1, (entry).pre.2)
+    omega (arith, (as_before).1, c.requires.2)
 
 pub serve_gathered-requires : goal.serve_gathered-requires
 serve_gathered-requires c =
-    let entry
-    = c in
-    let right : (k : ℕ) → KnownDue (entry).args.claims.now (dues (entry)) k → KnownDue c.if-slow-claims.claims (dues (entry)) k
+    let dues : ℕ → ℕ
+    = due_in c.args.whole c.args.spans c.args.goals.now c.args.carried.now c.args.table.now in
+    let right : (k : ℕ) → KnownDue c.args.claims.now (dues) k → KnownDue c.if-slow-claims.claims (dues) k
     = λ k. ⊎_elim
-      (λ w known. same_known (dues (entry)) k w.9 (w.3.ensures.1 k known))
-      (λ w known. same_known (dues (entry)) k w.1 known)
+      (λ w known. same_known (dues) k w.9 (w.3.ensures.1 k known))
+      (λ w known. same_known (dues) k w.1 known)
       c.if-slow-claims.branch in
-    let joined
-    = c in
-    let as_before : (filled (λ k. 0) (entry).args.jobs c.if-slow-claims.grants ≡ blank (entry)) × (length c.if-slow-claims.grants ≡ length (entry).args.grants.now)
+    let class : ℕ → Bool
+    = class_in true c.args.clock.0 c.args.grades.now c.args.releases.now c.args.deadlines.now in
+    let blank : List ℕ
+    = filled (λ k. 0) c.args.jobs c.args.grants.now in
+    let as_before : (filled (λ k. 0) c.args.jobs c.if-slow-claims.grants ≡ blank) × (length c.if-slow-claims.grants ≡ length c.args.grants.now)
     = ⊎_elim
       (λ w.
       let cleared =
-      granted_cleared (λ k. on (class (entry) k) (dues (entry) k)) (entry).args.v.0 (entry).args.jobs (entry).args.grants.now w.3.ensures.0 in
-      (ap (filled (λ k. 0) (entry).args.jobs) w.10 ∙ cleared.0, ap length w.10 ∙ cleared.1))
-      (λ w. (ap (filled (λ k. 0) (entry).args.jobs) w.2, ap length w.2))
+      granted_cleared (λ k. on (class k) (dues k)) c.args.v.0 c.args.jobs c.args.grants.now w.3.ensures.0 in
+      (ap (filled (λ k. 0) c.args.jobs) w.10 ∙ cleared.0, ap length w.10 ∙ cleared.1))
+      (λ w. (ap (filled (λ k. 0) c.args.jobs) w.2, ap length w.2))
       c.if-slow-claims.branch in
-    let cleared : c.clear_grants.new.grants ≡ blank (entry (joined))
-    = c.clear_grants.ensures ∙ (as_before (joined)).0 in
+    let cleared : c.clear_grants.new.grants ≡ blank
+    = c.clear_grants.ensures ∙ (as_before).0 in
     let at-gather = c in
-    let start = joined in
-    let pre = (entry start).pre in
-    let a = (entry start).args in
+    let start = c in
+    let pre = (c).pre in
+    let a = (c).args in
     let g = at-gather.gather-count.ensures.1 in (
       omega (arith, g.few, pre.0),
       omega (arith, g.few, pre.1, at-gather.gather-count.ensures.0),
       λ k h. omega (arith, g.from k h, pre.2, ap length (cleared), filled_length (λ k. 0) a.jobs a.grants.now),
       λ k h.
           let i = get_or at-gather.gather-count.new.ranks k 0 % most_jobs in
-          right start i (pre.4 i (g.from k h) (g.passes k h)),
+          right i (pre.4 i (g.from k h) (g.passes k h)),
     )
 
 pub shape_of-grants : goal.shape_of-grants
 shape_of-grants c =
-    let entry
-    = c in
-    let joined
-    = c in
-    let as_before : (filled (λ k. 0) (entry).args.jobs c.if-slow-claims.grants ≡ blank (entry)) × (length c.if-slow-claims.grants ≡ length (entry).args.grants.now)
+    let class : ℕ → Bool
+    = class_in true c.args.clock.0 c.args.grades.now c.args.releases.now c.args.deadlines.now in
+    let rank : ℕ → ℕ
+    = rank_in c.args.grades.now c.args.deadlines.now in
+    let dues : ℕ → ℕ
+    = due_in c.args.whole c.args.spans c.args.goals.now c.args.carried.now c.args.table.now in
+    let blank : List ℕ
+    = filled (λ k. 0) c.args.jobs c.args.grants.now in
+    let as_before : (filled (λ k. 0) c.args.jobs c.if-slow-claims.grants ≡ blank) × (length c.if-slow-claims.grants ≡ length c.args.grants.now)
     = ⊎_elim
       (λ w.
       let cleared =
-      granted_cleared (λ k. on (class (entry) k) (dues (entry) k)) (entry).args.v.0 (entry).args.jobs (entry).args.grants.now w.3.ensures.0 in
-      (ap (filled (λ k. 0) (entry).args.jobs) w.10 ∙ cleared.0, ap length w.10 ∙ cleared.1))
-      (λ w. (ap (filled (λ k. 0) (entry).args.jobs) w.2, ap length w.2))
+      granted_cleared (λ k. on (class k) (dues k)) c.args.v.0 c.args.jobs c.args.grants.now w.3.ensures.0 in
+      (ap (filled (λ k. 0) c.args.jobs) w.10 ∙ cleared.0, ap length w.10 ∙ cleared.1))
+      (λ w. (ap (filled (λ k. 0) c.args.jobs) w.2, ap length w.2))
       c.if-slow-claims.branch in
-    let cleared : c.clear_grants.new.grants ≡ blank (entry (joined))
-    = c.clear_grants.ensures ∙ (as_before (joined)).0 in
-    let none : (k : ℕ) → k < (entry (joined)).args.jobs → get_or (blank (entry (joined))) k 0 ≡ 0
-    = λ k h. filled_at (λ k. 0) (entry (joined)).args.jobs (entry (joined)).args.grants.now k (omega (arith, (entry (joined)).pre.2)) h in
-    let had : (c.serve_gathered.new.grants ≡ serve (dues (entry (joined))) (entry (joined)).args.v.0 (queue (class (entry (joined))) (rank (entry (joined))) (entry (joined)).args.jobs) (blank (entry (joined)))) × (c.serve_gathered.result.0 ≡ (entry (joined)).args.v.0 - sum (λ k. on (class (entry (joined)) k) (dues (entry (joined)) k)) (entry (joined)).args.jobs)
+    let cleared : c.clear_grants.new.grants ≡ blank
+    = c.clear_grants.ensures ∙ (as_before).0 in
+    let none : (k : ℕ) → k < (c).args.jobs → get_or (blank) k 0 ≡ 0
+    = λ k h. filled_at (λ k. 0) (c).args.jobs (c).args.grants.now k (omega (arith, (c).pre.2)) h in
+    let had : (c.serve_gathered.new.grants ≡ serve (dues) (c).args.v.0 (queue (class) (rank) (c).args.jobs) (blank)) × (c.serve_gathered.result.0 ≡ (c).args.v.0 - sum (λ k. on (class k) (dues k)) (c).args.jobs)
     = let at-gather = c in
-      let start = entry (joined) in
+      let start = c in
       let a = start.args in
       let told =
-      c.serve_gathered.ensures.1 (class start) (rank start) a.jobs at-gather.gather-count.ensures.1
+      c.serve_gathered.ensures.1 (class) (rank) a.jobs at-gather.gather-count.ensures.1
       (λ k h e. ap (λ row. get_or row k 0) (cleared) ∙ none k h) in
-      (told.0 ∙ ap (serve (dues start) a.v.0 (queue (class start) (rank start) a.jobs)) (cleared), told.1) in
+      (told.0 ∙ ap (serve (dues) a.v.0 (queue (class) (rank) a.jobs)) (cleared), told.1) in
     ap length (had).0 ∙ serve_length _ _ _ _ ∙ filled_length _ _ _
 
 pub returns : goal.returns
 returns c =
-    let entry
-    = c in
-    let right : (k : ℕ) → KnownDue (entry).args.claims.now (dues (entry)) k → KnownDue c.if-slow-claims.claims (dues (entry)) k
+    let dues : ℕ → ℕ
+    = due_in c.args.whole c.args.spans c.args.goals.now c.args.carried.now c.args.table.now in
+    let right : (k : ℕ) → KnownDue c.args.claims.now (dues) k → KnownDue c.if-slow-claims.claims (dues) k
     = λ k. ⊎_elim
-      (λ w known. same_known (dues (entry)) k w.9 (w.3.ensures.1 k known))
-      (λ w known. same_known (dues (entry)) k w.1 known)
+      (λ w known. same_known (dues) k w.9 (w.3.ensures.1 k known))
+      (λ w known. same_known (dues) k w.1 known)
       c.if-slow-claims.branch in
-    let joined
-    = c in
-    let as_before : (filled (λ k. 0) (entry).args.jobs c.if-slow-claims.grants ≡ blank (entry)) × (length c.if-slow-claims.grants ≡ length (entry).args.grants.now)
+    let class : ℕ → Bool
+    = class_in true c.args.clock.0 c.args.grades.now c.args.releases.now c.args.deadlines.now in
+    let rank : ℕ → ℕ
+    = rank_in c.args.grades.now c.args.deadlines.now in
+    let blank : List ℕ
+    = filled (λ k. 0) c.args.jobs c.args.grants.now in
+    let as_before : (filled (λ k. 0) c.args.jobs c.if-slow-claims.grants ≡ blank) × (length c.if-slow-claims.grants ≡ length c.args.grants.now)
     = ⊎_elim
       (λ w.
       let cleared =
-      granted_cleared (λ k. on (class (entry) k) (dues (entry) k)) (entry).args.v.0 (entry).args.jobs (entry).args.grants.now w.3.ensures.0 in
-      (ap (filled (λ k. 0) (entry).args.jobs) w.10 ∙ cleared.0, ap length w.10 ∙ cleared.1))
-      (λ w. (ap (filled (λ k. 0) (entry).args.jobs) w.2, ap length w.2))
+      granted_cleared (λ k. on (class k) (dues k)) c.args.v.0 c.args.jobs c.args.grants.now w.3.ensures.0 in
+      (ap (filled (λ k. 0) c.args.jobs) w.10 ∙ cleared.0, ap length w.10 ∙ cleared.1))
+      (λ w. (ap (filled (λ k. 0) c.args.jobs) w.2, ap length w.2))
       c.if-slow-claims.branch in
-    let cleared : c.clear_grants.new.grants ≡ blank (entry (joined))
-    = c.clear_grants.ensures ∙ (as_before (joined)).0 in
-    let none : (k : ℕ) → k < (entry (joined)).args.jobs → get_or (blank (entry (joined))) k 0 ≡ 0
-    = λ k h. filled_at (λ k. 0) (entry (joined)).args.jobs (entry (joined)).args.grants.now k (omega (arith, (entry (joined)).pre.2)) h in
-    let had : (c.serve_gathered.new.grants ≡ serve (dues (entry (joined))) (entry (joined)).args.v.0 (queue (class (entry (joined))) (rank (entry (joined))) (entry (joined)).args.jobs) (blank (entry (joined)))) × (c.serve_gathered.result.0 ≡ (entry (joined)).args.v.0 - sum (λ k. on (class (entry (joined)) k) (dues (entry (joined)) k)) (entry (joined)).args.jobs)
+    let cleared : c.clear_grants.new.grants ≡ blank
+    = c.clear_grants.ensures ∙ (as_before).0 in
+    let none : (k : ℕ) → k < (c).args.jobs → get_or (blank) k 0 ≡ 0
+    = λ k h. filled_at (λ k. 0) (c).args.jobs (c).args.grants.now k (omega (arith, (c).pre.2)) h in
+    let had : (c.serve_gathered.new.grants ≡ serve (dues) (c).args.v.0 (queue (class) (rank) (c).args.jobs) (blank)) × (c.serve_gathered.result.0 ≡ (c).args.v.0 - sum (λ k. on (class k) (dues k)) (c).args.jobs)
     = let at-gather = c in
-      let start = entry (joined) in
+      let start = c in
       let a = start.args in
       let told =
-      c.serve_gathered.ensures.1 (class start) (rank start) a.jobs at-gather.gather-count.ensures.1
+      c.serve_gathered.ensures.1 (class) (rank) a.jobs at-gather.gather-count.ensures.1
       (λ k h e. ap (λ row. get_or row k 0) (cleared) ∙ none k h) in
-      (told.0 ∙ ap (serve (dues start) a.v.0 (queue (class start) (rank start) a.jobs)) (cleared), told.1) in
+      (told.0 ∙ ap (serve (dues) a.v.0 (queue (class) (rank) a.jobs)) (cleared), told.1) in
     let at-serve = c in
     let at-gather = at-serve in
-    ((had).0, (had).1, at-serve.serve_gathered.ensures.0 ∙ at-gather.gather-count.ensures.0, right (joined))
+    ((had).0, (had).1, at-serve.serve_gathered.ensures.0 ∙ at-gather.gather-count.ensures.0, right)

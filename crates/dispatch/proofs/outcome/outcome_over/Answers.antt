@@ -19,321 +19,209 @@ use Rattle.dispatch.proofs.outcome.outcome_over.Goals as goal
 
 pub returns-then-not-is_sound : goal.returns-then-not-is_sound
 returns-then-not-is_sound c =
-    let entry
-    = c in
-    let tested : c.is_sound.result ≡ sound_at (plan_on (entry).args.o (entry).args.grades.now (entry).args.releases.now (entry).args.sizes.now (entry).args.deadlines.now) (entry).args.run.clock.0 (entry).args.run.carried
+    let tested : c.is_sound.result ≡ sound_at (plan_on c.args.o c.args.grades.now c.args.releases.now c.args.sizes.now c.args.deadlines.now) c.args.run.clock.0 c.args.run.carried
     = c.is_sound.ensures ∙ ap is_sound c.readiness_of.ensures
-      ∙ readiness_sound (plan_on (entry).args.o (entry).args.grades.now (entry).args.releases.now (entry).args.sizes.now (entry).args.deadlines.now) (entry).args.run.clock.0 (entry).args.run.carried in
-    let e = (entry).args in
-    columns.unsound_ends e.o e.grades.now e.releases.now e.sizes.now e.deadlines.now e.run e.position (sym (tested) ∙ not-true _ (ap not c.if-not-is_sound.true))
+      ∙ readiness_sound (plan_on c.args.o c.args.grades.now c.args.releases.now c.args.sizes.now c.args.deadlines.now) c.args.run.clock.0 c.args.run.carried in
+    let e = c.args in
+    columns.unsound_ends e.o e.grades.now e.releases.now e.sizes.now e.deadlines.now e.run e.position (sym (tested) ∙ not-true _ (ap not (ap not c.if-not-is_sound.true)))
 
 pub returns-then-o-position : goal.returns-then-o-position
 returns-then-o-position c =
-    let entry
-    = c in
-    let tested : c.is_sound.result ≡ sound_at (plan_on (entry).args.o (entry).args.grades.now (entry).args.releases.now (entry).args.sizes.now (entry).args.deadlines.now) (entry).args.run.clock.0 (entry).args.run.carried
+    let tested : c.is_sound.result ≡ sound_at (plan_on c.args.o c.args.grades.now c.args.releases.now c.args.sizes.now c.args.deadlines.now) c.args.run.clock.0 c.args.run.carried
     = c.is_sound.ensures ∙ ap is_sound c.readiness_of.ensures
-      ∙ readiness_sound (plan_on (entry).args.o (entry).args.grades.now (entry).args.releases.now (entry).args.sizes.now (entry).args.deadlines.now) (entry).args.run.clock.0 (entry).args.run.carried in
+      ∙ readiness_sound (plan_on c.args.o c.args.grades.now c.args.releases.now c.args.sizes.now c.args.deadlines.now) c.args.run.clock.0 c.args.run.carried in
     let at-if1 = c in
-    let e = (entry).args in
-    columns.uncounted_ends e.o e.grades.now e.releases.now e.sizes.now e.deadlines.now e.run e.position (sym (tested) ∙ not-false _ (ap not at-if1.if-not-is_sound.false)) c.if-o-position.true
+    let e = (c).args in
+    columns.uncounted_ends e.o e.grades.now e.releases.now e.sizes.now e.deadlines.now e.run e.position (sym (tested) ∙ not-false _ (ap not (ap not at-if1.if-not-is_sound.false))) c.if-o-position.true
 
 pub offset_bounds-carried-position : goal.offset_bounds-carried-position
 offset_bounds-carried-position c =
-    let entry
-    = c in
-    let at
-    = c in
-    let tested : c.is_sound.result ≡ sound_at (plan_on (entry).args.o (entry).args.grades.now (entry).args.releases.now (entry).args.sizes.now (entry).args.deadlines.now) (entry).args.run.clock.0 (entry).args.run.carried
+    let tested : c.is_sound.result ≡ sound_at (plan_on c.args.o c.args.grades.now c.args.releases.now c.args.sizes.now c.args.deadlines.now) c.args.run.clock.0 c.args.run.carried
     = c.is_sound.ensures ∙ ap is_sound c.readiness_of.ensures
-      ∙ readiness_sound (plan_on (entry).args.o (entry).args.grades.now (entry).args.releases.now (entry).args.sizes.now (entry).args.deadlines.now) (entry).args.run.clock.0 (entry).args.run.carried in
-    let sound : columns.Sound (entry (at)).args.o (entry (at)).args.grades.now (entry (at)).args.releases.now (entry (at)).args.sizes.now (entry (at)).args.deadlines.now (entry (at)).args.run (entry (at)).args.position
-    = sym (tested (at)) ∙ not-false _ (ap not c.if-not-is_sound.false) in
-    let has_entry : (entry (at)).args.position < most_jobs
-    = columns.has_entry (entry (at)).args.o (entry (at)).args.grades.now (entry (at)).args.releases.now (entry (at)).args.sizes.now (entry (at)).args.deadlines.now (entry (at)).args.run (entry (at)).args.position (sound) c.if-o-position.false in
+      ∙ readiness_sound (plan_on c.args.o c.args.grades.now c.args.releases.now c.args.sizes.now c.args.deadlines.now) c.args.run.clock.0 c.args.run.carried in
+    let sound : columns.Sound (c).args.o (c).args.grades.now (c).args.releases.now (c).args.sizes.now (c).args.deadlines.now (c).args.run (c).args.position
+    = sym (tested) ∙ not-false _ (ap not (ap not c.if-not-is_sound.false)) in
+    let has_entry : (c).args.position < most_jobs
+    = columns.has_entry (c).args.o (c).args.grades.now (c).args.releases.now (c).args.sizes.now (c).args.deadlines.now (c).args.run (c).args.position (sound) c.if-o-position.false in
     omega (arith, has_entry)
 
 pub bounds-carried-position : goal.bounds-carried-position
 bounds-carried-position c =
-    let entry
-    = c in
-    let at
-    = c in
-    let tested : c.is_sound.result ≡ sound_at (plan_on (entry).args.o (entry).args.grades.now (entry).args.releases.now (entry).args.sizes.now (entry).args.deadlines.now) (entry).args.run.clock.0 (entry).args.run.carried
+    let tested : c.is_sound.result ≡ sound_at (plan_on c.args.o c.args.grades.now c.args.releases.now c.args.sizes.now c.args.deadlines.now) c.args.run.clock.0 c.args.run.carried
     = c.is_sound.ensures ∙ ap is_sound c.readiness_of.ensures
-      ∙ readiness_sound (plan_on (entry).args.o (entry).args.grades.now (entry).args.releases.now (entry).args.sizes.now (entry).args.deadlines.now) (entry).args.run.clock.0 (entry).args.run.carried in
-    let sound : columns.Sound (entry (at)).args.o (entry (at)).args.grades.now (entry (at)).args.releases.now (entry (at)).args.sizes.now (entry (at)).args.deadlines.now (entry (at)).args.run (entry (at)).args.position
-    = sym (tested (at)) ∙ not-false _ (ap not c.if-not-is_sound.false) in
-    let has_entry : (entry (at)).args.position < most_jobs
-    = columns.has_entry (entry (at)).args.o (entry (at)).args.grades.now (entry (at)).args.releases.now (entry (at)).args.sizes.now (entry (at)).args.deadlines.now (entry (at)).args.run (entry (at)).args.position (sound) c.if-o-position.false in
+      ∙ readiness_sound (plan_on c.args.o c.args.grades.now c.args.releases.now c.args.sizes.now c.args.deadlines.now) c.args.run.clock.0 c.args.run.carried in
+    let sound : columns.Sound (c).args.o (c).args.grades.now (c).args.releases.now (c).args.sizes.now (c).args.deadlines.now (c).args.run (c).args.position
+    = sym (tested) ∙ not-false _ (ap not (ap not c.if-not-is_sound.false)) in
+    let has_entry : (c).args.position < most_jobs
+    = columns.has_entry (c).args.o (c).args.grades.now (c).args.releases.now (c).args.sizes.now (c).args.deadlines.now (c).args.run (c).args.position (sound) c.if-o-position.false in
     omega (arith, has_entry)
 
 pub offset_bounds-sizes-position : goal.offset_bounds-sizes-position
 offset_bounds-sizes-position c =
-    let entry
-    = c in
-    let at
-    = c in
-    let tested : c.is_sound.result ≡ sound_at (plan_on (entry).args.o (entry).args.grades.now (entry).args.releases.now (entry).args.sizes.now (entry).args.deadlines.now) (entry).args.run.clock.0 (entry).args.run.carried
+    let tested : c.is_sound.result ≡ sound_at (plan_on c.args.o c.args.grades.now c.args.releases.now c.args.sizes.now c.args.deadlines.now) c.args.run.clock.0 c.args.run.carried
     = c.is_sound.ensures ∙ ap is_sound c.readiness_of.ensures
-      ∙ readiness_sound (plan_on (entry).args.o (entry).args.grades.now (entry).args.releases.now (entry).args.sizes.now (entry).args.deadlines.now) (entry).args.run.clock.0 (entry).args.run.carried in
-    let sound : columns.Sound (entry (at)).args.o (entry (at)).args.grades.now (entry (at)).args.releases.now (entry (at)).args.sizes.now (entry (at)).args.deadlines.now (entry (at)).args.run (entry (at)).args.position
-    = sym (tested (at)) ∙ not-false _ (ap not c.if-not-is_sound.false) in
-    let has_entry : (entry (at)).args.position < most_jobs
-    = columns.has_entry (entry (at)).args.o (entry (at)).args.grades.now (entry (at)).args.releases.now (entry (at)).args.sizes.now (entry (at)).args.deadlines.now (entry (at)).args.run (entry (at)).args.position (sound) c.if-o-position.false in
+      ∙ readiness_sound (plan_on c.args.o c.args.grades.now c.args.releases.now c.args.sizes.now c.args.deadlines.now) c.args.run.clock.0 c.args.run.carried in
+    let sound : columns.Sound (c).args.o (c).args.grades.now (c).args.releases.now (c).args.sizes.now (c).args.deadlines.now (c).args.run (c).args.position
+    = sym (tested) ∙ not-false _ (ap not (ap not c.if-not-is_sound.false)) in
+    let has_entry : (c).args.position < most_jobs
+    = columns.has_entry (c).args.o (c).args.grades.now (c).args.releases.now (c).args.sizes.now (c).args.deadlines.now (c).args.run (c).args.position (sound) c.if-o-position.false in
     omega (arith, has_entry)
 
 pub bounds-sizes-position : goal.bounds-sizes-position
 bounds-sizes-position c =
-    let entry
-    = c in
-    let at
-    = c in
-    let tested : c.is_sound.result ≡ sound_at (plan_on (entry).args.o (entry).args.grades.now (entry).args.releases.now (entry).args.sizes.now (entry).args.deadlines.now) (entry).args.run.clock.0 (entry).args.run.carried
+    let tested : c.is_sound.result ≡ sound_at (plan_on c.args.o c.args.grades.now c.args.releases.now c.args.sizes.now c.args.deadlines.now) c.args.run.clock.0 c.args.run.carried
     = c.is_sound.ensures ∙ ap is_sound c.readiness_of.ensures
-      ∙ readiness_sound (plan_on (entry).args.o (entry).args.grades.now (entry).args.releases.now (entry).args.sizes.now (entry).args.deadlines.now) (entry).args.run.clock.0 (entry).args.run.carried in
-    let sound : columns.Sound (entry (at)).args.o (entry (at)).args.grades.now (entry (at)).args.releases.now (entry (at)).args.sizes.now (entry (at)).args.deadlines.now (entry (at)).args.run (entry (at)).args.position
-    = sym (tested (at)) ∙ not-false _ (ap not c.if-not-is_sound.false) in
-    let has_entry : (entry (at)).args.position < most_jobs
-    = columns.has_entry (entry (at)).args.o (entry (at)).args.grades.now (entry (at)).args.releases.now (entry (at)).args.sizes.now (entry (at)).args.deadlines.now (entry (at)).args.run (entry (at)).args.position (sound) c.if-o-position.false in
+      ∙ readiness_sound (plan_on c.args.o c.args.grades.now c.args.releases.now c.args.sizes.now c.args.deadlines.now) c.args.run.clock.0 c.args.run.carried in
+    let sound : columns.Sound (c).args.o (c).args.grades.now (c).args.releases.now (c).args.sizes.now (c).args.deadlines.now (c).args.run (c).args.position
+    = sym (tested) ∙ not-false _ (ap not (ap not c.if-not-is_sound.false)) in
+    let has_entry : (c).args.position < most_jobs
+    = columns.has_entry (c).args.o (c).args.grades.now (c).args.releases.now (c).args.sizes.now (c).args.deadlines.now (c).args.run (c).args.position (sound) c.if-o-position.false in
     omega (arith, has_entry)
 
 pub returns-then-had-size : goal.returns-then-had-size
 returns-then-had-size c =
-    let entry
-    = c in
-    let at
-    = c in
-    let tested : c.is_sound.result ≡ sound_at (plan_on (entry).args.o (entry).args.grades.now (entry).args.releases.now (entry).args.sizes.now (entry).args.deadlines.now) (entry).args.run.clock.0 (entry).args.run.carried
+    let tested : c.is_sound.result ≡ sound_at (plan_on c.args.o c.args.grades.now c.args.releases.now c.args.sizes.now c.args.deadlines.now) c.args.run.clock.0 c.args.run.carried
     = c.is_sound.ensures ∙ ap is_sound c.readiness_of.ensures
-      ∙ readiness_sound (plan_on (entry).args.o (entry).args.grades.now (entry).args.releases.now (entry).args.sizes.now (entry).args.deadlines.now) (entry).args.run.clock.0 (entry).args.run.carried in
-    let sound : columns.Sound (entry (at)).args.o (entry (at)).args.grades.now (entry (at)).args.releases.now (entry (at)).args.sizes.now (entry (at)).args.deadlines.now (entry (at)).args.run (entry (at)).args.position
-    = sym (tested (at)) ∙ not-false _ (ap not c.if-not-is_sound.false) in
-    let counted
-    = c in
-    let had : c.as_units-had.result.0 ≡ get_or (entry (at (counted))).args.run.carried (entry (at (counted))).args.position 0
+      ∙ readiness_sound (plan_on c.args.o c.args.grades.now c.args.releases.now c.args.sizes.now c.args.deadlines.now) c.args.run.clock.0 c.args.run.carried in
+    let sound : columns.Sound (c).args.o (c).args.grades.now (c).args.releases.now (c).args.sizes.now (c).args.deadlines.now (c).args.run (c).args.position
+    = sym (tested) ∙ not-false _ (ap not (ap not c.if-not-is_sound.false)) in
+    let had : c.as_units-had.result.0 ≡ get_or (entry (c)).args.run.carried (entry (c)).args.position 0
     = ap (λ (u : Units). u.0) c.as_units-had.ensures in
-    let size : c.as_units-size.result.0 ≡ get_or (entry (at (counted))).args.sizes.now (entry (at (counted))).args.position 0
+    let size : c.as_units-size.result.0 ≡ get_or (entry (c)).args.sizes.now (entry (c)).args.position 0
     = ap (λ (u : Units). u.0) c.as_units-size.ensures in
     let at-units = c in
-    let within = counted in
-    let e = (entry (at within)).args in
-    columns.met_ends e.o e.grades.now e.releases.now e.sizes.now e.deadlines.now e.run e.position (sound within) within.if2.left (sym (had) ∙ c.if-had-size.true ∙ size)
+    let within = c in
+    let e = (c).args in
+    columns.met_ends e.o e.grades.now e.releases.now e.sizes.now e.deadlines.now e.run e.position (sound) within.if-o-position.left (sym (had) ∙ c.if-had-size.true ∙ size)
 
 pub bounds-ended-position : goal.bounds-ended-position
 bounds-ended-position c =
-    let entry
-    = c in
-    let at
-    = c in
-    let tested : c.is_sound.result ≡ sound_at (plan_on (entry).args.o (entry).args.grades.now (entry).args.releases.now (entry).args.sizes.now (entry).args.deadlines.now) (entry).args.run.clock.0 (entry).args.run.carried
+    let tested : c.is_sound.result ≡ sound_at (plan_on c.args.o c.args.grades.now c.args.releases.now c.args.sizes.now c.args.deadlines.now) c.args.run.clock.0 c.args.run.carried
     = c.is_sound.ensures ∙ ap is_sound c.readiness_of.ensures
-      ∙ readiness_sound (plan_on (entry).args.o (entry).args.grades.now (entry).args.releases.now (entry).args.sizes.now (entry).args.deadlines.now) (entry).args.run.clock.0 (entry).args.run.carried in
-    let sound : columns.Sound (entry (at)).args.o (entry (at)).args.grades.now (entry (at)).args.releases.now (entry (at)).args.sizes.now (entry (at)).args.deadlines.now (entry (at)).args.run (entry (at)).args.position
-    = sym (tested (at)) ∙ not-false _ (ap not c.if-not-is_sound.false) in
-    let has_entry : (entry (at)).args.position < most_jobs
-    = columns.has_entry (entry (at)).args.o (entry (at)).args.grades.now (entry (at)).args.releases.now (entry (at)).args.sizes.now (entry (at)).args.deadlines.now (entry (at)).args.run (entry (at)).args.position (sound) c.if-o-position.false in
-    let counted
-    = c in
-    let units
-    = c in
-    omega (arith, has_entry (counted (units)))
+      ∙ readiness_sound (plan_on c.args.o c.args.grades.now c.args.releases.now c.args.sizes.now c.args.deadlines.now) c.args.run.clock.0 c.args.run.carried in
+    let sound : columns.Sound (c).args.o (c).args.grades.now (c).args.releases.now (c).args.sizes.now (c).args.deadlines.now (c).args.run (c).args.position
+    = sym (tested) ∙ not-false _ (ap not (ap not c.if-not-is_sound.false)) in
+    let has_entry : (c).args.position < most_jobs
+    = columns.has_entry (c).args.o (c).args.grades.now (c).args.releases.now (c).args.sizes.now (c).args.deadlines.now (c).args.run (c).args.position (sound) c.if-o-position.false in
+    omega (arith, has_entry)
 
 pub returns-then-ended-position : goal.returns-then-ended-position
 returns-then-ended-position c =
-    let entry
-    = c in
-    let at
-    = c in
-    let tested : c.is_sound.result ≡ sound_at (plan_on (entry).args.o (entry).args.grades.now (entry).args.releases.now (entry).args.sizes.now (entry).args.deadlines.now) (entry).args.run.clock.0 (entry).args.run.carried
+    let tested : c.is_sound.result ≡ sound_at (plan_on c.args.o c.args.grades.now c.args.releases.now c.args.sizes.now c.args.deadlines.now) c.args.run.clock.0 c.args.run.carried
     = c.is_sound.ensures ∙ ap is_sound c.readiness_of.ensures
-      ∙ readiness_sound (plan_on (entry).args.o (entry).args.grades.now (entry).args.releases.now (entry).args.sizes.now (entry).args.deadlines.now) (entry).args.run.clock.0 (entry).args.run.carried in
-    let sound : columns.Sound (entry (at)).args.o (entry (at)).args.grades.now (entry (at)).args.releases.now (entry (at)).args.sizes.now (entry (at)).args.deadlines.now (entry (at)).args.run (entry (at)).args.position
-    = sym (tested (at)) ∙ not-false _ (ap not c.if-not-is_sound.false) in
-    let counted
-    = c in
-    let units
-    = c in
-    let had : c.as_units-had.result.0 ≡ get_or (entry (at (counted))).args.run.carried (entry (at (counted))).args.position 0
+      ∙ readiness_sound (plan_on c.args.o c.args.grades.now c.args.releases.now c.args.sizes.now c.args.deadlines.now) c.args.run.clock.0 c.args.run.carried in
+    let sound : columns.Sound (c).args.o (c).args.grades.now (c).args.releases.now (c).args.sizes.now (c).args.deadlines.now (c).args.run (c).args.position
+    = sym (tested) ∙ not-false _ (ap not (ap not c.if-not-is_sound.false)) in
+    let had : c.as_units-had.result.0 ≡ get_or (entry (c)).args.run.carried (entry (c)).args.position 0
     = ap (λ (u : Units). u.0) c.as_units-had.ensures in
-    let size : c.as_units-size.result.0 ≡ get_or (entry (at (counted))).args.sizes.now (entry (at (counted))).args.position 0
+    let size : c.as_units-size.result.0 ≡ get_or (entry (c)).args.sizes.now (entry (c)).args.position 0
     = ap (λ (u : Units). u.0) c.as_units-size.ensures in
-    let differ : get_or (entry (at (counted (units)))).args.run.carried (entry (at (counted (units)))).args.position 0 ≢ get_or (entry (at (counted (units)))).args.sizes.now (entry (at (counted (units)))).args.position 0
-    = λ e. c.if-had-size.false (had (units) ∙ e ∙ sym (size (units))) in
+    let differ : get_or (entry (at (c))).args.run.carried (entry (at (c))).args.position 0 ≢ get_or (entry (at (c))).args.sizes.now (entry (at (c))).args.position 0
+    = λ e. c.if-had-size.false (had ∙ e ∙ sym (size)) in
     let at-if3 = c in
-    let within = counted (units) in
-    let e = (entry (at within)).args in
-    columns.ended_ends e.o e.grades.now e.releases.now e.sizes.now e.deadlines.now e.run e.position (sound within) within.if2.left (differ) c.if-ended-position.true
+    let within = c in
+    let e = (c).args in
+    columns.ended_ends e.o e.grades.now e.releases.now e.sizes.now e.deadlines.now e.run e.position (sound) within.if-o-position.left (differ) c.if-ended-position.true
 
 pub offset_bounds-grades-position : goal.offset_bounds-grades-position
 offset_bounds-grades-position c =
-    let entry
-    = c in
-    let at
-    = c in
-    let tested : c.is_sound.result ≡ sound_at (plan_on (entry).args.o (entry).args.grades.now (entry).args.releases.now (entry).args.sizes.now (entry).args.deadlines.now) (entry).args.run.clock.0 (entry).args.run.carried
+    let tested : c.is_sound.result ≡ sound_at (plan_on c.args.o c.args.grades.now c.args.releases.now c.args.sizes.now c.args.deadlines.now) c.args.run.clock.0 c.args.run.carried
     = c.is_sound.ensures ∙ ap is_sound c.readiness_of.ensures
-      ∙ readiness_sound (plan_on (entry).args.o (entry).args.grades.now (entry).args.releases.now (entry).args.sizes.now (entry).args.deadlines.now) (entry).args.run.clock.0 (entry).args.run.carried in
-    let sound : columns.Sound (entry (at)).args.o (entry (at)).args.grades.now (entry (at)).args.releases.now (entry (at)).args.sizes.now (entry (at)).args.deadlines.now (entry (at)).args.run (entry (at)).args.position
-    = sym (tested (at)) ∙ not-false _ (ap not c.if-not-is_sound.false) in
-    let has_entry : (entry (at)).args.position < most_jobs
-    = columns.has_entry (entry (at)).args.o (entry (at)).args.grades.now (entry (at)).args.releases.now (entry (at)).args.sizes.now (entry (at)).args.deadlines.now (entry (at)).args.run (entry (at)).args.position (sound) c.if-o-position.false in
-    let counted
-    = c in
-    let units
-    = c in
-    let unlike
-    = c in
-    omega (arith, has_entry (counted (units (unlike))))
+      ∙ readiness_sound (plan_on c.args.o c.args.grades.now c.args.releases.now c.args.sizes.now c.args.deadlines.now) c.args.run.clock.0 c.args.run.carried in
+    let sound : columns.Sound (c).args.o (c).args.grades.now (c).args.releases.now (c).args.sizes.now (c).args.deadlines.now (c).args.run (c).args.position
+    = sym (tested) ∙ not-false _ (ap not (ap not c.if-not-is_sound.false)) in
+    let has_entry : (c).args.position < most_jobs
+    = columns.has_entry (c).args.o (c).args.grades.now (c).args.releases.now (c).args.sizes.now (c).args.deadlines.now (c).args.run (c).args.position (sound) c.if-o-position.false in
+    omega (arith, has_entry (counted (c)))
 
 pub bounds-grades-position : goal.bounds-grades-position
 bounds-grades-position c =
-    let entry
-    = c in
-    let at
-    = c in
-    let tested : c.is_sound.result ≡ sound_at (plan_on (entry).args.o (entry).args.grades.now (entry).args.releases.now (entry).args.sizes.now (entry).args.deadlines.now) (entry).args.run.clock.0 (entry).args.run.carried
+    let tested : c.is_sound.result ≡ sound_at (plan_on c.args.o c.args.grades.now c.args.releases.now c.args.sizes.now c.args.deadlines.now) c.args.run.clock.0 c.args.run.carried
     = c.is_sound.ensures ∙ ap is_sound c.readiness_of.ensures
-      ∙ readiness_sound (plan_on (entry).args.o (entry).args.grades.now (entry).args.releases.now (entry).args.sizes.now (entry).args.deadlines.now) (entry).args.run.clock.0 (entry).args.run.carried in
-    let sound : columns.Sound (entry (at)).args.o (entry (at)).args.grades.now (entry (at)).args.releases.now (entry (at)).args.sizes.now (entry (at)).args.deadlines.now (entry (at)).args.run (entry (at)).args.position
-    = sym (tested (at)) ∙ not-false _ (ap not c.if-not-is_sound.false) in
-    let has_entry : (entry (at)).args.position < most_jobs
-    = columns.has_entry (entry (at)).args.o (entry (at)).args.grades.now (entry (at)).args.releases.now (entry (at)).args.sizes.now (entry (at)).args.deadlines.now (entry (at)).args.run (entry (at)).args.position (sound) c.if-o-position.false in
-    let counted
-    = c in
-    let units
-    = c in
-    let unlike
-    = c in
-    omega (arith, has_entry (counted (units (unlike))))
+      ∙ readiness_sound (plan_on c.args.o c.args.grades.now c.args.releases.now c.args.sizes.now c.args.deadlines.now) c.args.run.clock.0 c.args.run.carried in
+    let sound : columns.Sound (c).args.o (c).args.grades.now (c).args.releases.now (c).args.sizes.now (c).args.deadlines.now (c).args.run (c).args.position
+    = sym (tested) ∙ not-false _ (ap not (ap not c.if-not-is_sound.false)) in
+    let has_entry : (c).args.position < most_jobs
+    = columns.has_entry (c).args.o (c).args.grades.now (c).args.releases.now (c).args.sizes.now (c).args.deadlines.now (c).args.run (c).args.position (sound) c.if-o-position.false in
+    omega (arith, has_entry (counted (c)))
 
 pub returns-then-grades-position : goal.returns-then-grades-position
 returns-then-grades-position c =
-    let entry
-    = c in
-    let at
-    = c in
-    let tested : c.is_sound.result ≡ sound_at (plan_on (entry).args.o (entry).args.grades.now (entry).args.releases.now (entry).args.sizes.now (entry).args.deadlines.now) (entry).args.run.clock.0 (entry).args.run.carried
+    let tested : c.is_sound.result ≡ sound_at (plan_on c.args.o c.args.grades.now c.args.releases.now c.args.sizes.now c.args.deadlines.now) c.args.run.clock.0 c.args.run.carried
     = c.is_sound.ensures ∙ ap is_sound c.readiness_of.ensures
-      ∙ readiness_sound (plan_on (entry).args.o (entry).args.grades.now (entry).args.releases.now (entry).args.sizes.now (entry).args.deadlines.now) (entry).args.run.clock.0 (entry).args.run.carried in
-    let sound : columns.Sound (entry (at)).args.o (entry (at)).args.grades.now (entry (at)).args.releases.now (entry (at)).args.sizes.now (entry (at)).args.deadlines.now (entry (at)).args.run (entry (at)).args.position
-    = sym (tested (at)) ∙ not-false _ (ap not c.if-not-is_sound.false) in
-    let counted
-    = c in
-    let units
-    = c in
-    let had : c.as_units-had.result.0 ≡ get_or (entry (at (counted))).args.run.carried (entry (at (counted))).args.position 0
+      ∙ readiness_sound (plan_on c.args.o c.args.grades.now c.args.releases.now c.args.sizes.now c.args.deadlines.now) c.args.run.clock.0 c.args.run.carried in
+    let sound : columns.Sound (c).args.o (c).args.grades.now (c).args.releases.now (c).args.sizes.now (c).args.deadlines.now (c).args.run (c).args.position
+    = sym (tested) ∙ not-false _ (ap not (ap not c.if-not-is_sound.false)) in
+    let had : c.as_units-had.result.0 ≡ get_or (entry (c)).args.run.carried (entry (c)).args.position 0
     = ap (λ (u : Units). u.0) c.as_units-had.ensures in
-    let size : c.as_units-size.result.0 ≡ get_or (entry (at (counted))).args.sizes.now (entry (at (counted))).args.position 0
+    let size : c.as_units-size.result.0 ≡ get_or (entry (c)).args.sizes.now (entry (c)).args.position 0
     = ap (λ (u : Units). u.0) c.as_units-size.ensures in
-    let differ : get_or (entry (at (counted (units)))).args.run.carried (entry (at (counted (units)))).args.position 0 ≢ get_or (entry (at (counted (units)))).args.sizes.now (entry (at (counted (units)))).args.position 0
-    = λ e. c.if-had-size.false (had (units) ∙ e ∙ sym (size (units))) in
-    let unlike
-    = c in
+    let differ : get_or (entry (at (c))).args.run.carried (entry (at (c))).args.position 0 ≢ get_or (entry (at (c))).args.sizes.now (entry (at (c))).args.position 0
+    = λ e. c.if-had-size.false (had ∙ e ∙ sym (size)) in
     let at-if4 = c in
-    let at-if3 = unlike in
-    let within = counted (units at-if3) in
-    let e = (entry (at within)).args in
-    columns.discarded_ends e.o e.grades.now e.releases.now e.sizes.now e.deadlines.now e.run e.position (sound within) within.if2.left (differ at-if3) at-if4.if-ended-position.false c.if-grades-position.true
+    let at-if3 = c in
+    let within = c in
+    let e = (c).args in
+    columns.discarded_ends e.o e.grades.now e.releases.now e.sizes.now e.deadlines.now e.run e.position (sound) within.if-o-position.left (differ) at-if4.if-ended-position.false c.if-grades-position.true
 
 pub offset_bounds-deadlines-position : goal.offset_bounds-deadlines-position
 offset_bounds-deadlines-position c =
-    let entry
-    = c in
-    let at
-    = c in
-    let tested : c.is_sound.result ≡ sound_at (plan_on (entry).args.o (entry).args.grades.now (entry).args.releases.now (entry).args.sizes.now (entry).args.deadlines.now) (entry).args.run.clock.0 (entry).args.run.carried
+    let tested : c.is_sound.result ≡ sound_at (plan_on c.args.o c.args.grades.now c.args.releases.now c.args.sizes.now c.args.deadlines.now) c.args.run.clock.0 c.args.run.carried
     = c.is_sound.ensures ∙ ap is_sound c.readiness_of.ensures
-      ∙ readiness_sound (plan_on (entry).args.o (entry).args.grades.now (entry).args.releases.now (entry).args.sizes.now (entry).args.deadlines.now) (entry).args.run.clock.0 (entry).args.run.carried in
-    let sound : columns.Sound (entry (at)).args.o (entry (at)).args.grades.now (entry (at)).args.releases.now (entry (at)).args.sizes.now (entry (at)).args.deadlines.now (entry (at)).args.run (entry (at)).args.position
-    = sym (tested (at)) ∙ not-false _ (ap not c.if-not-is_sound.false) in
-    let has_entry : (entry (at)).args.position < most_jobs
-    = columns.has_entry (entry (at)).args.o (entry (at)).args.grades.now (entry (at)).args.releases.now (entry (at)).args.sizes.now (entry (at)).args.deadlines.now (entry (at)).args.run (entry (at)).args.position (sound) c.if-o-position.false in
-    let counted
-    = c in
-    let units
-    = c in
-    let unlike
-    = c in
-    omega (arith, has_entry (counted (units (unlike))))
+      ∙ readiness_sound (plan_on c.args.o c.args.grades.now c.args.releases.now c.args.sizes.now c.args.deadlines.now) c.args.run.clock.0 c.args.run.carried in
+    let sound : columns.Sound (c).args.o (c).args.grades.now (c).args.releases.now (c).args.sizes.now (c).args.deadlines.now (c).args.run (c).args.position
+    = sym (tested) ∙ not-false _ (ap not (ap not c.if-not-is_sound.false)) in
+    let has_entry : (c).args.position < most_jobs
+    = columns.has_entry (c).args.o (c).args.grades.now (c).args.releases.now (c).args.sizes.now (c).args.deadlines.now (c).args.run (c).args.position (sound) c.if-o-position.false in
+    omega (arith, has_entry (counted (c)))
 
 pub bounds-deadlines-position : goal.bounds-deadlines-position
 bounds-deadlines-position c =
-    let entry
-    = c in
-    let at
-    = c in
-    let tested : c.is_sound.result ≡ sound_at (plan_on (entry).args.o (entry).args.grades.now (entry).args.releases.now (entry).args.sizes.now (entry).args.deadlines.now) (entry).args.run.clock.0 (entry).args.run.carried
+    let tested : c.is_sound.result ≡ sound_at (plan_on c.args.o c.args.grades.now c.args.releases.now c.args.sizes.now c.args.deadlines.now) c.args.run.clock.0 c.args.run.carried
     = c.is_sound.ensures ∙ ap is_sound c.readiness_of.ensures
-      ∙ readiness_sound (plan_on (entry).args.o (entry).args.grades.now (entry).args.releases.now (entry).args.sizes.now (entry).args.deadlines.now) (entry).args.run.clock.0 (entry).args.run.carried in
-    let sound : columns.Sound (entry (at)).args.o (entry (at)).args.grades.now (entry (at)).args.releases.now (entry (at)).args.sizes.now (entry (at)).args.deadlines.now (entry (at)).args.run (entry (at)).args.position
-    = sym (tested (at)) ∙ not-false _ (ap not c.if-not-is_sound.false) in
-    let has_entry : (entry (at)).args.position < most_jobs
-    = columns.has_entry (entry (at)).args.o (entry (at)).args.grades.now (entry (at)).args.releases.now (entry (at)).args.sizes.now (entry (at)).args.deadlines.now (entry (at)).args.run (entry (at)).args.position (sound) c.if-o-position.false in
-    let counted
-    = c in
-    let units
-    = c in
-    let unlike
-    = c in
-    omega (arith, has_entry (counted (units (unlike))))
+      ∙ readiness_sound (plan_on c.args.o c.args.grades.now c.args.releases.now c.args.sizes.now c.args.deadlines.now) c.args.run.clock.0 c.args.run.carried in
+    let sound : columns.Sound (c).args.o (c).args.grades.now (c).args.releases.now (c).args.sizes.now (c).args.deadlines.now (c).args.run (c).args.position
+    = sym (tested) ∙ not-false _ (ap not (ap not c.if-not-is_sound.false)) in
+    let has_entry : (c).args.position < most_jobs
+    = columns.has_entry (c).args.o (c).args.grades.now (c).args.releases.now (c).args.sizes.now (c).args.deadlines.now (c).args.run (c).args.position (sound) c.if-o-position.false in
+    omega (arith, has_entry (counted (c)))
 
 pub returns-then-deadline-clock : goal.returns-then-deadline-clock
 returns-then-deadline-clock c =
-    let entry
-    = c in
-    let at
-    = c in
-    let tested : c.is_sound.result ≡ sound_at (plan_on (entry).args.o (entry).args.grades.now (entry).args.releases.now (entry).args.sizes.now (entry).args.deadlines.now) (entry).args.run.clock.0 (entry).args.run.carried
+    let tested : c.is_sound.result ≡ sound_at (plan_on c.args.o c.args.grades.now c.args.releases.now c.args.sizes.now c.args.deadlines.now) c.args.run.clock.0 c.args.run.carried
     = c.is_sound.ensures ∙ ap is_sound c.readiness_of.ensures
-      ∙ readiness_sound (plan_on (entry).args.o (entry).args.grades.now (entry).args.releases.now (entry).args.sizes.now (entry).args.deadlines.now) (entry).args.run.clock.0 (entry).args.run.carried in
-    let sound : columns.Sound (entry (at)).args.o (entry (at)).args.grades.now (entry (at)).args.releases.now (entry (at)).args.sizes.now (entry (at)).args.deadlines.now (entry (at)).args.run (entry (at)).args.position
-    = sym (tested (at)) ∙ not-false _ (ap not c.if-not-is_sound.false) in
-    let counted
-    = c in
-    let units
-    = c in
-    let had : c.as_units-had.result.0 ≡ get_or (entry (at (counted))).args.run.carried (entry (at (counted))).args.position 0
+      ∙ readiness_sound (plan_on c.args.o c.args.grades.now c.args.releases.now c.args.sizes.now c.args.deadlines.now) c.args.run.clock.0 c.args.run.carried in
+    let sound : columns.Sound (c).args.o (c).args.grades.now (c).args.releases.now (c).args.sizes.now (c).args.deadlines.now (c).args.run (c).args.position
+    = sym (tested) ∙ not-false _ (ap not (ap not c.if-not-is_sound.false)) in
+    let had : c.as_units-had.result.0 ≡ get_or (entry (c)).args.run.carried (entry (c)).args.position 0
     = ap (λ (u : Units). u.0) c.as_units-had.ensures in
-    let size : c.as_units-size.result.0 ≡ get_or (entry (at (counted))).args.sizes.now (entry (at (counted))).args.position 0
+    let size : c.as_units-size.result.0 ≡ get_or (entry (c)).args.sizes.now (entry (c)).args.position 0
     = ap (λ (u : Units). u.0) c.as_units-size.ensures in
-    let differ : get_or (entry (at (counted (units)))).args.run.carried (entry (at (counted (units)))).args.position 0 ≢ get_or (entry (at (counted (units)))).args.sizes.now (entry (at (counted (units)))).args.position 0
-    = λ e. c.if-had-size.false (had (units) ∙ e ∙ sym (size (units))) in
-    let unlike
-    = c in
+    let differ : get_or (entry (at (c))).args.run.carried (entry (at (c))).args.position 0 ≢ get_or (entry (at (c))).args.sizes.now (entry (at (c))).args.position 0
+    = λ e. c.if-had-size.false (had ∙ e ∙ sym (size)) in
     let at-if5 = c in
     let at-if4 = at-if5 in
-    let at-if3 = unlike in
-    let within = counted (units at-if3) in
-    let e = (entry (at within)).args in
-    columns.missed_ends e.o e.grades.now e.releases.now e.sizes.now e.deadlines.now e.run e.position (sound within) within.if2.left (differ at-if3) at-if4.if-ended-position.false at-if5.if-grades-position.false c.if-deadline-clock.true
+    let at-if3 = c in
+    let within = c in
+    let e = (c).args in
+    columns.missed_ends e.o e.grades.now e.releases.now e.sizes.now e.deadlines.now e.run e.position (sound) within.if-o-position.left (differ) at-if4.if-ended-position.false at-if5.if-grades-position.false c.if-deadline-clock.true
 
 pub returns : goal.returns
 returns c =
-    let entry
-    = c in
-    let at
-    = c in
-    let tested : c.is_sound.result ≡ sound_at (plan_on (entry).args.o (entry).args.grades.now (entry).args.releases.now (entry).args.sizes.now (entry).args.deadlines.now) (entry).args.run.clock.0 (entry).args.run.carried
+    let tested : c.is_sound.result ≡ sound_at (plan_on c.args.o c.args.grades.now c.args.releases.now c.args.sizes.now c.args.deadlines.now) c.args.run.clock.0 c.args.run.carried
     = c.is_sound.ensures ∙ ap is_sound c.readiness_of.ensures
-      ∙ readiness_sound (plan_on (entry).args.o (entry).args.grades.now (entry).args.releases.now (entry).args.sizes.now (entry).args.deadlines.now) (entry).args.run.clock.0 (entry).args.run.carried in
-    let sound : columns.Sound (entry (at)).args.o (entry (at)).args.grades.now (entry (at)).args.releases.now (entry (at)).args.sizes.now (entry (at)).args.deadlines.now (entry (at)).args.run (entry (at)).args.position
-    = sym (tested (at)) ∙ not-false _ (ap not c.if-not-is_sound.false) in
-    let counted
-    = c in
-    let units
-    = c in
-    let had : c.as_units-had.result.0 ≡ get_or (entry (at (counted))).args.run.carried (entry (at (counted))).args.position 0
+      ∙ readiness_sound (plan_on c.args.o c.args.grades.now c.args.releases.now c.args.sizes.now c.args.deadlines.now) c.args.run.clock.0 c.args.run.carried in
+    let sound : columns.Sound (c).args.o (c).args.grades.now (c).args.releases.now (c).args.sizes.now (c).args.deadlines.now (c).args.run (c).args.position
+    = sym (tested) ∙ not-false _ (ap not (ap not c.if-not-is_sound.false)) in
+    let had : c.as_units-had.result.0 ≡ get_or (entry (c)).args.run.carried (entry (c)).args.position 0
     = ap (λ (u : Units). u.0) c.as_units-had.ensures in
-    let size : c.as_units-size.result.0 ≡ get_or (entry (at (counted))).args.sizes.now (entry (at (counted))).args.position 0
+    let size : c.as_units-size.result.0 ≡ get_or (entry (c)).args.sizes.now (entry (c)).args.position 0
     = ap (λ (u : Units). u.0) c.as_units-size.ensures in
-    let differ : get_or (entry (at (counted (units)))).args.run.carried (entry (at (counted (units)))).args.position 0 ≢ get_or (entry (at (counted (units)))).args.sizes.now (entry (at (counted (units)))).args.position 0
-    = λ e. c.if-had-size.false (had (units) ∙ e ∙ sym (size (units))) in
-    let unlike
-    = c in
+    let differ : get_or (entry (at (c))).args.run.carried (entry (at (c))).args.position 0 ≢ get_or (entry (at (c))).args.sizes.now (entry (at (c))).args.position 0
+    = λ e. c.if-had-size.false (had ∙ e ∙ sym (size)) in
     let at-if5 = c in
     let at-if4 = at-if5 in
-    let at-if3 = unlike in
-    let within = counted (units at-if3) in
-    let e = (entry (at within)).args in
-    columns.open_ends e.o e.grades.now e.releases.now e.sizes.now e.deadlines.now e.run e.position (sound within) within.if2.left (differ at-if3) at-if4.if-ended-position.false at-if5.if-grades-position.false c.if-deadline-clock.false
+    let at-if3 = c in
+    let within = c in
+    let e = (c).args in
+    columns.open_ends e.o e.grades.now e.releases.now e.sizes.now e.deadlines.now e.run e.position (sound) within.if-o-position.left (differ) at-if4.if-ended-position.false at-if5.if-grades-position.false c.if-deadline-clock.false

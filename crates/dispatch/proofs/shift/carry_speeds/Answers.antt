@@ -38,16 +38,12 @@ fill_goals-requires c =
 
 pub loop-k-init : goal.loop-k-init
 loop-k-init c =
-    let counting
-    = c in
-    let start
-    = (counting) in
     let k : ℕ
     = c.loop-k.k in
     let jobs : ℕ
-    = (counting).counted-within.result in
+    = c.counted_within-jobs.result in
     let counting = c in
-    let start = counting in
+    let start = c
     let a = start.args in
     let f = kept_goal 0 a.sizes.now a.table.now in
     let blank : List ℕ = replicate most_jobs 0 in
@@ -66,71 +62,81 @@ loop-k-init c =
 
 pub overflow_mul-from : goal.overflow_mul-from
 overflow_mul-from c =
-    let counting
-    = c in
-    let start
-    = (counting) in
     let k : ℕ
     = c.loop-k.k in
     let jobs : ℕ
-    = (counting).counted-within.result in
+    = c.counted_within-jobs.result in
     let few : (k) * (jobs) ≤ most_speeds * most_jobs
-    = mul-le-mul {n₁ = (k)} {m₁ = (jobs)} {n₂ = most_speeds} {m₂ = most_jobs} (omega (arith, c.loop-k-test.true, (start).pre.2)) (omega (arith, (jobs_are c))) in
+    = mul-le-mul {n₁ = (k)} {m₁ = (jobs)} {n₂ = most_speeds} {m₂ = most_jobs} (omega (arith, c.loop-k-test.true, c.requires.2)) (omega (arith, (jobs_are c))) in
     record { fits = omega (arith, few) }
 
 pub offset_bounds-rows-from : goal.offset_bounds-rows-from
 offset_bounds-rows-from c =
-    let counting
-    = c in
-    let start
-    = (counting) in
     let k : ℕ
     = c.loop-k.k in
     let jobs : ℕ
-    = (counting).counted-within.result in
+    = c.counted_within-jobs.result in
     let few : (k) * (jobs) ≤ most_speeds * most_jobs
-    = mul-le-mul {n₁ = (k)} {m₁ = (jobs)} {n₂ = most_speeds} {m₂ = most_jobs} (omega (arith, c.loop-k-test.true, (start).pre.2)) (omega (arith, (jobs_are c))) in
+    = mul-le-mul {n₁ = (k)} {m₁ = (jobs)} {n₂ = most_speeds} {m₂ = most_jobs} (omega (arith, c.loop-k-test.true, c.requires.2)) (omega (arith, (jobs_are c))) in
     record { fits = omega (arith, few) }
 
 pub slice_bounds-row-count : goal.slice_bounds-row-count
 slice_bounds-row-count c =
-    let counting
-    = c in
-    let start
-    = (counting) in
     let k : ℕ
     = c.loop-k.k in
     let jobs : ℕ
-    = (counting).counted-within.result in
+    = c.counted_within-jobs.result in
     let room : (k) * (jobs) + (jobs) ≤ length c.loop-k.rows
-    = let all : suc (k) * (jobs) ≤ length (start).args.speeds.now * (jobs) = mul-le-mul {n₁ = suc (k)} {m₁ = (jobs)} {n₂ = length (start).args.speeds.now} {m₂ = (jobs)} (omega (arith, c.loop-k-test.true)) (omega arith) in
-      let lent : length (start).args.speeds.now * (jobs) ≤ length (start).args.rows.now
-      = omega (arith, (start).pre.3, ap (λ n. length (start).args.speeds.now * n) (jobs_are c)) in
+    = let all : suc (k) * (jobs) ≤ length c.args.speeds.now * (jobs) = mul-le-mul {n₁ = suc (k)} {m₁ = (jobs)} {n₂ = length c.args.speeds.now} {m₂ = (jobs)} (omega (arith, c.loop-k-test.true)) (omega arith) in
+      let lent : length c.args.speeds.now * (jobs) ≤ length c.args.rows.now
+      = omega (arith, c.requires.3, ap (λ n. length c.args.speeds.now * n) (jobs_are c)) in
+      omega (arith, suc-mul (k) (jobs), c.loop-k.invariant.rows_long) in
+    omega (arith, room, c.loop-k.invariant.rows_long)
+
+pub slice_bounds-row-start : goal.slice_bounds-row-start
+slice_bounds-row-start c =
+    let k : ℕ
+    = c.loop-k.k in
+    let jobs : ℕ
+    = c.counted_within-jobs.result in
+    let room : (k) * (jobs) + (jobs) ≤ length c.loop-k.rows
+    = let all : suc (k) * (jobs) ≤ length c.args.speeds.now * (jobs) = mul-le-mul {n₁ = suc (k)} {m₁ = (jobs)} {n₂ = length c.args.speeds.now} {m₂ = (jobs)} (omega (arith, c.loop-k-test.true)) (omega arith) in
+      let lent : length c.args.speeds.now * (jobs) ≤ length c.args.rows.now
+      = omega (arith, c.requires.3, ap (λ n. length c.args.speeds.now * n) (jobs_are c)) in
+      omega (arith, suc-mul (k) (jobs), c.loop-k.invariant.rows_long) in
+    omega (arith, room, c.loop-k.invariant.rows_long)
+
+pub slice_bounds-row-end : goal.slice_bounds-row-end
+slice_bounds-row-end c =
+    let k : ℕ
+    = c.loop-k.k in
+    let jobs : ℕ
+    = c.counted_within-jobs.result in
+    let room : (k) * (jobs) + (jobs) ≤ length c.loop-k.rows
+    = let all : suc (k) * (jobs) ≤ length c.args.speeds.now * (jobs) = mul-le-mul {n₁ = suc (k)} {m₁ = (jobs)} {n₂ = length c.args.speeds.now} {m₂ = (jobs)} (omega (arith, c.loop-k-test.true)) (omega arith) in
+      let lent : length c.args.speeds.now * (jobs) ≤ length c.args.rows.now
+      = omega (arith, c.requires.3, ap (λ n. length c.args.speeds.now * n) (jobs_are c)) in
       omega (arith, suc-mul (k) (jobs), c.loop-k.invariant.rows_long) in
     omega (arith, room, c.loop-k.invariant.rows_long)
 
 pub next_slot-slot-requires : goal.next_slot-slot-requires
 next_slot-slot-requires c =
-    let counting
-    = c in
-    let start
-    = (counting) in
     let k : ℕ
     = c.loop-k.k in
     let jobs : ℕ
-    = (counting).counted-within.result in
+    = c.counted_within-jobs.result in
     let room : (k) * (jobs) + (jobs) ≤ length c.loop-k.rows
-    = let all : suc (k) * (jobs) ≤ length (start).args.speeds.now * (jobs) = mul-le-mul {n₁ = suc (k)} {m₁ = (jobs)} {n₂ = length (start).args.speeds.now} {m₂ = (jobs)} (omega (arith, c.loop-k-test.true)) (omega arith) in
-      let lent : length (start).args.speeds.now * (jobs) ≤ length (start).args.rows.now
-      = omega (arith, (start).pre.3, ap (λ n. length (start).args.speeds.now * n) (jobs_are c)) in
+    = let all : suc (k) * (jobs) ≤ length c.args.speeds.now * (jobs) = mul-le-mul {n₁ = suc (k)} {m₁ = (jobs)} {n₂ = length c.args.speeds.now} {m₂ = (jobs)} (omega (arith, c.loop-k-test.true)) (omega arith) in
+      let lent : length c.args.speeds.now * (jobs) ≤ length c.args.rows.now
+      = omega (arith, c.requires.3, ap (λ n. length c.args.speeds.now * n) (jobs_are c)) in
       omega (arith, suc-mul (k) (jobs), c.loop-k.invariant.rows_long) in
     let turn = c in
-    let a = (start).args in
+    let a = (c).args in
     let inv = turn.loop-k.invariant in (
       inv.sound,
       turn.last_of-last.ensures ∙ ap (greatest (λ i. get_or a.deadlines.now i 0)) (jobs_are turn)
           ∙ sym (last_on a.o a.grades.now a.releases.now a.sizes.now a.deadlines.now),
-      (start).requires.1,
+      (c).requires.1,
       rw (length-take, length-drop) (omega (arith, room, jobs_are turn, inv.rows_long)),
       inv.goals-long,
       inv.goals-kept,
@@ -138,44 +144,32 @@ next_slot-slot-requires c =
 
 pub bounds-numbers-k : goal.bounds-numbers-k
 bounds-numbers-k c =
-    let counting
-    = c in
-    let start
-    = (counting) in
     let turn = c in
-    omega (arith, turn.loop-k-test.true, turn.loop-k.invariant.numbers_long, (start).requires.4)
+    omega (arith, turn.loop-k-test.true, turn.loop-k.invariant.numbers_long, (c).requires.4)
 
 pub overflow_add-k : goal.overflow_add-k
 overflow_add-k c =
-    let counting
-    = c in
-    let start
-    = (counting) in
     let turn = c in
-    omega (arith, turn.loop-k-test.true, (start).requires.2)
+    omega (arith, turn.loop-k-test.true, (c).requires.2)
 
 pub loop-k-preserved : goal.loop-k-preserved
 loop-k-preserved c =
-    let counting
-    = c in
-    let start
-    = (counting) in
     let q : Plan
-    = plan_on (start).args.o (start).args.grades.now (start).args.releases.now (start).args.sizes.now (start).args.deadlines.now in
+    = plan_on c.args.o c.args.grades.now c.args.releases.now c.args.sizes.now c.args.deadlines.now in
     let k : ℕ
     = c.loop-k.k in
     let jobs : ℕ
-    = (counting).counted-within.result in
+    = c.counted_within-jobs.result in
     let room : (k) * (jobs) + (jobs) ≤ length c.loop-k.rows
-    = let all : suc (k) * (jobs) ≤ length (start).args.speeds.now * (jobs) = mul-le-mul {n₁ = suc (k)} {m₁ = (jobs)} {n₂ = length (start).args.speeds.now} {m₂ = (jobs)} (omega (arith, c.loop-k-test.true)) (omega arith) in
-      let lent : length (start).args.speeds.now * (jobs) ≤ length (start).args.rows.now
-      = omega (arith, (start).pre.3, ap (λ n. length (start).args.speeds.now * n) (jobs_are c)) in
+    = let all : suc (k) * (jobs) ≤ length c.args.speeds.now * (jobs) = mul-le-mul {n₁ = suc (k)} {m₁ = (jobs)} {n₂ = length c.args.speeds.now} {m₂ = (jobs)} (omega (arith, c.loop-k-test.true)) (omega arith) in
+      let lent : length c.args.speeds.now * (jobs) ≤ length c.args.rows.now
+      = omega (arith, c.requires.3, ap (λ n. length c.args.speeds.now * n) (jobs_are c)) in
       omega (arith, suc-mul (k) (jobs), c.loop-k.invariant.rows_long) in
     let at_slot = c in
     let turn = at_slot in
     let loop = turn.loop-k in
     let inv = loop.invariant in
-    let a = (start).args in
+    let a = (c).args in
     let all = length a.rows.now in
     let from = k * jobs in
     let was = run_at loop.next loop.carried a.ended.now in

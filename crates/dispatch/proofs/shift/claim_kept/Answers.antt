@@ -24,32 +24,24 @@ overflow_cast-claims c =
 
 pub overflow_add-total : goal.overflow_add-total
 overflow_add-total c =
-    let served
-    = c in
-    let at-loop
-    = (served) in
-    let below : ((at-loop).loop.i < (at-loop).args.jobs) × ((at-loop).args.jobs ≤ most_jobs)
-    = ((served).loop-test.taken, (at-loop).pre) in
+    let below : (c.loop-i.i < c.args.jobs) × (c.args.jobs ≤ most_jobs)
+    = (c.loop-i-test.taken, c.requires) in
     let here = c in
-    omega (arith, here.claim_of-claim.ensures.1, (at-loop).loop.invariant.3, (below).0, (below).1)
+    omega (arith, here.claim_of-claim.ensures.1, (c).loop.invariant.3, (below).0, (below).1)
 
 pub loop-i-preserved : goal.loop-i-preserved
 loop-i-preserved c =
-    let served
-    = c in
-    let at-loop
-    = (served) in
     let claims : ℕ → ℕ
-    = let a = (at-loop).args in
+    = let a = c.args in
       claim_in a.clock.0 a.slow true 0 a.grades.now a.releases.now a.goals.now a.deadlines.now a.carried.now [] in
-    let claimed : c.claim_of-claim.result.0 ≡ (claims) (at-loop).loop.i
-    = let a = (at-loop).args in
+    let claimed : c.claim_of-claim.result.0 ≡ (claims) c.loop-i.i
+    = let a = c.args in
       c.claim_of-claim.ensures.0
-      ∙ ap (λ b. on b (get_or a.goals.now (at-loop).loop.i 0 - get_or a.carried.now (at-loop).loop.i 0)) (served).is-served.ensures in
-    let below : ((at-loop).loop.i < (at-loop).args.jobs) × ((at-loop).args.jobs ≤ most_jobs)
-    = ((served).loop-test.taken, (at-loop).pre) in
+      ∙ ap (λ b. on b (get_or a.goals.now c.loop-i.i 0 - get_or a.carried.now c.loop-i.i 0)) c.is_served-served.ensures in
+    let below : (c.loop-i.i < c.args.jobs) × (c.args.jobs ≤ most_jobs)
+    = (c.loop-i-test.taken, c.requires) in
     let here = c in
-    let loop = (at-loop).loop in (
+    let loop = (c).loop in (
       omega (arith, (below).0, (below).1),
       filled_next _ loop.i _ loop.inv.1 (claimed),
       omega (arith, loop.inv.2, claimed, sum_step (claims) loop.i),

@@ -33,34 +33,30 @@ claim_kept-total-requires c =
 
 pub returns-then-total-most : goal.returns-then-total-most
 returns-then-total-most c =
-    let at
-    = c in
-    let entry
-    = (at) in
     let o : Outline
-    = (entry).args.o in
+    = c.args.o in
     let grades : List ℕ
-    = (entry).args.grades.now in
+    = c.args.grades.now in
     let releases : List ℕ
-    = (entry).args.releases.now in
+    = c.args.releases.now in
     let goals : List ℕ
-    = (entry).args.goals.now in
+    = c.args.goals.now in
     let deadlines : List ℕ
-    = (entry).args.deadlines.now in
+    = c.args.deadlines.now in
     let table : List ℕ
-    = (entry).args.table.now in
+    = c.args.table.now in
     let carried : List ℕ
-    = (entry).args.carried.now in
+    = c.args.carried.now in
     let run : Run
-    = settled_run (entry).args.clock (entry).args.slow (carried) in
+    = settled_run c.args.clock c.args.slow (carried) in
     let v : ℕ
-    = (entry).args.v.0 in
+    = c.args.v.0 in
     let n : ℕ
     = min (o).count most_jobs in
-    let jobs : (at).counted-within.result ≡ (n)
-    = (at).counted-within.ensures in
-    let most : (at).over.result.0 ≡ (v)
-    = ap (λ (u : Units). u.0) (at).over.ensures ∙ mul-one (v) in
+    let jobs : c.counted_within-jobs.result ≡ (n)
+    = c.counted_within-jobs.ensures in
+    let most : c.over-most.result.0 ≡ (v)
+    = ap (λ (u : Units). u.0) c.over-most.ensures ∙ mul-one (v) in
     let claim : ℕ → ℕ
     = claim_in (run).clock.0 (run).slow true 0 (grades) (releases) (goals) (deadlines) (carried) [] in
     let total : c.claim_kept-total.result.0 ≡ sum (claim) (n)
@@ -70,44 +66,40 @@ returns-then-total-most c =
     let here = at-if1 in
     let fits : sum (claim) (n) ≤ v = omega (arith, at-if1.if-total-most.true, total, most) in
     let shared = shared_claims (o) (grades) (releases) sizes (deadlines) (table) (run) (v) refl
-    (λ k. get_or (goals) k 0) right (entry).args.grants.now (entry).requires.0 fits in (
+    (λ k. get_or (goals) k 0) right (c).args.grants.now (c).requires.0 fits in (
       shared.0,
       at-grant-claims.grant_claims.ensures
-          ∙ ap (λ m. filled (λ k. get_or here.claim_kept-total.new.claims k 0) m (entry).args.grants.now) (jobs)
-          ∙ filled_ext (λ k. get_or here.claim_kept-total.new.claims k 0) (claim) (n) (entry).args.grants.now (claimed here)
+          ∙ ap (λ m. filled (λ k. get_or here.claim_kept-total.new.claims k 0) m (c).args.grants.now) (jobs)
+          ∙ filled_ext (λ k. get_or here.claim_kept-total.new.claims k 0) (claim) (n) (c).args.grants.now (claimed here)
           ∙ shared.1,
     )
 
 pub returns-then-slow-v : goal.returns-then-slow-v
 returns-then-slow-v c =
-    let at
-    = c in
-    let entry
-    = (at) in
     let o : Outline
-    = (entry).args.o in
+    = c.args.o in
     let grades : List ℕ
-    = (entry).args.grades.now in
+    = c.args.grades.now in
     let releases : List ℕ
-    = (entry).args.releases.now in
+    = c.args.releases.now in
     let goals : List ℕ
-    = (entry).args.goals.now in
+    = c.args.goals.now in
     let deadlines : List ℕ
-    = (entry).args.deadlines.now in
+    = c.args.deadlines.now in
     let table : List ℕ
-    = (entry).args.table.now in
+    = c.args.table.now in
     let carried : List ℕ
-    = (entry).args.carried.now in
+    = c.args.carried.now in
     let run : Run
-    = settled_run (entry).args.clock (entry).args.slow (carried) in
+    = settled_run c.args.clock c.args.slow (carried) in
     let v : ℕ
-    = (entry).args.v.0 in
-    let most : (at).over.result.0 ≡ (v)
-    = ap (λ (u : Units). u.0) (at).over.ensures ∙ mul-one (v) in
+    = c.args.v.0 in
+    let most : c.over-most.result.0 ≡ (v)
+    = ap (λ (u : Units). u.0) c.over-most.ensures ∙ mul-one (v) in
     let n : ℕ
     = min (o).count most_jobs in
-    let jobs : (at).counted-within.result ≡ (n)
-    = (at).counted-within.ensures in
+    let jobs : c.counted_within-jobs.result ≡ (n)
+    = c.counted_within-jobs.ensures in
     let claim : ℕ → ℕ
     = claim_in (run).clock.0 (run).slow true 0 (grades) (releases) (goals) (deadlines) (carried) [] in
     let total : c.claim_kept-total.result.0 ≡ sum (claim) (n)
@@ -116,71 +108,63 @@ returns-then-slow-v c =
     let here = at-else in
     let test = slow_test (run).slow (v) (o).n.0 c.if-slow-v.true in
     shared_not (o) (grades) (releases) sizes (deadlines) (table) (run) (v) refl
-    (λ k. get_or (goals) k 0) right (entry).args.grants.now test.0 test.1 (omega (arith, at-else.if-total-most.false, total, most))
+    (λ k. get_or (goals) k 0) right (c).args.grants.now test.0 test.1 (omega (arith, at-else.if-total-most.false, total, most))
 
 pub serve_in_turns-requires : goal.serve_in_turns-requires
 serve_in_turns-requires c =
-    let at
-    = c in
-    let entry
-    = (at) in
     let goals : List ℕ
-    = (entry).args.goals.now in
+    = c.args.goals.now in
     let carried : List ℕ
-    = (entry).args.carried.now in
+    = c.args.carried.now in
     let o : Outline
-    = (entry).args.o in
+    = c.args.o in
     let n : ℕ
     = min (o).count most_jobs in
-    let jobs : (at).counted-within.result ≡ (n)
-    = (at).counted-within.ensures in
+    let jobs : c.counted_within-jobs.result ≡ (n)
+    = c.counted_within-jobs.ensures in
     let here = c in (
       omega (arith, jobs),
-      rw (jobs) (entry).requires.0,
-      λ k l. (entry).requires.1 k (omega (arith, jobs)),
+      rw (jobs) (c).requires.0,
+      λ k l. (c).requires.1 k (omega (arith, jobs)),
       λ k l served known. claimed here k (omega (arith, jobs))
           ∙ ap (λ b. on b (due_in true 0 (goals) (carried) [] k)) served,
     )
 
 pub returns : goal.returns
 returns c =
-    let at
-    = c in
-    let entry
-    = (at) in
     let o : Outline
-    = (entry).args.o in
+    = c.args.o in
     let grades : List ℕ
-    = (entry).args.grades.now in
+    = c.args.grades.now in
     let releases : List ℕ
-    = (entry).args.releases.now in
+    = c.args.releases.now in
     let goals : List ℕ
-    = (entry).args.goals.now in
+    = c.args.goals.now in
     let deadlines : List ℕ
-    = (entry).args.deadlines.now in
+    = c.args.deadlines.now in
     let carried : List ℕ
-    = (entry).args.carried.now in
+    = c.args.carried.now in
     let table : List ℕ
-    = (entry).args.table.now in
+    = c.args.table.now in
     let run : Run
-    = settled_run (entry).args.clock (entry).args.slow (carried) in
+    = settled_run c.args.clock c.args.slow (carried) in
     let v : ℕ
-    = (entry).args.v.0 in
+    = c.args.v.0 in
     let n : ℕ
     = min (o).count most_jobs in
-    let jobs : (at).counted-within.result ≡ (n)
-    = (at).counted-within.ensures in
-    let most : (at).over.result.0 ≡ (v)
-    = ap (λ (u : Units). u.0) (at).over.ensures ∙ mul-one (v) in
+    let jobs : c.counted_within-jobs.result ≡ (n)
+    = c.counted_within-jobs.ensures in
+    let most : c.over-most.result.0 ≡ (v)
+    = ap (λ (u : Units). u.0) c.over-most.ensures ∙ mul-one (v) in
     λ sizes right. let at-serve-in-turns = c in
     let at-else = at-serve-in-turns in
     let here = at-else in
     let shared = shared_turns (o) (grades) (releases) sizes (deadlines) (table) (run) (v) refl
-    (λ k. get_or (goals) k 0) right (entry).args.grants.now (entry).requires.0
+    (λ k. get_or (goals) k 0) right (c).args.grants.now (c).requires.0
     (normal_test (run).slow (v) (o).n.0 at-else.if-slow-v.false) in (
       shared.0,
       at-serve-in-turns.serve_in_turns.ensures
           ∙ ap₂ (λ x m. in_turns (run).clock.0 (run).slow (grades) (releases) (deadlines)
-          (due_in true 0 (goals) (carried) []) x m (filled (λ k. 0) m (entry).args.grants.now)) (most) (jobs)
+          (due_in true 0 (goals) (carried) []) x m (filled (λ k. 0) m (c).args.grants.now)) (most) (jobs)
           ∙ shared.1,
     )

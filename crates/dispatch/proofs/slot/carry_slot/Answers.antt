@@ -39,61 +39,107 @@ settled c_is k l =
 
 pub share_out-slow-requires : goal.share_out-slow-requires
 share_out-slow-requires c =
+    let o : Outline
+    = c.args.o in
+    let grades : List ℕ
+    = c.args.grades.now in
+    let releases : List ℕ
+    = c.args.releases.now in
+    let sizes : List ℕ
+    = c.args.sizes.now in
+    let deadlines : List ℕ
+    = c.args.deadlines.now in
+    let run : Run
+    = run_at c.args.at c.args.carried.now c.args.ended.now in
+    let q : Plan
+    = plan_on (o) (grades) (releases) (sizes) (deadlines) in
+    let parts : SlotSound (q) (run)
+    = slot_sound_lem (q) (run) c.requires.0 in
     let here = c in (
       here.requires.1,
-      λ k l. rw (← (deadline_on (o here) (grades here) (releases here) (sizes here) (deadlines here) k l)) ((parts here).rules.deadlines k l),
-      omega (arith, here.requires.2, (parts here).rules.rate),
+      λ k l. rw (← (deadline_on (o) (grades) (releases) (sizes) (deadlines) k l)) ((parts).rules.deadlines k l),
+      omega (arith, here.requires.2, (parts).rules.rate),
     )
 
 pub carry_grants-requires : goal.carry_grants-requires
 carry_grants-requires c =
-    let settling
-    = c in
-    let counting
-    = (settling) in
-    let start
-    = (counting) in
+    let table : List ℕ
+    = c.args.table.now in
+    let v : ℕ
+    = c.args.v.0 in
+    let grants : List ℕ
+    = c.args.grants.now in
+    let run : Run
+    = run_at c.args.at c.args.carried.now c.args.ended.now in
+    let o : Outline
+    = c.args.o in
+    let grades : List ℕ
+    = c.args.grades.now in
+    let releases : List ℕ
+    = c.args.releases.now in
+    let sizes : List ℕ
+    = c.args.sizes.now in
+    let deadlines : List ℕ
+    = c.args.deadlines.now in
+    let q : Plan
+    = plan_on (o) (grades) (releases) (sizes) (deadlines) in
+    let parts : SlotSound (q) (run)
+    = slot_sound_lem (q) (run) c.requires.0 in
     let settled : List ℕ
-    = (settling).settle.last.1.1.1.0 in
+    = c.settle.last.1.1.1.0 in
     let left : List ℕ
     = c.share_out-slow.new.grants in
-    let grants-are : (left) ≡ granted (q (start)) (table (start)) (run (start)) (v (start)) (grants (start))
+    let grants-are : (left) ≡ granted (q) (table) (run) (v) (grants)
     = c.share_out-slow.ensures.1
-      ∙ settled_granted (q (start)) (table (start)) (run (start)) (settled) (v (start)) (settled_is c) (grants (start)) (start).pre.1 in
-    let jobs : (counting).counted-within.result ≡ counted (q (start))
-    = (counting).counted-within.ensures in
+      ∙ settled_granted (q) (table) (run) (settled) (v) (settled_is c) (grants) c.requires.1 in
+    let jobs : c.counted_within-jobs.result ≡ counted (q)
+    = c.counted_within-jobs.ensures in
     let at-share-out = c in
-    let here = start in (
+    let here = c in (
       omega (arith, jobs),
-      same_room (jobs) (grants-are) (rw (granted_length (q here) (table here) (run here) (v here) (grants here) here.pre.1) here.pre.1),
-      λ k l. same_sums (carried_of (run here) k) k (grants-are)
-          (carried_fits (q here) (table here) (run here) (v here) (grants here) (parts here) k (omega (arith, jobs))),
+      same_room (jobs) (grants-are) (rw (granted_length (q) (table) (run) (v) (grants) here.requires.1) here.requires.1),
+      λ k l. same_sums (carried_of (run) k) k (grants-are)
+          (carried_fits (q) (table) (run) (v) (grants) (parts) k (omega (arith, jobs))),
     )
 
 pub returns : goal.returns
 returns c =
-    let settling
-    = c in
-    let counting
-    = (settling) in
-    let start
-    = (counting) in
+    let table : List ℕ
+    = c.args.table.now in
+    let v : ℕ
+    = c.args.v.0 in
+    let grants : List ℕ
+    = c.args.grants.now in
+    let run : Run
+    = run_at c.args.at c.args.carried.now c.args.ended.now in
+    let o : Outline
+    = c.args.o in
+    let grades : List ℕ
+    = c.args.grades.now in
+    let releases : List ℕ
+    = c.args.releases.now in
+    let sizes : List ℕ
+    = c.args.sizes.now in
+    let deadlines : List ℕ
+    = c.args.deadlines.now in
+    let q : Plan
+    = plan_on (o) (grades) (releases) (sizes) (deadlines) in
     let left : List ℕ
     = c.share_out-slow.new.grants in
     let settled : List ℕ
-    = (settling).settle.last.1.1.1.0 in
-    let grants-are : (left) ≡ granted (q (start)) (table (start)) (run (start)) (v (start)) (grants (start))
+    = c.settle.last.1.1.1.0 in
+    let grants-are : (left) ≡ granted (q) (table) (run) (v) (grants)
     = c.share_out-slow.ensures.1
-      ∙ settled_granted (q (start)) (table (start)) (run (start)) (settled) (v (start)) (settled_is c) (grants (start)) (start).pre.1 in
-    let slow_is : c.share_out-slow.result ≡ slow_after (q (start)) (table (start)) (run (start)) (v (start))
-    = c.share_out-slow.ensures.0 ∙ settled_mark (q (start)) (table (start)) (run (start)) (settled) (v (start)) (settled_is c) in
-    let jobs : (counting).counted-within.result ≡ counted (q (start))
-    = (counting).counted-within.ensures in
+      ∙ settled_granted (q) (table) (run) (settled) (v) (settled_is c) (grants) c.requires.1 in
+    let slow_is : c.share_out-slow.result ≡ slow_after (q) (table) (run) (v)
+    = c.share_out-slow.ensures.0 ∙ settled_mark (q) (table) (run) (settled) (v) (settled_is c) in
+    let jobs : c.counted_within-jobs.result ≡ counted (q)
+    = c.counted_within-jobs.ensures in
     let at-carry-grants = c in
     let at-share-out = at-carry-grants in
-    let here = start in (
-      slot_run (q here) (table here) (run here) (v here) (grants here) here.pre.1 refl (slow_is)
-          (settling).below-after.ensures (grants-are)
-          (at-carry-grants.carry_grants.ensures ∙ ap (λ m. filled (λ k. carried_of (run here) k + get_or (left) k 0) m (run here).carried) (jobs)),
+    let here = c in (
+      slot_run (q) (table) (run) (v) (grants) here.requires.1 refl (slow_is)
+          (c).below_after.ensures (grants-are)
+          (at-carry-grants.carry_grants.ensures ∙ ap (λ m. filled (λ k. carried_of (run) k + get_or (left) k 0) m (run).carried) (jobs)),
       grants-are,
     )

@@ -25,188 +25,170 @@ same-claims e q told = rw (← e, ← q) told
 
 pub all_fit-requires : goal.all_fit-requires
 all_fit-requires c =
-    let entry
-    = c in
     let o : Outline
-    = (entry).args.o in
+    = c.args.o in
     let jobs : c.counted_within-jobs.result ≡ min (o).count most_jobs
     = c.counted_within-jobs.ensures in
     let v : ℕ
-    = (entry).args.v.0 in
+    = c.args.v.0 in
     let most : c.over-most.result.0 ≡ (v)
     = ap (λ (u : Units). u.0) c.over-most.ensures ∙ mul-one (v) in
-    let at
-    = c in
     let at = c in
-    (omega (arith, jobs), omega (arith, most, (entry).requires.2), refl)
+    (omega (arith, jobs), omega (arith, most, (c).requires.2), refl)
 
 pub returns-then-all_fit : goal.returns-then-all_fit
 returns-then-all_fit c =
-    let entry
-    = c in
     let o : Outline
-    = (entry).args.o in
+    = c.args.o in
     let grades : List ℕ
-    = (entry).args.grades.now in
+    = c.args.grades.now in
     let releases : List ℕ
-    = (entry).args.releases.now in
+    = c.args.releases.now in
     let sizes : List ℕ
-    = (entry).args.sizes.now in
+    = c.args.sizes.now in
     let deadlines : List ℕ
-    = (entry).args.deadlines.now in
+    = c.args.deadlines.now in
     let table : List ℕ
-    = (entry).args.table.now in
+    = c.args.table.now in
     let carried : List ℕ
-    = (entry).args.carried.now in
+    = c.args.carried.now in
     let run : Run
-    = settled_run (entry).args.clock (entry).args.slow (carried) in
+    = settled_run c.args.clock c.args.slow (carried) in
     let v : ℕ
-    = (entry).args.v.0 in
+    = c.args.v.0 in
     let jobs : c.counted_within-jobs.result ≡ min (o).count most_jobs
     = c.counted_within-jobs.ensures in
     let spans : ℕ
-    = (entry).args.spans in
+    = c.args.spans in
     let goals : ℕ → ℕ
     = goal_in (run).slow (spans) (sizes) (table) in
     let right : Goals (o) (grades) (releases) (sizes) (deadlines) (table) (run).clock (run).slow (goals)
-    = sizes_are_goals (o) (grades) (releases) (sizes) (deadlines) (table) (run).clock (run).slow (spans) (entry).pre.3 in
+    = sizes_are_goals (o) (grades) (releases) (sizes) (deadlines) (table) (run).clock (run).slow (spans) c.requires.3 in
     let claim : ℕ → ℕ
     = claim_in (run).clock.0 (run).slow (run).slow (spans) (grades) (releases) (sizes) (deadlines) (carried) (table) in
-    let at
-    = c in
     let most : c.over-most.result.0 ≡ (v)
     = ap (λ (u : Units). u.0) c.over-most.ensures ∙ mul-one (v) in
-    let told : Claimed (claim (at)) (v (at)) (min (o (at)).count most_jobs) c.all_fit.new.claims c.all_fit.result
-    = same-claims (most (at)) (jobs (at)) c.all_fit.ensures in
+    let told : Claimed (claim) (v) (min (o).count most_jobs) c.all_fit.new.claims c.all_fit.result
+    = same-claims (most) (jobs) c.all_fit.ensures in
     let at-grant-claims = c in
     let at-if1 = at-grant-claims in
     let fit = at-if1 in
-    let here = at in
-    let n = min (o here).count most_jobs in
-    let shared = shared_claims (o here) (grades here) (releases here) (sizes here) (deadlines here) (table here) (run here) (v here) refl (goals here) (right here)
-    (entry here).args.grants.now (entry here).pre.0 ((told).sums at-if1.if-all_fit.true).1 in (
+    let here = c in
+    let n = min (o).count most_jobs in
+    let shared = shared_claims (o) (grades) (releases) (sizes) (deadlines) (table) (run) (v) refl (goals) (right)
+    (c).args.grants.now (c).pre.0 ((told).sums at-if1.if-all_fit.true).1 in (
       shared.0,
       at-grant-claims.grant_claims.ensures
-          ∙ ap (λ m. filled (λ k. get_or fit.all_fit.new.claims k 0) m (entry here).args.grants.now) (jobs here)
-          ∙ filled_ext (λ k. get_or fit.all_fit.new.claims k 0) (claim here) n (entry here).args.grants.now
-          (claims_all (claim here) (v here) n (omega arith) (told) at-if1.if-all_fit.true)
+          ∙ ap (λ m. filled (λ k. get_or fit.all_fit.new.claims k 0) m (c).args.grants.now) (jobs)
+          ∙ filled_ext (λ k. get_or fit.all_fit.new.claims k 0) (claim) n (c).args.grants.now
+          (claims_all (claim) (v) n (omega arith) (told) at-if1.if-all_fit.true)
           ∙ shared.1,
     )
 
 pub returns-then-slow-v : goal.returns-then-slow-v
 returns-then-slow-v c =
-    let entry
-    = c in
     let o : Outline
-    = (entry).args.o in
+    = c.args.o in
     let grades : List ℕ
-    = (entry).args.grades.now in
+    = c.args.grades.now in
     let releases : List ℕ
-    = (entry).args.releases.now in
+    = c.args.releases.now in
     let sizes : List ℕ
-    = (entry).args.sizes.now in
+    = c.args.sizes.now in
     let deadlines : List ℕ
-    = (entry).args.deadlines.now in
+    = c.args.deadlines.now in
     let table : List ℕ
-    = (entry).args.table.now in
+    = c.args.table.now in
     let carried : List ℕ
-    = (entry).args.carried.now in
+    = c.args.carried.now in
     let run : Run
-    = settled_run (entry).args.clock (entry).args.slow (carried) in
+    = settled_run c.args.clock c.args.slow (carried) in
     let v : ℕ
-    = (entry).args.v.0 in
+    = c.args.v.0 in
     let spans : ℕ
-    = (entry).args.spans in
+    = c.args.spans in
     let goals : ℕ → ℕ
     = goal_in (run).slow (spans) (sizes) (table) in
     let right : Goals (o) (grades) (releases) (sizes) (deadlines) (table) (run).clock (run).slow (goals)
-    = sizes_are_goals (o) (grades) (releases) (sizes) (deadlines) (table) (run).clock (run).slow (spans) (entry).pre.3 in
-    let at
-    = c in
+    = sizes_are_goals (o) (grades) (releases) (sizes) (deadlines) (table) (run).clock (run).slow (spans) c.requires.3 in
     let jobs : c.counted_within-jobs.result ≡ min (o).count most_jobs
     = c.counted_within-jobs.ensures in
     let most : c.over-most.result.0 ≡ (v)
     = ap (λ (u : Units). u.0) c.over-most.ensures ∙ mul-one (v) in
     let claim : ℕ → ℕ
     = claim_in (run).clock.0 (run).slow (run).slow (spans) (grades) (releases) (sizes) (deadlines) (carried) (table) in
-    let told : Claimed (claim (at)) (v (at)) (min (o (at)).count most_jobs) c.all_fit.new.claims c.all_fit.result
-    = same-claims (most (at)) (jobs (at)) c.all_fit.ensures in
+    let told : Claimed (claim) (v) (min (o).count most_jobs) c.all_fit.new.claims c.all_fit.result
+    = same-claims (most) (jobs) c.all_fit.ensures in
     let at-else = c in
     let fit = at-else in
-    let here = at in
-    let test = slow_test (run here).slow (v here) (o here).n.0 c.if-slow-v.true in
-    shared_not (o here) (grades here) (releases here) (sizes here) (deadlines here) (table here) (run here) (v here) refl (goals here) (right here)
-    (entry here).args.grants.now test.0 test.1 ((told).over at-else.if-all_fit.false)
+    let here = c in
+    let test = slow_test (run).slow (v) (o).n.0 c.if-slow-v.true in
+    shared_not (o) (grades) (releases) (sizes) (deadlines) (table) (run) (v) refl (goals) (right)
+    (c).args.grants.now test.0 test.1 ((told).over at-else.if-all_fit.false)
 
 pub serve_in_turns-requires : goal.serve_in_turns-requires
 serve_in_turns-requires c =
-    let entry
-    = c in
     let o : Outline
-    = (entry).args.o in
+    = c.args.o in
     let grades : List ℕ
-    = (entry).args.grades.now in
+    = c.args.grades.now in
     let releases : List ℕ
-    = (entry).args.releases.now in
+    = c.args.releases.now in
     let sizes : List ℕ
-    = (entry).args.sizes.now in
+    = c.args.sizes.now in
     let deadlines : List ℕ
-    = (entry).args.deadlines.now in
+    = c.args.deadlines.now in
     let carried : List ℕ
-    = (entry).args.carried.now in
+    = c.args.carried.now in
     let table : List ℕ
-    = (entry).args.table.now in
+    = c.args.table.now in
     let run : Run
-    = settled_run (entry).args.clock (entry).args.slow (carried) in
+    = settled_run c.args.clock c.args.slow (carried) in
     let v : ℕ
-    = (entry).args.v.0 in
+    = c.args.v.0 in
     let spans : ℕ
-    = (entry).args.spans in
+    = c.args.spans in
     let jobs : c.counted_within-jobs.result ≡ min (o).count most_jobs
     = c.counted_within-jobs.ensures in
     let claim : ℕ → ℕ
     = claim_in (run).clock.0 (run).slow (run).slow (spans) (grades) (releases) (sizes) (deadlines) (carried) (table) in
-    let at
-    = c in
     let most : c.over-most.result.0 ≡ (v)
     = ap (λ (u : Units). u.0) c.over-most.ensures ∙ mul-one (v) in
-    let told : Claimed (claim (at)) (v (at)) (min (o (at)).count most_jobs) c.all_fit.new.claims c.all_fit.result
-    = same-claims (most (at)) (jobs (at)) c.all_fit.ensures in
+    let told : Claimed (claim) (v) (min (o).count most_jobs) c.all_fit.new.claims c.all_fit.result
+    = same-claims (most) (jobs) c.all_fit.ensures in
     let fit = c in
-    let here = at in
-    let n = min (o here).count most_jobs in (
-      omega (arith, jobs here),
-      rw (jobs here) (entry here).pre.0,
-      λ k l. (entry here).pre.1 k (omega (arith, jobs here)),
-      λ k l. claims_known (claim here) (due_in (run here).slow (spans here) (sizes here) (carried here) (table here))
-          (served_in (run here).clock.0 (run here).slow (grades here) (releases here) (deadlines here)) (v here) n (λ i. refl) (omega arith) (told) k
-          (omega (arith, jobs here)),
+    let here = c in
+    let n = min (o).count most_jobs in (
+      omega (arith, jobs),
+      rw (jobs) (c).pre.0,
+      λ k l. (c).pre.1 k (omega (arith, jobs)),
+      λ k l. claims_known (claim) (due_in (run).slow (spans) (sizes) (carried) (table))
+          (served_in (run).clock.0 (run).slow (grades) (releases) (deadlines)) (v) n (λ i. refl) (omega arith) (told) k
+          (omega (arith, jobs)),
     )
 
 pub returns : goal.returns
 returns c =
-    let entry
-    = c in
     let o : Outline
-    = (entry).args.o in
+    = c.args.o in
     let grades : List ℕ
-    = (entry).args.grades.now in
+    = c.args.grades.now in
     let releases : List ℕ
-    = (entry).args.releases.now in
+    = c.args.releases.now in
     let sizes : List ℕ
-    = (entry).args.sizes.now in
+    = c.args.sizes.now in
     let deadlines : List ℕ
-    = (entry).args.deadlines.now in
+    = c.args.deadlines.now in
     let carried : List ℕ
-    = (entry).args.carried.now in
+    = c.args.carried.now in
     let table : List ℕ
-    = (entry).args.table.now in
+    = c.args.table.now in
     let run : Run
-    = settled_run (entry).args.clock (entry).args.slow (carried) in
+    = settled_run c.args.clock c.args.slow (carried) in
     let v : ℕ
-    = (entry).args.v.0 in
+    = c.args.v.0 in
     let spans : ℕ
-    = (entry).args.spans in
+    = c.args.spans in
     let jobs : c.counted_within-jobs.result ≡ min (o).count most_jobs
     = c.counted_within-jobs.ensures in
     let most : c.over-most.result.0 ≡ (v)
@@ -214,18 +196,16 @@ returns c =
     let goals : ℕ → ℕ
     = goal_in (run).slow (spans) (sizes) (table) in
     let right : Goals (o) (grades) (releases) (sizes) (deadlines) (table) (run).clock (run).slow (goals)
-    = sizes_are_goals (o) (grades) (releases) (sizes) (deadlines) (table) (run).clock (run).slow (spans) (entry).pre.3 in
-    let at
-    = c in
+    = sizes_are_goals (o) (grades) (releases) (sizes) (deadlines) (table) (run).clock (run).slow (spans) c.requires.3 in
     let at-serve-in-turns = c in
     let at-else = at-serve-in-turns in
     let fit = at-else in
-    let here = at in
-    let shared = shared_turns (o here) (grades here) (releases here) (sizes here) (deadlines here) (table here) (run here) (v here) refl (goals here) (right here)
-    (entry here).args.grants.now (entry here).pre.0 (normal_test (run here).slow (v here) (o here).n.0 at-else.if-slow-v.false) in (
+    let here = c in
+    let shared = shared_turns (o) (grades) (releases) (sizes) (deadlines) (table) (run) (v) refl (goals) (right)
+    (c).args.grants.now (c).pre.0 (normal_test (run).slow (v) (o).n.0 at-else.if-slow-v.false) in (
       shared.0,
       at-serve-in-turns.serve_in_turns.ensures
-          ∙ ap₂ (λ x m. in_turns (run here).clock.0 (run here).slow (grades here) (releases here) (deadlines here)
-          (due_in (run here).slow (spans here) (sizes here) (carried here) (table here)) x m (filled (λ k. 0) m (entry here).args.grants.now)) (most here) (jobs here)
+          ∙ ap₂ (λ x m. in_turns (run).clock.0 (run).slow (grades) (releases) (deadlines)
+          (due_in (run).slow (spans) (sizes) (carried) (table)) x m (filled (λ k. 0) m (c).args.grants.now)) (most) (jobs)
           ∙ shared.1,
     )

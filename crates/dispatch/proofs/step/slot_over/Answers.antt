@@ -31,26 +31,24 @@ use Rattle.dispatch.proofs.step.slot_over.Goals as goal
 
 pub returns-then-not-is_done : goal.returns-then-not-is_done
 returns-then-not-is_done c =
-    let entry
-    = c in
     let table : List ℕ
-    = (entry).args.table.now in
+    = c.args.table.now in
     let v : ℕ
-    = (entry).args.v in
+    = c.args.v in
     let grants : List ℕ
-    = (entry).args.grants.now in
+    = c.args.grants.now in
     let run : Run
-    = run_at (entry).args.at (entry).args.carried.now (entry).args.ended.now in
+    = run_at c.args.at c.args.carried.now c.args.ended.now in
     let o : Outline
-    = (entry).args.o in
+    = c.args.o in
     let grades : List ℕ
-    = (entry).args.grades.now in
+    = c.args.grades.now in
     let releases : List ℕ
-    = (entry).args.releases.now in
+    = c.args.releases.now in
     let sizes : List ℕ
-    = (entry).args.sizes.now in
+    = c.args.sizes.now in
     let deadlines : List ℕ
-    = (entry).args.deadlines.now in
+    = c.args.deadlines.now in
     let q : Plan
     = plan_on (o) (grades) (releases) (sizes) (deadlines) in
     let by-readiness : answer_view c.answer_to-answer.result ≡ fault_by (readiness (q) (run).clock.0 (run).carried) (ltb (length (table)) places || ltb (length (grants)) (counted (q))) (ltb (o).n.0 (v))
@@ -62,74 +60,68 @@ returns-then-not-is_done c =
     = λ p cols. alike_slot p (table) (q) (table) (columns_alike (grades) (releases) (sizes) (deadlines) (o) p (table) cols) (run) (v) (grants) in
     λ p cols. let at = c in
     slot_refused (q) (table) (run) (v) (grants) (told)
-    (sym c.is_done.ensures ∙ not-true _ (ap not c.if-not-is_done.true))
+    (sym c.is_done.ensures ∙ not-true _ (ap not (ap not c.if-not-is_done.true)))
     ∙ sym (carried-over p cols)
 
 pub carry_slot-next-requires : goal.carry_slot-next-requires
 unfolding slot_sound
 carry_slot-next-requires c =
-    let entry
-    = c in
     let o : Outline
-    = (entry).args.o in
+    = c.args.o in
     let table : List ℕ
-    = (entry).args.table.now in
+    = c.args.table.now in
     let v : ℕ
-    = (entry).args.v in
+    = c.args.v in
     let grants : List ℕ
-    = (entry).args.grants.now in
+    = c.args.grants.now in
     let run : Run
-    = run_at (entry).args.at (entry).args.carried.now (entry).args.ended.now in
+    = run_at c.args.at c.args.carried.now c.args.ended.now in
     let grades : List ℕ
-    = (entry).args.grades.now in
+    = c.args.grades.now in
     let releases : List ℕ
-    = (entry).args.releases.now in
+    = c.args.releases.now in
     let sizes : List ℕ
-    = (entry).args.sizes.now in
+    = c.args.sizes.now in
     let deadlines : List ℕ
-    = (entry).args.deadlines.now in
+    = c.args.deadlines.now in
     let q : Plan
     = plan_on (o) (grades) (releases) (sizes) (deadlines) in
     let by-readiness : answer_view c.answer_to-answer.result ≡ fault_by (readiness (q) (run).clock.0 (run).carried) (ltb (length (table)) places || ltb (length (grants)) (counted (q))) (ltb (o).n.0 (v))
     = c.answer_to-answer.ensures
       ∙ ap₂ (λ s n. fault_by s (ltb (length (table)) places || ltb (length (grants)) n) (ltb (o).n.0 (v))) c.readiness_of-readiness.ensures c.counted_within-jobs.ensures in
-    let here
-    = c in
-    let none : is_none (answer_view (here).answer-to.result) ≡ true
-    = sym c.is_done.ensures ∙ not-false _ (ap not c.if-not-is_done.false) in
-    let going : (sound_at (q (here)) (run (here)).clock.0 (run (here)).carried ≡ true) × ((ltb (length (table (here))) places || ltb (length (grants (here))) (counted (q (here)))) ≡ false) × (eqb (run (here)).clock.0 (last_deadline (q (here))) ≡ false) × (ltb (o (here)).n.0 (v (here)) ≡ false)
-    = readiness_clear (q (here)) (run (here)).clock.0 (run (here)).carried (ltb (length (table (here))) places || ltb (length (grants (here))) (counted (q (here)))) (ltb (o (here)).n.0 (v (here)))
-      (ap is_none (sym (by-readiness (here))) ∙ (none)) in
-    let is-sound : slot_sound (q (here)) (run (here)) ≡ true
+    let none : is_none (answer_view c.answer_to-answer.result) ≡ true
+    = sym c.is_done.ensures ∙ not-false _ (ap not (ap not c.if-not-is_done.false)) in
+    let going : (sound_at (q) (run).clock.0 (run).carried ≡ true) × ((ltb (length (table)) places || ltb (length (grants)) (counted (q))) ≡ false) × (eqb (run).clock.0 (last_deadline (q)) ≡ false) × (ltb (o).n.0 (v) ≡ false)
+    = readiness_clear (q) (run).clock.0 (run).carried (ltb (length (table)) places || ltb (length (grants)) (counted (q))) (ltb (o).n.0 (v))
+      (ap is_none (sym (by-readiness)) ∙ (none)) in
+    let is-sound : slot_sound (q) (run) ≡ true
     = (going).0 in
-    let room : counted (q (here)) ≤ length (grants (here))
-    = ltb-false (length (grants (here))) (counted (q (here))) (neither (ltb (length (table (here))) places) _ (going).1).1 in
-    let normal : v (here) ≤ (o (here)).n.0
-    = ltb-false (o (here)).n.0 (v (here)) (going).3 in
+    let room : counted (q) ≤ length (grants)
+    = ltb-false (length (grants)) (counted (q)) (neither (ltb (length (table)) places) _ (going).1).1 in
+    let normal : v ≤ (o).n.0
+    = ltb-false (o).n.0 (v) (going).3 in
     let was = c in (is-sound, room, normal)
 
 pub returns : goal.returns
 returns c =
-    let entry
-    = c in
     let table : List ℕ
-    = (entry).args.table.now in
+    = c.args.table.now in
     let v : ℕ
-    = (entry).args.v in
+    = c.args.v in
     let grants : List ℕ
-    = (entry).args.grants.now in
+    = c.args.grants.now in
     let run : Run
-    = run_at (entry).args.at (entry).args.carried.now (entry).args.ended.now in
+    = run_at c.args.at c.args.carried.now c.args.ended.now in
     let o : Outline
-    = (entry).args.o in
+    = c.args.o in
     let grades : List ℕ
-    = (entry).args.grades.now in
+    = c.args.grades.now in
     let releases : List ℕ
-    = (entry).args.releases.now in
+    = c.args.releases.now in
     let sizes : List ℕ
-    = (entry).args.sizes.now in
+    = c.args.sizes.now in
     let deadlines : List ℕ
-    = (entry).args.deadlines.now in
+    = c.args.deadlines.now in
     let q : Plan
     = plan_on (o) (grades) (releases) (sizes) (deadlines) in
     let by-readiness : answer_view c.answer_to-answer.result ≡ fault_by (readiness (q) (run).clock.0 (run).carried) (ltb (length (table)) places || ltb (length (grants)) (counted (q))) (ltb (o).n.0 (v))
@@ -139,13 +131,11 @@ returns c =
     = (by-readiness) ∙ readiness_fault (q) (table) (run) (v) (grants) in
     let carried-over : (p : Plan) → Columns p (o) (grades) (releases) (sizes) (deadlines) → stepped p (table) (run) (v) (grants) ≡ stepped (q) (table) (run) (v) (grants)
     = λ p cols. alike_slot p (table) (q) (table) (columns_alike (grades) (releases) (sizes) (deadlines) (o) p (table) cols) (run) (v) (grants) in
-    let here
-    = c in
-    let none : is_none (answer_view (here).answer-to.result) ≡ true
-    = sym c.is_done.ensures ∙ not-false _ (ap not c.if-not-is_done.false) in
+    let none : is_none (answer_view c.answer_to-answer.result) ≡ true
+    = sym c.is_done.ensures ∙ not-false _ (ap not (ap not c.if-not-is_done.false)) in
     λ p cols. let at-carry-slot = c in
     let was = at-carry-slot in
-    let at = here in
-    slot_done (q at) (table at) (run at) (v at) (grants at) (told at) (none_empty _ (none)) at-carry-slot.carry_slot-next.ensures.0
+    let at = c in
+    slot_done (q) (table) (run) (v) (grants) (told) (none_empty _ (none)) at-carry-slot.carry_slot-next.ensures.0
     at-carry-slot.carry_slot-next.ensures.1
-    ∙ sym (carried-over at p cols)
+    ∙ sym (carried-over p cols)
