@@ -22,6 +22,7 @@ use Rattle.desk.specs.Desk.{jobs_fault, table_after}
 use Rattle.desk.specs.Answers.{shortage_view}
 use Rattle.desk.proofs.CodeLaws.{job_columns}
 use Rattle.desk.proofs.draw_over.Goals as goal
+use Rattle.desk.proofs.draw_over.Goals.{else-is_nothing, then-is_nothing}
 
 -- The rooms that the code fills are those of the plan.
 rooms-are : (p : Plan) {o : Outline} {grades releases sizes deadlines times rooms : List ℕ} → Columns p o grades releases sizes deadlines → times ≡ boundaries p
@@ -58,7 +59,8 @@ shape_of-table c =
     let at_clear = c in
     let entry = at_clear in
     let long = ap length (table-clear) ∙ cleared-long entry.args.table.now entry.requires.2 in
-    ⊎_elim (λ w. ap length w.14 ∙ w.11.ensures.0 ∙ w.6.ensures.0 ∙ long) (λ w. ap length w.1 ∙ long) c.if-is_nothing.branch
+    elim c.if-is_nothing.branch [ then-is_nothing w ↦ ap length w.VAR9-is ∙ w.VAR6-is.ensures.0 ∙ w.VAR1-is.ensures.0 ∙ long
+      | else-is_nothing w ↦ ap length w.VAR0-is ∙ long ]
 
 pub returns : goal.returns
 returns c =
@@ -74,13 +76,10 @@ returns c =
     let short : shortage_view at-shortage-over.shortage_over-short.result ≡ jobs_fault p = at-shortage-over.shortage_over-short.ensures p cols at begin in
     let told = at-is-nothing.is_nothing.ensures ∙ ap is_none short in (
       c.number_of.ensures ∙ ap number_of short,
-      ⊎_elim
-          (λ w.
-          let jobs = job_columns p cols w.1.ensures in
+      elim c.if-is_nothing.branch [ then-is_nothing w ↦ let jobs = job_columns p cols w.counted_within-jobs.ensures in
           let spans = ap (λ l. length l - 1) at in
-          w.14
-          ∙ both-placed p table (rooms-are p cols at w.3.ensures) (table-clear) (w.6.ensures.1 p jobs at spans) (w.11.ensures.1 p jobs at spans)
-          ∙ ap (table_after p table []) (sym (none_empty (jobs_fault p) (sym told ∙ w.0.taken))))
-          (λ w. w.1 ∙ table-clear ∙ refused p table (jobs_fault p) (sym told ∙ w.0.left))
-          c.if-is_nothing.branch,
+          w.VAR9-is
+          ∙ both-placed p table (rooms-are p cols at w.rooms-1.ensures) (table-clear) (w.VAR1-is.ensures.1 p jobs at spans) (w.VAR6-is.ensures.1 p jobs at spans)
+          ∙ ap (table_after p table []) (sym (none_empty (jobs_fault p) (sym told ∙ w.if-is_nothing.true)))
+      | else-is_nothing w ↦ w.VAR0-is ∙ table-clear ∙ refused p table (jobs_fault p) (sym told ∙ w.if-is_nothing.false) ],
     )

@@ -14,6 +14,7 @@ use Rattle.desk.specs.Timetable.{Draft, turn, placing, job_turn, turns_at}
 use Rattle.desk.specs.Inner.Lists.{JobColumns}
 use Rattle.desk.proofs.CodeLaws.{through_start, through_next, turn_taken, turn_left}
 use Rattle.desk.proofs.placing.place_due.Goals as goal
+use Rattle.desk.proofs.placing.place_due.Goals.{else-due, then-due}
 
 pub loop-q-init : goal.loop-q-init
 loop-q-init c =
@@ -30,25 +31,21 @@ loop-q-preserved c =
     let next : Draft = record { rooms = c.if-due.rooms; table = c.if-due.table } in
     let step : Plan → ℕ → Draft → Draft = λ p q. job_turn p a.back a.m (turn a.back (counted p) q) in
     let turned = at-turn-of.turn_of-i.ensures in
-    ⊎_elim
-    (λ w.
-    let placed : next ≡ (placing a.back a.m at-turn-of.turn_of-i.result (get_or a.sizes.now at-turn-of.turn_of-i.result 0) so_far).draft
-    = ap₂ (λ rooms table. record { rooms = rooms; table = table }) w.7 w.8 ∙ w.4.ensures in (
+    elim c.if-due.branch [ then-due w ↦ let placed : next ≡ (placing a.back a.m at-turn-of.turn_of-i.result (get_or a.sizes.now at-turn-of.turn_of-i.result 0) so_far).draft
+    = ap₂ (λ rooms table. record { rooms = rooms; table = table }) w.slice_known-then-due-1 w.VAR0-is ∙ w.place_units-arg-then-due-2-1.ensures in (
       omega arith,
-      ap length w.8 ∙ w.4.kept.1.1.1.1.1.0 ∙ l.invariant.1,
+      ap length w.VAR0-is ∙ w.place_units-arg-then-due-2-1.kept.1.1.1.1.1.0 ∙ l.invariant.1,
       λ p cols at.
           through_next (step p) l.q _ (l.invariant.2 p cols at)
-          (turn_taken p cols a.back a.m l.q so_far turned.0 turned.1 at at-is-of.is_of.ensures w.0.taken placed),
-    ))
-    (λ w.
-    let same : next ≡ so_far = ap₂ (λ rooms table. record { rooms = rooms; table = table }) w.1 w.2 in (
+          (turn_taken p cols a.back a.m l.q so_far turned.0 turned.1 at at-is-of.is_of.ensures w.if-due.true placed),
+    )
+      | else-due w ↦ let same : next ≡ so_far = ap₂ (λ rooms table. record { rooms = rooms; table = table }) w.VAR0-is w.VAR1-is in (
       omega arith,
-      ap length w.2 ∙ l.invariant.1,
+      ap length w.VAR1-is ∙ l.invariant.1,
       λ p cols at.
           through_next (step p) l.q _ (l.invariant.2 p cols at)
-          (same ∙ turn_left p cols a.back a.m l.q so_far turned.0 turned.1 at at-is-of.is_of.ensures w.0.left),
-    ))
-    c.if-due.branch
+          (same ∙ turn_left p cols a.back a.m l.q so_far turned.0 turned.1 at at-is-of.is_of.ensures w.if-due.false),
+    ) ]
 
 pub shape_of-table : goal.shape_of-table
 shape_of-table c =

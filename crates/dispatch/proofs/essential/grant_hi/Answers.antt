@@ -19,6 +19,7 @@ use Rattle.plan.specs.declared.kinds.Units.{Units}
 use Rattle.dispatch.specs.Inner.Turns.{class_in, due_in, unknown, KnownDue}
 use Rattle.dispatch.proofs.TurnLaws.{same_known, noted}
 use Rattle.dispatch.proofs.essential.grant_hi.Goals as goal
+use Rattle.dispatch.proofs.essential.grant_hi.Goals.{else-is_of, then-is_of}
 
 pub loop-i-init : goal.loop-i-init
 loop-i-init c =
@@ -88,14 +89,10 @@ overflow_cast-grants c =
     let class : ℕ → Bool
     = class_in true c.args.clock.0 c.args.grades.now c.args.releases.now c.args.deadlines.now in
     let granted : (c.if-is_of.due.0 ≡ on (class (i)) (dues (i))) × (c.if-is_of.due.0 ≤ unknown)
-    = ⊎_elim
-      (λ w.
-      let is = ap (λ (u : Units). u.0) w.5 in
-      (is ∙ w.2.ensures.0 ∙ ap (λ b. on b (dues (i))) (sym w.0.taken ∙ c.is_of.ensures), omega (arith, is, w.2.ensures.1)))
-      (λ w.
-      let is = ap (λ (u : Units). u.0) w.2 in
-      (is ∙ ap (λ b. on b (dues (i))) (sym w.0.left ∙ c.is_of.ensures), omega (arith, is)))
-      c.if-is_of.branch in
+    = elim c.if-is_of.branch [ then-is_of w ↦ let is = ap (λ (u : Units). u.0) w.due-is in
+      (is ∙ w.struct_known-then-is_of-1.ensures.0 ∙ ap (λ b. on b (dues (i))) (sym w.if-is_of.true ∙ c.is_of.ensures), omega (arith, is, w.struct_known-then-is_of-1.ensures.1))
+      | else-is_of w ↦ let is = ap (λ (u : Units). u.0) w.due-is in
+      (is ∙ ap (λ b. on b (dues (i))) (sym w.if-is_of.false ∙ c.is_of.ensures), omega (arith, is)) ] in
     record { fits = omega (arith, (granted).1) }
 
 pub offset_bounds-grants-i : goal.offset_bounds-grants-i
@@ -145,14 +142,10 @@ overflow_add-total c =
     let class : ℕ → Bool
     = class_in true c.args.clock.0 c.args.grades.now c.args.releases.now c.args.deadlines.now in
     let granted : (c.if-is_of.due.0 ≡ on (class (i)) (dues (i))) × (c.if-is_of.due.0 ≤ unknown)
-    = ⊎_elim
-      (λ w.
-      let is = ap (λ (u : Units). u.0) w.5 in
-      (is ∙ w.2.ensures.0 ∙ ap (λ b. on b (dues (i))) (sym w.0.taken ∙ c.is_of.ensures), omega (arith, is, w.2.ensures.1)))
-      (λ w.
-      let is = ap (λ (u : Units). u.0) w.2 in
-      (is ∙ ap (λ b. on b (dues (i))) (sym w.0.left ∙ c.is_of.ensures), omega (arith, is)))
-      c.if-is_of.branch in
+    = elim c.if-is_of.branch [ then-is_of w ↦ let is = ap (λ (u : Units). u.0) w.due-is in
+      (is ∙ w.struct_known-then-is_of-1.ensures.0 ∙ ap (λ b. on b (dues (i))) (sym w.if-is_of.true ∙ c.is_of.ensures), omega (arith, is, w.struct_known-then-is_of-1.ensures.1))
+      | else-is_of w ↦ let is = ap (λ (u : Units). u.0) w.due-is in
+      (is ∙ ap (λ b. on b (dues (i))) (sym w.if-is_of.false ∙ c.is_of.ensures), omega (arith, is)) ] in
     let joined = c in
     omega (arith, (granted).1, c.loop-i.inv.3, below)
 
@@ -190,20 +183,14 @@ loop-i-preserved c =
     let i : ℕ
     = c.loop-i.i in
     let granted : (c.if-is_of.due.0 ≡ on (class (i)) (dues (i))) × (c.if-is_of.due.0 ≤ unknown)
-    = ⊎_elim
-      (λ w.
-      let is = ap (λ (u : Units). u.0) w.5 in
-      (is ∙ w.2.ensures.0 ∙ ap (λ b. on b (dues (i))) (sym w.0.taken ∙ c.is_of.ensures), omega (arith, is, w.2.ensures.1)))
-      (λ w.
-      let is = ap (λ (u : Units). u.0) w.2 in
-      (is ∙ ap (λ b. on b (dues (i))) (sym w.0.left ∙ c.is_of.ensures), omega (arith, is)))
-      c.if-is_of.branch in
+    = elim c.if-is_of.branch [ then-is_of w ↦ let is = ap (λ (u : Units). u.0) w.due-is in
+      (is ∙ w.struct_known-then-is_of-1.ensures.0 ∙ ap (λ b. on b (dues (i))) (sym w.if-is_of.true ∙ c.is_of.ensures), omega (arith, is, w.struct_known-then-is_of-1.ensures.1))
+      | else-is_of w ↦ let is = ap (λ (u : Units). u.0) w.due-is in
+      (is ∙ ap (λ b. on b (dues (i))) (sym w.if-is_of.false ∙ c.is_of.ensures), omega (arith, is)) ] in
     let right : (k : ℕ) → KnownDue c.args.claims.now (dues) k → KnownDue c.if-is_of.claims (dues) k
     = λ k was. let now = c.loop-i.inv.4 k was in
-      ⊎_elim
-      (λ w. same_known (dues) k w.4 (noted (dues) c.loop-i.claims (i) _ k w.2.ensures.0 now))
-      (λ w. same_known (dues) k w.1 now)
-      c.if-is_of.branch in
+      elim c.if-is_of.branch [ then-is_of w ↦ same_known (dues) k w.claims-is (noted (dues) c.loop-i.claims (i) _ k w.struct_known-then-is_of-1.ensures.0 now)
+      | else-is_of w ↦ same_known (dues) k w.claims-is now ] in
     let joined = c in
     let here = c in
     let loop = (c).loop in (

@@ -17,6 +17,7 @@ use Rattle.dispatch.specs.Inner.Turns.{class_in, rank_in, due_in, KnownDue}
 use Rattle.dispatch.proofs.Queues.{serve_length}
 use Rattle.dispatch.proofs.TurnLaws.{granted_served, granted_cleared, same_known}
 use Rattle.dispatch.proofs.essential.serve_hi.Goals as goal
+use Rattle.dispatch.proofs.essential.serve_hi.Goals.{else-slow-claims, then-slow-claims}
 
 pub grant_hi-total-requires : goal.grant_hi-total-requires
 grant_hi-total-requires c =
@@ -50,13 +51,10 @@ clear_grants-requires c =
     let cleared : c.clear_grants.new.grants ≡ blank
     = c.clear_grants.ensures ∙ (as_before).0 in
     let as_before : (filled (λ k. 0) c.args.jobs c.if-slow-claims.grants ≡ blank) × (length c.if-slow-claims.grants ≡ length c.args.grants.now)
-    = ⊎_elim
-      (λ w.
-      let cleared =
-      granted_cleared (λ k. on (class k) (dues k)) c.args.v.0 c.args.jobs c.args.grants.now w.3.ensures.0 in
-      (ap (filled (λ k. 0) c.args.jobs) w.10 ∙ cleared.0, ap length w.10 ∙ cleared.1))
-      (λ w. (ap (filled (λ k. 0) c.args.jobs) w.2, ap length w.2))
-      c.if-slow-claims.branch in
+    = elim c.if-slow-claims.branch [ then-slow-claims w ↦ let cleared =
+      granted_cleared (λ k. on (class k) (dues k)) c.args.v.0 c.args.jobs c.args.grants.now w.grant_hi-total.ensures.0 in
+      (ap (filled (λ k. 0) c.args.jobs) w.VAR6-is ∙ cleared.0, ap length w.VAR6-is ∙ cleared.1)
+      | else-slow-claims w ↦ (ap (filled (λ k. 0) c.args.jobs) w.grants-is, ap length w.grants-is) ] in
     omega (arith, (as_before).1, c.requires.2)
 
 pub serve_gathered-requires : goal.serve_gathered-requires
@@ -64,22 +62,17 @@ serve_gathered-requires c =
     let dues : ℕ → ℕ
     = due_in c.args.whole c.args.spans c.args.goals.now c.args.carried.now c.args.table.now in
     let right : (k : ℕ) → KnownDue c.args.claims.now (dues) k → KnownDue c.if-slow-claims.claims (dues) k
-    = λ k. ⊎_elim
-      (λ w known. same_known (dues) k w.9 (w.3.ensures.1 k known))
-      (λ w known. same_known (dues) k w.1 known)
-      c.if-slow-claims.branch in
+    = λ k. elim c.if-slow-claims.branch [ then-slow-claims w ↦ λ known. same_known (dues) k w.VAR5-is (w.grant_hi-total.ensures.1 k known)
+      | else-slow-claims w ↦ λ known. same_known (dues) k w.claims-is known ] in
     let class : ℕ → Bool
     = class_in true c.args.clock.0 c.args.grades.now c.args.releases.now c.args.deadlines.now in
     let blank : List ℕ
     = filled (λ k. 0) c.args.jobs c.args.grants.now in
     let as_before : (filled (λ k. 0) c.args.jobs c.if-slow-claims.grants ≡ blank) × (length c.if-slow-claims.grants ≡ length c.args.grants.now)
-    = ⊎_elim
-      (λ w.
-      let cleared =
-      granted_cleared (λ k. on (class k) (dues k)) c.args.v.0 c.args.jobs c.args.grants.now w.3.ensures.0 in
-      (ap (filled (λ k. 0) c.args.jobs) w.10 ∙ cleared.0, ap length w.10 ∙ cleared.1))
-      (λ w. (ap (filled (λ k. 0) c.args.jobs) w.2, ap length w.2))
-      c.if-slow-claims.branch in
+    = elim c.if-slow-claims.branch [ then-slow-claims w ↦ let cleared =
+      granted_cleared (λ k. on (class k) (dues k)) c.args.v.0 c.args.jobs c.args.grants.now w.grant_hi-total.ensures.0 in
+      (ap (filled (λ k. 0) c.args.jobs) w.VAR6-is ∙ cleared.0, ap length w.VAR6-is ∙ cleared.1)
+      | else-slow-claims w ↦ (ap (filled (λ k. 0) c.args.jobs) w.grants-is, ap length w.grants-is) ] in
     let cleared : c.clear_grants.new.grants ≡ blank
     = c.clear_grants.ensures ∙ (as_before).0 in
     let at-gather = c in
@@ -106,13 +99,10 @@ shape_of-grants c =
     let blank : List ℕ
     = filled (λ k. 0) c.args.jobs c.args.grants.now in
     let as_before : (filled (λ k. 0) c.args.jobs c.if-slow-claims.grants ≡ blank) × (length c.if-slow-claims.grants ≡ length c.args.grants.now)
-    = ⊎_elim
-      (λ w.
-      let cleared =
-      granted_cleared (λ k. on (class k) (dues k)) c.args.v.0 c.args.jobs c.args.grants.now w.3.ensures.0 in
-      (ap (filled (λ k. 0) c.args.jobs) w.10 ∙ cleared.0, ap length w.10 ∙ cleared.1))
-      (λ w. (ap (filled (λ k. 0) c.args.jobs) w.2, ap length w.2))
-      c.if-slow-claims.branch in
+    = elim c.if-slow-claims.branch [ then-slow-claims w ↦ let cleared =
+      granted_cleared (λ k. on (class k) (dues k)) c.args.v.0 c.args.jobs c.args.grants.now w.grant_hi-total.ensures.0 in
+      (ap (filled (λ k. 0) c.args.jobs) w.VAR6-is ∙ cleared.0, ap length w.VAR6-is ∙ cleared.1)
+      | else-slow-claims w ↦ (ap (filled (λ k. 0) c.args.jobs) w.grants-is, ap length w.grants-is) ] in
     let cleared : c.clear_grants.new.grants ≡ blank
     = c.clear_grants.ensures ∙ (as_before).0 in
     let none : (k : ℕ) → k < (c).args.jobs → get_or (blank) k 0 ≡ 0
@@ -132,10 +122,8 @@ returns c =
     let dues : ℕ → ℕ
     = due_in c.args.whole c.args.spans c.args.goals.now c.args.carried.now c.args.table.now in
     let right : (k : ℕ) → KnownDue c.args.claims.now (dues) k → KnownDue c.if-slow-claims.claims (dues) k
-    = λ k. ⊎_elim
-      (λ w known. same_known (dues) k w.9 (w.3.ensures.1 k known))
-      (λ w known. same_known (dues) k w.1 known)
-      c.if-slow-claims.branch in
+    = λ k. elim c.if-slow-claims.branch [ then-slow-claims w ↦ λ known. same_known (dues) k w.VAR5-is (w.grant_hi-total.ensures.1 k known)
+      | else-slow-claims w ↦ λ known. same_known (dues) k w.claims-is known ] in
     let class : ℕ → Bool
     = class_in true c.args.clock.0 c.args.grades.now c.args.releases.now c.args.deadlines.now in
     let rank : ℕ → ℕ
@@ -143,13 +131,10 @@ returns c =
     let blank : List ℕ
     = filled (λ k. 0) c.args.jobs c.args.grants.now in
     let as_before : (filled (λ k. 0) c.args.jobs c.if-slow-claims.grants ≡ blank) × (length c.if-slow-claims.grants ≡ length c.args.grants.now)
-    = ⊎_elim
-      (λ w.
-      let cleared =
-      granted_cleared (λ k. on (class k) (dues k)) c.args.v.0 c.args.jobs c.args.grants.now w.3.ensures.0 in
-      (ap (filled (λ k. 0) c.args.jobs) w.10 ∙ cleared.0, ap length w.10 ∙ cleared.1))
-      (λ w. (ap (filled (λ k. 0) c.args.jobs) w.2, ap length w.2))
-      c.if-slow-claims.branch in
+    = elim c.if-slow-claims.branch [ then-slow-claims w ↦ let cleared =
+      granted_cleared (λ k. on (class k) (dues k)) c.args.v.0 c.args.jobs c.args.grants.now w.grant_hi-total.ensures.0 in
+      (ap (filled (λ k. 0) c.args.jobs) w.VAR6-is ∙ cleared.0, ap length w.VAR6-is ∙ cleared.1)
+      | else-slow-claims w ↦ (ap (filled (λ k. 0) c.args.jobs) w.grants-is, ap length w.grants-is) ] in
     let cleared : c.clear_grants.new.grants ≡ blank
     = c.clear_grants.ensures ∙ (as_before).0 in
     let none : (k : ℕ) → k < (c).args.jobs → get_or (blank) k 0 ≡ 0

@@ -23,7 +23,7 @@ returns-then-not-is_sound c =
     = c.is_sound.ensures ∙ ap is_sound c.readiness_of.ensures
       ∙ readiness_sound (plan_on c.args.o c.args.grades.now c.args.releases.now c.args.sizes.now c.args.deadlines.now) c.args.run.clock.0 c.args.run.carried in
     let e = c.args in
-    columns.unsound_ends e.o e.grades.now e.releases.now e.sizes.now e.deadlines.now e.run e.position (sym (tested) ∙ not-true _ (ap not (ap not c.if-not-is_sound.true)))
+    columns.unsound_ends e.o e.grades.now e.releases.now e.sizes.now e.deadlines.now e.run e.position (sym (tested) ∙ not-true _ (ap not c.if-not-is_sound.true))
 
 pub returns-then-o-position : goal.returns-then-o-position
 returns-then-o-position c =
@@ -32,7 +32,7 @@ returns-then-o-position c =
       ∙ readiness_sound (plan_on c.args.o c.args.grades.now c.args.releases.now c.args.sizes.now c.args.deadlines.now) c.args.run.clock.0 c.args.run.carried in
     let at-if1 = c in
     let e = (c).args in
-    columns.uncounted_ends e.o e.grades.now e.releases.now e.sizes.now e.deadlines.now e.run e.position (sym (tested) ∙ not-false _ (ap not (ap not at-if1.if-not-is_sound.false))) c.if-o-position.true
+    columns.uncounted_ends e.o e.grades.now e.releases.now e.sizes.now e.deadlines.now e.run e.position (sym (tested) ∙ not-false _ (ap not at-if1.if-not-is_sound.false)) c.if-o-position.true
 
 pub offset_bounds-carried-position : goal.offset_bounds-carried-position
 offset_bounds-carried-position c =
@@ -40,7 +40,7 @@ offset_bounds-carried-position c =
     = c.is_sound.ensures ∙ ap is_sound c.readiness_of.ensures
       ∙ readiness_sound (plan_on c.args.o c.args.grades.now c.args.releases.now c.args.sizes.now c.args.deadlines.now) c.args.run.clock.0 c.args.run.carried in
     let sound : columns.Sound (c).args.o (c).args.grades.now (c).args.releases.now (c).args.sizes.now (c).args.deadlines.now (c).args.run (c).args.position
-    = sym (tested) ∙ not-false _ (ap not (ap not c.if-not-is_sound.false)) in
+    = sym (tested) ∙ not-false _ (ap not c.if-not-is_sound.false) in
     let has_entry : (c).args.position < most_jobs
     = columns.has_entry (c).args.o (c).args.grades.now (c).args.releases.now (c).args.sizes.now (c).args.deadlines.now (c).args.run (c).args.position (sound) c.if-o-position.false in
     omega (arith, has_entry)
@@ -51,7 +51,7 @@ bounds-carried-position c =
     = c.is_sound.ensures ∙ ap is_sound c.readiness_of.ensures
       ∙ readiness_sound (plan_on c.args.o c.args.grades.now c.args.releases.now c.args.sizes.now c.args.deadlines.now) c.args.run.clock.0 c.args.run.carried in
     let sound : columns.Sound (c).args.o (c).args.grades.now (c).args.releases.now (c).args.sizes.now (c).args.deadlines.now (c).args.run (c).args.position
-    = sym (tested) ∙ not-false _ (ap not (ap not c.if-not-is_sound.false)) in
+    = sym (tested) ∙ not-false _ (ap not c.if-not-is_sound.false) in
     let has_entry : (c).args.position < most_jobs
     = columns.has_entry (c).args.o (c).args.grades.now (c).args.releases.now (c).args.sizes.now (c).args.deadlines.now (c).args.run (c).args.position (sound) c.if-o-position.false in
     omega (arith, has_entry)
@@ -62,7 +62,7 @@ offset_bounds-sizes-position c =
     = c.is_sound.ensures ∙ ap is_sound c.readiness_of.ensures
       ∙ readiness_sound (plan_on c.args.o c.args.grades.now c.args.releases.now c.args.sizes.now c.args.deadlines.now) c.args.run.clock.0 c.args.run.carried in
     let sound : columns.Sound (c).args.o (c).args.grades.now (c).args.releases.now (c).args.sizes.now (c).args.deadlines.now (c).args.run (c).args.position
-    = sym (tested) ∙ not-false _ (ap not (ap not c.if-not-is_sound.false)) in
+    = sym (tested) ∙ not-false _ (ap not c.if-not-is_sound.false) in
     let has_entry : (c).args.position < most_jobs
     = columns.has_entry (c).args.o (c).args.grades.now (c).args.releases.now (c).args.sizes.now (c).args.deadlines.now (c).args.run (c).args.position (sound) c.if-o-position.false in
     omega (arith, has_entry)
@@ -73,7 +73,7 @@ bounds-sizes-position c =
     = c.is_sound.ensures ∙ ap is_sound c.readiness_of.ensures
       ∙ readiness_sound (plan_on c.args.o c.args.grades.now c.args.releases.now c.args.sizes.now c.args.deadlines.now) c.args.run.clock.0 c.args.run.carried in
     let sound : columns.Sound (c).args.o (c).args.grades.now (c).args.releases.now (c).args.sizes.now (c).args.deadlines.now (c).args.run (c).args.position
-    = sym (tested) ∙ not-false _ (ap not (ap not c.if-not-is_sound.false)) in
+    = sym (tested) ∙ not-false _ (ap not c.if-not-is_sound.false) in
     let has_entry : (c).args.position < most_jobs
     = columns.has_entry (c).args.o (c).args.grades.now (c).args.releases.now (c).args.sizes.now (c).args.deadlines.now (c).args.run (c).args.position (sound) c.if-o-position.false in
     omega (arith, has_entry)
@@ -84,7 +84,7 @@ returns-then-had-size c =
     = c.is_sound.ensures ∙ ap is_sound c.readiness_of.ensures
       ∙ readiness_sound (plan_on c.args.o c.args.grades.now c.args.releases.now c.args.sizes.now c.args.deadlines.now) c.args.run.clock.0 c.args.run.carried in
     let sound : columns.Sound (c).args.o (c).args.grades.now (c).args.releases.now (c).args.sizes.now (c).args.deadlines.now (c).args.run (c).args.position
-    = sym (tested) ∙ not-false _ (ap not (ap not c.if-not-is_sound.false)) in
+    = sym (tested) ∙ not-false _ (ap not c.if-not-is_sound.false) in
     let had : c.as_units-had.result.0 ≡ get_or (entry (c)).args.run.carried (entry (c)).args.position 0
     = ap (λ (u : Units). u.0) c.as_units-had.ensures in
     let size : c.as_units-size.result.0 ≡ get_or (entry (c)).args.sizes.now (entry (c)).args.position 0
@@ -100,7 +100,7 @@ bounds-ended-position c =
     = c.is_sound.ensures ∙ ap is_sound c.readiness_of.ensures
       ∙ readiness_sound (plan_on c.args.o c.args.grades.now c.args.releases.now c.args.sizes.now c.args.deadlines.now) c.args.run.clock.0 c.args.run.carried in
     let sound : columns.Sound (c).args.o (c).args.grades.now (c).args.releases.now (c).args.sizes.now (c).args.deadlines.now (c).args.run (c).args.position
-    = sym (tested) ∙ not-false _ (ap not (ap not c.if-not-is_sound.false)) in
+    = sym (tested) ∙ not-false _ (ap not c.if-not-is_sound.false) in
     let has_entry : (c).args.position < most_jobs
     = columns.has_entry (c).args.o (c).args.grades.now (c).args.releases.now (c).args.sizes.now (c).args.deadlines.now (c).args.run (c).args.position (sound) c.if-o-position.false in
     omega (arith, has_entry)
@@ -111,7 +111,7 @@ returns-then-ended-position c =
     = c.is_sound.ensures ∙ ap is_sound c.readiness_of.ensures
       ∙ readiness_sound (plan_on c.args.o c.args.grades.now c.args.releases.now c.args.sizes.now c.args.deadlines.now) c.args.run.clock.0 c.args.run.carried in
     let sound : columns.Sound (c).args.o (c).args.grades.now (c).args.releases.now (c).args.sizes.now (c).args.deadlines.now (c).args.run (c).args.position
-    = sym (tested) ∙ not-false _ (ap not (ap not c.if-not-is_sound.false)) in
+    = sym (tested) ∙ not-false _ (ap not c.if-not-is_sound.false) in
     let had : c.as_units-had.result.0 ≡ get_or (entry (c)).args.run.carried (entry (c)).args.position 0
     = ap (λ (u : Units). u.0) c.as_units-had.ensures in
     let size : c.as_units-size.result.0 ≡ get_or (entry (c)).args.sizes.now (entry (c)).args.position 0
@@ -129,7 +129,7 @@ offset_bounds-grades-position c =
     = c.is_sound.ensures ∙ ap is_sound c.readiness_of.ensures
       ∙ readiness_sound (plan_on c.args.o c.args.grades.now c.args.releases.now c.args.sizes.now c.args.deadlines.now) c.args.run.clock.0 c.args.run.carried in
     let sound : columns.Sound (c).args.o (c).args.grades.now (c).args.releases.now (c).args.sizes.now (c).args.deadlines.now (c).args.run (c).args.position
-    = sym (tested) ∙ not-false _ (ap not (ap not c.if-not-is_sound.false)) in
+    = sym (tested) ∙ not-false _ (ap not c.if-not-is_sound.false) in
     let has_entry : (c).args.position < most_jobs
     = columns.has_entry (c).args.o (c).args.grades.now (c).args.releases.now (c).args.sizes.now (c).args.deadlines.now (c).args.run (c).args.position (sound) c.if-o-position.false in
     omega (arith, has_entry (counted (c)))
@@ -140,7 +140,7 @@ bounds-grades-position c =
     = c.is_sound.ensures ∙ ap is_sound c.readiness_of.ensures
       ∙ readiness_sound (plan_on c.args.o c.args.grades.now c.args.releases.now c.args.sizes.now c.args.deadlines.now) c.args.run.clock.0 c.args.run.carried in
     let sound : columns.Sound (c).args.o (c).args.grades.now (c).args.releases.now (c).args.sizes.now (c).args.deadlines.now (c).args.run (c).args.position
-    = sym (tested) ∙ not-false _ (ap not (ap not c.if-not-is_sound.false)) in
+    = sym (tested) ∙ not-false _ (ap not c.if-not-is_sound.false) in
     let has_entry : (c).args.position < most_jobs
     = columns.has_entry (c).args.o (c).args.grades.now (c).args.releases.now (c).args.sizes.now (c).args.deadlines.now (c).args.run (c).args.position (sound) c.if-o-position.false in
     omega (arith, has_entry (counted (c)))
@@ -151,7 +151,7 @@ returns-then-grades-position c =
     = c.is_sound.ensures ∙ ap is_sound c.readiness_of.ensures
       ∙ readiness_sound (plan_on c.args.o c.args.grades.now c.args.releases.now c.args.sizes.now c.args.deadlines.now) c.args.run.clock.0 c.args.run.carried in
     let sound : columns.Sound (c).args.o (c).args.grades.now (c).args.releases.now (c).args.sizes.now (c).args.deadlines.now (c).args.run (c).args.position
-    = sym (tested) ∙ not-false _ (ap not (ap not c.if-not-is_sound.false)) in
+    = sym (tested) ∙ not-false _ (ap not c.if-not-is_sound.false) in
     let had : c.as_units-had.result.0 ≡ get_or (entry (c)).args.run.carried (entry (c)).args.position 0
     = ap (λ (u : Units). u.0) c.as_units-had.ensures in
     let size : c.as_units-size.result.0 ≡ get_or (entry (c)).args.sizes.now (entry (c)).args.position 0
@@ -170,7 +170,7 @@ offset_bounds-deadlines-position c =
     = c.is_sound.ensures ∙ ap is_sound c.readiness_of.ensures
       ∙ readiness_sound (plan_on c.args.o c.args.grades.now c.args.releases.now c.args.sizes.now c.args.deadlines.now) c.args.run.clock.0 c.args.run.carried in
     let sound : columns.Sound (c).args.o (c).args.grades.now (c).args.releases.now (c).args.sizes.now (c).args.deadlines.now (c).args.run (c).args.position
-    = sym (tested) ∙ not-false _ (ap not (ap not c.if-not-is_sound.false)) in
+    = sym (tested) ∙ not-false _ (ap not c.if-not-is_sound.false) in
     let has_entry : (c).args.position < most_jobs
     = columns.has_entry (c).args.o (c).args.grades.now (c).args.releases.now (c).args.sizes.now (c).args.deadlines.now (c).args.run (c).args.position (sound) c.if-o-position.false in
     omega (arith, has_entry (counted (c)))
@@ -181,7 +181,7 @@ bounds-deadlines-position c =
     = c.is_sound.ensures ∙ ap is_sound c.readiness_of.ensures
       ∙ readiness_sound (plan_on c.args.o c.args.grades.now c.args.releases.now c.args.sizes.now c.args.deadlines.now) c.args.run.clock.0 c.args.run.carried in
     let sound : columns.Sound (c).args.o (c).args.grades.now (c).args.releases.now (c).args.sizes.now (c).args.deadlines.now (c).args.run (c).args.position
-    = sym (tested) ∙ not-false _ (ap not (ap not c.if-not-is_sound.false)) in
+    = sym (tested) ∙ not-false _ (ap not c.if-not-is_sound.false) in
     let has_entry : (c).args.position < most_jobs
     = columns.has_entry (c).args.o (c).args.grades.now (c).args.releases.now (c).args.sizes.now (c).args.deadlines.now (c).args.run (c).args.position (sound) c.if-o-position.false in
     omega (arith, has_entry (counted (c)))
@@ -192,7 +192,7 @@ returns-then-deadline-clock c =
     = c.is_sound.ensures ∙ ap is_sound c.readiness_of.ensures
       ∙ readiness_sound (plan_on c.args.o c.args.grades.now c.args.releases.now c.args.sizes.now c.args.deadlines.now) c.args.run.clock.0 c.args.run.carried in
     let sound : columns.Sound (c).args.o (c).args.grades.now (c).args.releases.now (c).args.sizes.now (c).args.deadlines.now (c).args.run (c).args.position
-    = sym (tested) ∙ not-false _ (ap not (ap not c.if-not-is_sound.false)) in
+    = sym (tested) ∙ not-false _ (ap not c.if-not-is_sound.false) in
     let had : c.as_units-had.result.0 ≡ get_or (entry (c)).args.run.carried (entry (c)).args.position 0
     = ap (λ (u : Units). u.0) c.as_units-had.ensures in
     let size : c.as_units-size.result.0 ≡ get_or (entry (c)).args.sizes.now (entry (c)).args.position 0
@@ -212,7 +212,7 @@ returns c =
     = c.is_sound.ensures ∙ ap is_sound c.readiness_of.ensures
       ∙ readiness_sound (plan_on c.args.o c.args.grades.now c.args.releases.now c.args.sizes.now c.args.deadlines.now) c.args.run.clock.0 c.args.run.carried in
     let sound : columns.Sound (c).args.o (c).args.grades.now (c).args.releases.now (c).args.sizes.now (c).args.deadlines.now (c).args.run (c).args.position
-    = sym (tested) ∙ not-false _ (ap not (ap not c.if-not-is_sound.false)) in
+    = sym (tested) ∙ not-false _ (ap not c.if-not-is_sound.false) in
     let had : c.as_units-had.result.0 ≡ get_or (entry (c)).args.run.carried (entry (c)).args.position 0
     = ap (λ (u : Units). u.0) c.as_units-had.ensures in
     let size : c.as_units-size.result.0 ≡ get_or (entry (c)).args.sizes.now (entry (c)).args.position 0

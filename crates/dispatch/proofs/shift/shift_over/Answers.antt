@@ -58,7 +58,7 @@ returns-then-not-is_sound c =
     let carried-over : (p : Plan) → Columns p (o) (grades) (releases) (sizes) (deadlines) → shifted (q) (table) (run) (speeds) (rows) (numbers) ≡ shifted p (table) (run) (speeds) (rows) (numbers)
     = λ p cols. sym (alike_shift p (table) (q) (table) (columns_alike (grades) (releases) (sizes) (deadlines) (o) p (table) cols) (run) (speeds) (rows) (numbers)) in
     λ p cols. let at = c in
-    unsound_shift (q) (table) (run) (speeds) (rows) (numbers) (sym (sound_is) ∙ not-true _ (ap not (ap not c.if-not-is_sound.true))) ∙ carried-over cols
+    unsound_shift (q) (table) (run) (speeds) (rows) (numbers) (sym (sound_is) ∙ not-true _ (ap not c.if-not-is_sound.true)) ∙ carried-over cols
 
 pub returns-then-speeds-gt-MOST_SPEEDS : goal.returns-then-speeds-gt-MOST_SPEEDS
 unfolding slot_sound
@@ -91,7 +91,7 @@ returns-then-speeds-gt-MOST_SPEEDS c =
     = λ p cols. sym (alike_shift p (table) (q) (table) (columns_alike (grades) (releases) (sizes) (deadlines) (o) p (table) cols) (run) (speeds) (rows) (numbers)) in
     λ p cols. let at = c in
     shift_refused (q) (table) (run) (speeds) (rows) (numbers)
-    (many_fault (q) (table) (run) (speeds) (rows) (numbers) (sym (sound_is) ∙ not-false _ (ap not (ap not c.if-not-is_sound.false))) c.if-speeds-gt-MOST_SPEEDS.true)
+    (many_fault (q) (table) (run) (speeds) (rows) (numbers) (sym (sound_is) ∙ not-false _ (ap not c.if-not-is_sound.false)) c.if-speeds-gt-MOST_SPEEDS.true)
     ∙ carried-over cols
 
 pub overflow_mul-speeds : goal.overflow_mul-speeds
@@ -148,7 +148,7 @@ returns-then-table-rows c =
     let sound_is : c.is_sound.result ≡ slot_sound (q) (run)
     = c.is_sound.ensures ∙ ap is_sound c.readiness_of.ensures ∙ readiness_sound (q) (run).clock.0 (run).carried in
     let sound : slot_sound (q) (run) ≡ true
-    = sym (sound_is) ∙ not-false _ (ap not (ap not c.if-not-is_sound.false)) in
+    = sym (sound_is) ∙ not-false _ (ap not c.if-not-is_sound.false) in
     let few : length (speeds) ≤ most_speeds
     = c.if-speeds-gt-MOST_SPEEDS.false in
     let jobs : c.counted_within-jobs.result ≡ counted (q)
@@ -181,7 +181,7 @@ carry_speeds-next-requires c =
     let sound_is : c.is_sound.result ≡ slot_sound (q) (run)
     = c.is_sound.ensures ∙ ap is_sound c.readiness_of.ensures ∙ readiness_sound (q) (run).clock.0 (run).carried in
     let sound : slot_sound (q) (run) ≡ true
-    = sym (sound_is) ∙ not-false _ (ap not (ap not c.if-not-is_sound.false)) in
+    = sym (sound_is) ∙ not-false _ (ap not c.if-not-is_sound.false) in
     let speeds : List ℕ
     = c.args.speeds.now in
     let few : length (speeds) ≤ most_speeds
@@ -235,7 +235,7 @@ returns c =
     let sound_is : c.is_sound.result ≡ slot_sound (q) (run)
     = c.is_sound.ensures ∙ ap is_sound c.readiness_of.ensures ∙ readiness_sound (q) (run).clock.0 (run).carried in
     let sound : slot_sound (q) (run) ≡ true
-    = sym (sound_is) ∙ not-false _ (ap not (ap not c.if-not-is_sound.false)) in
+    = sym (sound_is) ∙ not-false _ (ap not c.if-not-is_sound.false) in
     let few : length (speeds) ≤ most_speeds
     = c.if-speeds-gt-MOST_SPEEDS.false in
     let jobs : c.counted_within-jobs.result ≡ counted (q)
