@@ -199,10 +199,10 @@ loop-i-preserved c =
       (is ∙ ap (λ b. on b (due)) (sym w.if-is_served.false ∙ c.is_served.ensures), omega (arith, is)) ] in
     let joined = c in
     let turn = joined in
-    let loop = (c).loop in (
+    let loop = c.loop-i in (
       omega (arith, (going).0),
-      filled_next _ loop.i _ loop.inv.1 (claimed).0,
-      omega (arith, loop.inv.2, (claimed).0, sum_step (claims) loop.i),
+      filled_next _ loop.i _ loop.invariant.1 (claimed).0,
+      omega (arith, loop.invariant.2, (claimed).0, sum_step (claims) loop.i),
     )
 
 pub returns : goal.returns

@@ -150,7 +150,7 @@ returns-then-clock-release c =
     let at_open = c in
     let w = c in
     let a = c in
-    columns.cannot_tells (o) (grades) (releases) (sizes) (deadlines) (run) (i) (sound) w.if-o-position.left (sym (third) ∙ c.if-clock-release.true)
+    columns.cannot_tells (o) (grades) (releases) (sizes) (deadlines) (run) (i) (sound) w.if-o-position.false (sym (third) ∙ c.if-clock-release.true)
 
 pub bounds-after-position : goal.bounds-after-position
 bounds-after-position c =
@@ -206,4 +206,4 @@ returns c =
     let at_open = c in
     let w = c in
     let a = c in
-    columns.ends_tells (o) (grades) (releases) (sizes) (deadlines) (run) (i) (sound) w.if-o-position.left (sym (third) ∙ c.if-clock-release.false)
+    columns.ends_tells (o) (grades) (releases) (sizes) (deadlines) (run) (i) (sound) w.if-o-position.false (sym (third) ∙ c.if-clock-release.false)

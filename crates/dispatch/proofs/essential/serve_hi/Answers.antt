@@ -53,7 +53,7 @@ clear_grants-requires c =
     let as_before : (filled (λ k. 0) c.args.jobs c.if-slow-claims.grants ≡ blank) × (length c.if-slow-claims.grants ≡ length c.args.grants.now)
     = elim c.if-slow-claims.branch [ then-slow-claims w ↦ let cleared =
       granted_cleared (λ k. on (class k) (dues k)) c.args.v.0 c.args.jobs c.args.grants.now w.grant_hi-total.ensures.0 in
-      (ap (filled (λ k. 0) c.args.jobs) w.VAR6-is ∙ cleared.0, ap length w.VAR6-is ∙ cleared.1)
+      (ap (filled (λ k. 0) c.args.jobs) w.grants-is ∙ cleared.0, ap length w.grants-is ∙ cleared.1)
       | else-slow-claims w ↦ (ap (filled (λ k. 0) c.args.jobs) w.grants-is, ap length w.grants-is) ] in
     omega (arith, (as_before).1, c.requires.2)
 
@@ -62,8 +62,8 @@ serve_gathered-requires c =
     let dues : ℕ → ℕ
     = due_in c.args.whole c.args.spans c.args.goals.now c.args.carried.now c.args.table.now in
     let right : (k : ℕ) → KnownDue c.args.claims.now (dues) k → KnownDue c.if-slow-claims.claims (dues) k
-    = λ k. elim c.if-slow-claims.branch [ then-slow-claims w ↦ λ known. same_known (dues) k w.VAR5-is (w.grant_hi-total.ensures.1 k known)
-      | else-slow-claims w ↦ λ known. same_known (dues) k w.claims-is known ] in
+    = λ k. elim c.if-slow-claims.branch [ then-slow-claims w ↦ λ known. same_known (dues) k w.grants-is (w.grant_hi-total.ensures.1 k known)
+      | else-slow-claims w ↦ λ known. same_known (dues) k w.grants-is known ] in
     let class : ℕ → Bool
     = class_in true c.args.clock.0 c.args.grades.now c.args.releases.now c.args.deadlines.now in
     let blank : List ℕ
@@ -71,14 +71,14 @@ serve_gathered-requires c =
     let as_before : (filled (λ k. 0) c.args.jobs c.if-slow-claims.grants ≡ blank) × (length c.if-slow-claims.grants ≡ length c.args.grants.now)
     = elim c.if-slow-claims.branch [ then-slow-claims w ↦ let cleared =
       granted_cleared (λ k. on (class k) (dues k)) c.args.v.0 c.args.jobs c.args.grants.now w.grant_hi-total.ensures.0 in
-      (ap (filled (λ k. 0) c.args.jobs) w.VAR6-is ∙ cleared.0, ap length w.VAR6-is ∙ cleared.1)
+      (ap (filled (λ k. 0) c.args.jobs) w.grants-is ∙ cleared.0, ap length w.grants-is ∙ cleared.1)
       | else-slow-claims w ↦ (ap (filled (λ k. 0) c.args.jobs) w.grants-is, ap length w.grants-is) ] in
     let cleared : c.clear_grants.new.grants ≡ blank
     = c.clear_grants.ensures ∙ (as_before).0 in
     let at-gather = c in
     let start = c in
-    let pre = (c).pre in
-    let a = (c).args in
+    let pre = c.requires in
+    let a = c.args in
     let g = at-gather.gather-count.ensures.1 in (
       omega (arith, g.few, pre.0),
       omega (arith, g.few, pre.1, at-gather.gather-count.ensures.0),
@@ -101,13 +101,13 @@ shape_of-grants c =
     let as_before : (filled (λ k. 0) c.args.jobs c.if-slow-claims.grants ≡ blank) × (length c.if-slow-claims.grants ≡ length c.args.grants.now)
     = elim c.if-slow-claims.branch [ then-slow-claims w ↦ let cleared =
       granted_cleared (λ k. on (class k) (dues k)) c.args.v.0 c.args.jobs c.args.grants.now w.grant_hi-total.ensures.0 in
-      (ap (filled (λ k. 0) c.args.jobs) w.VAR6-is ∙ cleared.0, ap length w.VAR6-is ∙ cleared.1)
+      (ap (filled (λ k. 0) c.args.jobs) w.grants-is ∙ cleared.0, ap length w.grants-is ∙ cleared.1)
       | else-slow-claims w ↦ (ap (filled (λ k. 0) c.args.jobs) w.grants-is, ap length w.grants-is) ] in
     let cleared : c.clear_grants.new.grants ≡ blank
     = c.clear_grants.ensures ∙ (as_before).0 in
-    let none : (k : ℕ) → k < (c).args.jobs → get_or (blank) k 0 ≡ 0
-    = λ k h. filled_at (λ k. 0) (c).args.jobs (c).args.grants.now k (omega (arith, (c).pre.2)) h in
-    let had : (c.serve_gathered.new.grants ≡ serve (dues) (c).args.v.0 (queue (class) (rank) (c).args.jobs) (blank)) × (c.serve_gathered.result.0 ≡ (c).args.v.0 - sum (λ k. on (class k) (dues k)) (c).args.jobs)
+    let none : (k : ℕ) → k < c.args.jobs → get_or (blank) k 0 ≡ 0
+    = λ k h. filled_at (λ k. 0) c.args.jobs c.args.grants.now k (omega (arith, c.requires.2)) h in
+    let had : (c.serve_gathered.new.grants ≡ serve (dues) c.args.v.0 (queue (class) (rank) c.args.jobs) (blank)) × (c.serve_gathered.result.0 ≡ c.args.v.0 - sum (λ k. on (class k) (dues k)) c.args.jobs)
     = let at-gather = c in
       let start = c in
       let a = start.args in
@@ -122,8 +122,8 @@ returns c =
     let dues : ℕ → ℕ
     = due_in c.args.whole c.args.spans c.args.goals.now c.args.carried.now c.args.table.now in
     let right : (k : ℕ) → KnownDue c.args.claims.now (dues) k → KnownDue c.if-slow-claims.claims (dues) k
-    = λ k. elim c.if-slow-claims.branch [ then-slow-claims w ↦ λ known. same_known (dues) k w.VAR5-is (w.grant_hi-total.ensures.1 k known)
-      | else-slow-claims w ↦ λ known. same_known (dues) k w.claims-is known ] in
+    = λ k. elim c.if-slow-claims.branch [ then-slow-claims w ↦ λ known. same_known (dues) k w.grants-is (w.grant_hi-total.ensures.1 k known)
+      | else-slow-claims w ↦ λ known. same_known (dues) k w.grants-is known ] in
     let class : ℕ → Bool
     = class_in true c.args.clock.0 c.args.grades.now c.args.releases.now c.args.deadlines.now in
     let rank : ℕ → ℕ
@@ -133,13 +133,13 @@ returns c =
     let as_before : (filled (λ k. 0) c.args.jobs c.if-slow-claims.grants ≡ blank) × (length c.if-slow-claims.grants ≡ length c.args.grants.now)
     = elim c.if-slow-claims.branch [ then-slow-claims w ↦ let cleared =
       granted_cleared (λ k. on (class k) (dues k)) c.args.v.0 c.args.jobs c.args.grants.now w.grant_hi-total.ensures.0 in
-      (ap (filled (λ k. 0) c.args.jobs) w.VAR6-is ∙ cleared.0, ap length w.VAR6-is ∙ cleared.1)
+      (ap (filled (λ k. 0) c.args.jobs) w.grants-is ∙ cleared.0, ap length w.grants-is ∙ cleared.1)
       | else-slow-claims w ↦ (ap (filled (λ k. 0) c.args.jobs) w.grants-is, ap length w.grants-is) ] in
     let cleared : c.clear_grants.new.grants ≡ blank
     = c.clear_grants.ensures ∙ (as_before).0 in
-    let none : (k : ℕ) → k < (c).args.jobs → get_or (blank) k 0 ≡ 0
-    = λ k h. filled_at (λ k. 0) (c).args.jobs (c).args.grants.now k (omega (arith, (c).pre.2)) h in
-    let had : (c.serve_gathered.new.grants ≡ serve (dues) (c).args.v.0 (queue (class) (rank) (c).args.jobs) (blank)) × (c.serve_gathered.result.0 ≡ (c).args.v.0 - sum (λ k. on (class k) (dues k)) (c).args.jobs)
+    let none : (k : ℕ) → k < c.args.jobs → get_or (blank) k 0 ≡ 0
+    = λ k h. filled_at (λ k. 0) c.args.jobs c.args.grants.now k (omega (arith, c.requires.2)) h in
+    let had : (c.serve_gathered.new.grants ≡ serve (dues) c.args.v.0 (queue (class) (rank) c.args.jobs) (blank)) × (c.serve_gathered.result.0 ≡ c.args.v.0 - sum (λ k. on (class k) (dues k)) c.args.jobs)
     = let at-gather = c in
       let start = c in
       let a = start.args in

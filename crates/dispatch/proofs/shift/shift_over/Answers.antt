@@ -58,7 +58,7 @@ returns-then-not-is_sound c =
     let carried-over : (p : Plan) → Columns p (o) (grades) (releases) (sizes) (deadlines) → shifted (q) (table) (run) (speeds) (rows) (numbers) ≡ shifted p (table) (run) (speeds) (rows) (numbers)
     = λ p cols. sym (alike_shift p (table) (q) (table) (columns_alike (grades) (releases) (sizes) (deadlines) (o) p (table) cols) (run) (speeds) (rows) (numbers)) in
     λ p cols. let at = c in
-    unsound_shift (q) (table) (run) (speeds) (rows) (numbers) (sym (sound_is) ∙ not-true _ (ap not c.if-not-is_sound.true)) ∙ carried-over cols
+    unsound_shift (q) (table) (run) (speeds) (rows) (numbers) (sym (sound_is) ∙ not-true _ (ap not c.if-not-is_sound.true)) ∙ carried-over p cols
 
 pub returns-then-speeds-gt-MOST_SPEEDS : goal.returns-then-speeds-gt-MOST_SPEEDS
 unfolding slot_sound
@@ -92,7 +92,7 @@ returns-then-speeds-gt-MOST_SPEEDS c =
     λ p cols. let at = c in
     shift_refused (q) (table) (run) (speeds) (rows) (numbers)
     (many_fault (q) (table) (run) (speeds) (rows) (numbers) (sym (sound_is) ∙ not-false _ (ap not c.if-not-is_sound.false)) c.if-speeds-gt-MOST_SPEEDS.true)
-    ∙ carried-over cols
+    ∙ carried-over p cols
 
 pub overflow_mul-speeds : goal.overflow_mul-speeds
 overflow_mul-speeds c =

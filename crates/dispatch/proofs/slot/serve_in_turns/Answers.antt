@@ -34,7 +34,7 @@ serve_hi-rest-requires c =
       search rules,
       entry.requires.1,
       entry.requires.2,
-      λ k h passes. entry.requires.3 k h (hi_served (live) (is_hi) entry.args.slow passes),
+      λ k h passes. entry.requires.3 k h (hi_served (live k) (is_hi k) entry.args.slow passes),
     )
 
 pub shape_of-grants-then-slow-rest : goal.shape_of-grants-then-slow-rest
@@ -66,8 +66,8 @@ serve_gathered-requires c =
     = λ k. eqb (get_or c.args.grades.now k 0) hi in
     let as_long : length c.serve_hi-rest.new.grants ≡ length c.args.grants.now
     = ap length c.serve_hi-rest.ensures.0 ∙ serve_length _ _ _ _ ∙ filled_length _ _ _ in
-    let not-slow : (c).args.slow ≡ false
-    = (neither (c).args.slow (eqb c.serve_hi-rest.result.0 0) c.if-slow-rest.false).0 in
+    let not-slow : c.args.slow ≡ false
+    = (neither c.args.slow (eqb c.serve_hi-rest.result.0 0) c.if-slow-rest.false).0 in
     let at_others = c in
     let served = c in
     let here = c in
@@ -91,8 +91,8 @@ returns c =
     = rank_in c.args.grades.now c.args.deadlines.now in
     let dues : ℕ → ℕ
     = due_in c.args.whole c.args.spans c.args.goals.now c.args.carried.now c.args.table.now in
-    let not-slow : (c).args.slow ≡ false
-    = (neither (c).args.slow (eqb c.serve_hi-rest.result.0 0) c.if-slow-rest.false).0 in
+    let not-slow : c.args.slow ≡ false
+    = (neither c.args.slow (eqb c.serve_hi-rest.result.0 0) c.if-slow-rest.false).0 in
     let at_others = c in
     let served = c in
     let rest = served.serve_hi-rest.result.0 in
