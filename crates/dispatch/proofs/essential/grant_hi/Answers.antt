@@ -189,8 +189,8 @@ loop-i-preserved c =
       (is ∙ ap (λ b. on b (dues (i))) (sym w.if-is_of.false ∙ c.is_of.ensures), omega (arith, is)) ] in
     let right : (k : ℕ) → KnownDue c.args.claims.now (dues) k → KnownDue c.if-is_of.claims (dues) k
     = λ k was. let now = c.loop-i.invariant.4 k was in
-      elim c.if-is_of.branch [ then-is_of w ↦ same_known (dues) k w.due-is (noted (dues) c.loop-i.claims (i) _ k w.claim_at-due.ensures.0 now)
-      | else-is_of w ↦ same_known (dues) k w.due-is now ] in
+      elim c.if-is_of.branch [ then-is_of w ↦ same_known (dues) k w.claims-is (noted (dues) c.loop-i.claims (i) _ k w.claim_at-due.ensures.0 now)
+      | else-is_of w ↦ same_known (dues) k w.claims-is now ] in
     let joined = c in
     let here = c in
     let loop = c.loop-i in (

@@ -17,7 +17,7 @@ use Rattle.dispatch.specs.Inner.Turns.{class_in, rank_in, due_in, KnownDue}
 use Rattle.dispatch.proofs.Queues.{serve_length}
 use Rattle.dispatch.proofs.TurnLaws.{granted_served, granted_cleared, same_known}
 use Rattle.dispatch.proofs.essential.serve_hi.Goals as goal
-use Rattle.dispatch.proofs.essential.serve_hi.Goals.{else-slow-claims, then-slow-claims}
+use Rattle.dispatch.proofs.essential.serve_hi.Goals.{then-slow-claims+else-total-v, else-slow-claims}
 
 pub grant_hi-total-requires : goal.grant_hi-total-requires
 grant_hi-total-requires c =
@@ -48,10 +48,8 @@ clear_grants-requires c =
     = due_in c.args.whole c.args.spans c.args.goals.now c.args.carried.now c.args.table.now in
     let blank : List ℕ
     = filled (λ k. 0) c.args.jobs c.args.grants.now in
-    let cleared : c.clear_grants.new.grants ≡ blank
-    = c.clear_grants.ensures ∙ (as_before).0 in
     let as_before : (filled (λ k. 0) c.args.jobs c.if-slow-claims.grants ≡ blank) × (length c.if-slow-claims.grants ≡ length c.args.grants.now)
-    = elim c.if-slow-claims.branch [ then-slow-claims w ↦ let cleared =
+    = elim c.if-slow-claims.branch [ then-slow-claims+else-total-v w ↦ let cleared =
       granted_cleared (λ k. on (class k) (dues k)) c.args.v.0 c.args.jobs c.args.grants.now w.grant_hi-total.ensures.0 in
       (ap (filled (λ k. 0) c.args.jobs) w.grants-is ∙ cleared.0, ap length w.grants-is ∙ cleared.1)
       | else-slow-claims w ↦ (ap (filled (λ k. 0) c.args.jobs) w.grants-is, ap length w.grants-is) ] in
@@ -62,14 +60,14 @@ serve_gathered-requires c =
     let dues : ℕ → ℕ
     = due_in c.args.whole c.args.spans c.args.goals.now c.args.carried.now c.args.table.now in
     let right : (k : ℕ) → KnownDue c.args.claims.now (dues) k → KnownDue c.if-slow-claims.claims (dues) k
-    = λ k. elim c.if-slow-claims.branch [ then-slow-claims w ↦ λ known. same_known (dues) k w.grants-is (w.grant_hi-total.ensures.1 k known)
-      | else-slow-claims w ↦ λ known. same_known (dues) k w.grants-is known ] in
+    = λ k. elim c.if-slow-claims.branch [ then-slow-claims+else-total-v w ↦ λ known. same_known (dues) k w.claims-is (w.grant_hi-total.ensures.1 k known)
+      | else-slow-claims w ↦ λ known. same_known (dues) k w.claims-is known ] in
     let class : ℕ → Bool
     = class_in true c.args.clock.0 c.args.grades.now c.args.releases.now c.args.deadlines.now in
     let blank : List ℕ
     = filled (λ k. 0) c.args.jobs c.args.grants.now in
     let as_before : (filled (λ k. 0) c.args.jobs c.if-slow-claims.grants ≡ blank) × (length c.if-slow-claims.grants ≡ length c.args.grants.now)
-    = elim c.if-slow-claims.branch [ then-slow-claims w ↦ let cleared =
+    = elim c.if-slow-claims.branch [ then-slow-claims+else-total-v w ↦ let cleared =
       granted_cleared (λ k. on (class k) (dues k)) c.args.v.0 c.args.jobs c.args.grants.now w.grant_hi-total.ensures.0 in
       (ap (filled (λ k. 0) c.args.jobs) w.grants-is ∙ cleared.0, ap length w.grants-is ∙ cleared.1)
       | else-slow-claims w ↦ (ap (filled (λ k. 0) c.args.jobs) w.grants-is, ap length w.grants-is) ] in
@@ -99,7 +97,7 @@ shape_of-grants c =
     let blank : List ℕ
     = filled (λ k. 0) c.args.jobs c.args.grants.now in
     let as_before : (filled (λ k. 0) c.args.jobs c.if-slow-claims.grants ≡ blank) × (length c.if-slow-claims.grants ≡ length c.args.grants.now)
-    = elim c.if-slow-claims.branch [ then-slow-claims w ↦ let cleared =
+    = elim c.if-slow-claims.branch [ then-slow-claims+else-total-v w ↦ let cleared =
       granted_cleared (λ k. on (class k) (dues k)) c.args.v.0 c.args.jobs c.args.grants.now w.grant_hi-total.ensures.0 in
       (ap (filled (λ k. 0) c.args.jobs) w.grants-is ∙ cleared.0, ap length w.grants-is ∙ cleared.1)
       | else-slow-claims w ↦ (ap (filled (λ k. 0) c.args.jobs) w.grants-is, ap length w.grants-is) ] in
@@ -122,8 +120,8 @@ returns c =
     let dues : ℕ → ℕ
     = due_in c.args.whole c.args.spans c.args.goals.now c.args.carried.now c.args.table.now in
     let right : (k : ℕ) → KnownDue c.args.claims.now (dues) k → KnownDue c.if-slow-claims.claims (dues) k
-    = λ k. elim c.if-slow-claims.branch [ then-slow-claims w ↦ λ known. same_known (dues) k w.grants-is (w.grant_hi-total.ensures.1 k known)
-      | else-slow-claims w ↦ λ known. same_known (dues) k w.grants-is known ] in
+    = λ k. elim c.if-slow-claims.branch [ then-slow-claims+else-total-v w ↦ λ known. same_known (dues) k w.claims-is (w.grant_hi-total.ensures.1 k known)
+      | else-slow-claims w ↦ λ known. same_known (dues) k w.claims-is known ] in
     let class : ℕ → Bool
     = class_in true c.args.clock.0 c.args.grades.now c.args.releases.now c.args.deadlines.now in
     let rank : ℕ → ℕ
@@ -131,7 +129,7 @@ returns c =
     let blank : List ℕ
     = filled (λ k. 0) c.args.jobs c.args.grants.now in
     let as_before : (filled (λ k. 0) c.args.jobs c.if-slow-claims.grants ≡ blank) × (length c.if-slow-claims.grants ≡ length c.args.grants.now)
-    = elim c.if-slow-claims.branch [ then-slow-claims w ↦ let cleared =
+    = elim c.if-slow-claims.branch [ then-slow-claims+else-total-v w ↦ let cleared =
       granted_cleared (λ k. on (class k) (dues k)) c.args.v.0 c.args.jobs c.args.grants.now w.grant_hi-total.ensures.0 in
       (ap (filled (λ k. 0) c.args.jobs) w.grants-is ∙ cleared.0, ap length w.grants-is ∙ cleared.1)
       | else-slow-claims w ↦ (ap (filled (λ k. 0) c.args.jobs) w.grants-is, ap length w.grants-is) ] in

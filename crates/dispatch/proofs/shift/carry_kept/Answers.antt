@@ -25,9 +25,9 @@ use Rattle.dispatch.proofs.SlotSoundness.{SlotSound, slot_sound_lem}
 use Rattle.dispatch.proofs.SoundColumns.{size_on, deadline_on}
 use Rattle.dispatch.proofs.shift.carry_kept.Goals as goal
 
-settled_is_settledBy : Bool → ℕ → ℕ → ℕ
-settled_is_settledBy true s c = s
-settled_is_settledBy false s c = c
+abbrev settled_by : Bool → ℕ → ℕ → ℕ
+settled_by true s c = s
+settled_by false s c = c
 
 pub share_slot-slow-requires : goal.share_slot-slow-requires
 share_slot-slow-requires c =
@@ -82,7 +82,7 @@ carry_grants-requires c =
     let settled_is : (k : ℕ) → k < counted (q) → get_or (settled) k 0 ≡ settled_of (q) (run) k
     = λ k l. ap (λ r. get_or r k 0) c.settle.ensures
       ∙ filled_at (settled_in (run).ended (sizes) (run).carried) most_jobs (replicate most_jobs 0) k (rw (length-replicate {A = ℕ} most_jobs 0) (omega arith)) (omega arith)
-      ∙ ap (λ s. settled_is_settledBy (ended_of (run) k) s (carried_of (run) k)) (sym (size_on (o) (grades) (releases) (sizes) (deadlines) k l)) in
+      ∙ ap (λ s. settled_by (ended_of (run) k) s (carried_of (run) k)) (sym (size_on (o) (grades) (releases) (sizes) (deadlines) k l)) in
     let left : List ℕ
     = c.share_slot-slow.new.grants in
     let grants-are : (left) ≡ granted (q) (table) (run) (v) (grants)
@@ -127,7 +127,7 @@ returns c =
     let settled_is : (k : ℕ) → k < counted (q) → get_or (settled) k 0 ≡ settled_of (q) (run) k
     = λ k l. ap (λ r. get_or r k 0) c.settle.ensures
       ∙ filled_at (settled_in (run).ended (sizes) (run).carried) most_jobs (replicate most_jobs 0) k (rw (length-replicate {A = ℕ} most_jobs 0) (omega arith)) (omega arith)
-      ∙ ap (λ s. settled_is_settledBy (ended_of (run) k) s (carried_of (run) k)) (sym (size_on (o) (grades) (releases) (sizes) (deadlines) k l)) in
+      ∙ ap (λ s. settled_by (ended_of (run) k) s (carried_of (run) k)) (sym (size_on (o) (grades) (releases) (sizes) (deadlines) k l)) in
     let grants-are : (left) ≡ granted (q) (table) (run) (v) (grants)
     = c.share_slot-slow.ensures.1
       ∙ settled_granted (q) (table) (run) (settled) (v) (settled_is) (grants) c.requires.1 in
@@ -143,3 +143,9 @@ returns c =
           (at-carry-grants.carry_grants.ensures ∙ ap (λ m. filled (λ k. carried_of (run) k + get_or (left) k 0) m (run).carried) (jobs)),
       grants-are,
     )
+
+pub overflow_add-clock : goal.overflow_add-clock
+overflow_add-clock c =
+    let a = c.args in
+    let parts = slot_sound_lem (plan_on a.o a.grades.now a.releases.now a.sizes.now a.deadlines.now) (run_at c.args.at c.args.carried.now c.args.ended.now) c.requires.0 in
+    omega (arith, parts.not_over, parts.rules.last)

@@ -33,8 +33,6 @@ fill_goals-requires c =
 
 pub loop-k-init : goal.loop-k-init
 loop-k-init c =
-    let k : ℕ
-    = c.loop-k.k in
     let jobs : ℕ
     = c.counted_within-jobs.result in
     let counting = c in

@@ -1,7 +1,7 @@
 -- `dispatch::shift::shift_over` meets its contract: for the plan made from the columns its refusals in their order, otherwise
 -- the calls at the speeds; and so for every plan whose columns they are.
 use mathlib.Core.Path.{◌≡◌, sym, ◌∙◌, ap}
-use mathlib.Core.Bool.{true, ◌||◌}
+use mathlib.Core.Bool.{Bool, true, ◌||◌}
 use mathlib.Core.List.{List}
 use Prim.Native.Nat.{ℕ, ◌*◌, ◌≤◌}
 use native.Mathlib.Nat.{mul-le-mul}
@@ -153,12 +153,12 @@ returns-then-table-rows c =
     = c.if-speeds-gt-MOST_SPEEDS.false in
     let jobs : c.counted_within-jobs.result ≡ counted (q)
     = c.counted_within-jobs.ensures in
-    let tested : {found : _} → (ltb (length (table)) places || ltb (length (rows)) (length (speeds) * c.counted_within-jobs.result) || ltb (length (numbers)) (length (speeds))) ≡ found → (ltb (length (table)) places || ltb (length (rows)) (row_start (q) (length (speeds))) || ltb (length (numbers)) (length (speeds))) ≡ found
-    = λ e. ap (λ n. ltb (length (table)) places || ltb (length (rows)) (length (speeds) * n) || ltb (length (numbers)) (length (speeds))) (sym (jobs)) ∙ e in
+    let tested : (found : Bool) → (ltb (length (table)) places || ltb (length (rows)) (length (speeds) * c.counted_within-jobs.result) || ltb (length (numbers)) (length (speeds))) ≡ found → (ltb (length (table)) places || ltb (length (rows)) (row_start (q) (length (speeds))) || ltb (length (numbers)) (length (speeds))) ≡ found
+    = λ found e. ap (λ n. ltb (length (table)) places || ltb (length (rows)) (length (speeds) * n) || ltb (length (numbers)) (length (speeds))) (sym (jobs)) ∙ e in
     λ p cols. let counting = c in
     let here = c in
     shift_refused (q) (table) (run) (speeds) (rows) (numbers)
-    (short_fault (q) (table) (run) (speeds) (rows) (numbers) (sound) (few) (tested c.if-table-rows.true))
+    (short_fault (q) (table) (run) (speeds) (rows) (numbers) (sound) (few) (tested _ c.if-table-rows.true))
     ∙ carried-over p cols
 
 pub carry_speeds-next-requires : goal.carry_speeds-next-requires
@@ -194,11 +194,11 @@ carry_speeds-next-requires c =
     = c.args.numbers.now in
     let jobs : c.counted_within-jobs.result ≡ counted (q)
     = c.counted_within-jobs.ensures in
-    let tested : {found : _} → (ltb (length (table)) places || ltb (length (rows)) (length (speeds) * c.counted_within-jobs.result) || ltb (length (numbers)) (length (speeds))) ≡ found → (ltb (length (table)) places || ltb (length (rows)) (row_start (q) (length (speeds))) || ltb (length (numbers)) (length (speeds))) ≡ found
-    = λ e. ap (λ n. ltb (length (table)) places || ltb (length (rows)) (length (speeds) * n) || ltb (length (numbers)) (length (speeds))) (sym (jobs)) ∙ e in
+    let tested : (found : Bool) → (ltb (length (table)) places || ltb (length (rows)) (length (speeds) * c.counted_within-jobs.result) || ltb (length (numbers)) (length (speeds))) ≡ found → (ltb (length (table)) places || ltb (length (rows)) (row_start (q) (length (speeds))) || ltb (length (numbers)) (length (speeds))) ≡ found
+    = λ found e. ap (λ n. ltb (length (table)) places || ltb (length (rows)) (length (speeds) * n) || ltb (length (numbers)) (length (speeds))) (sym (jobs)) ∙ e in
     let long : (places ≤ length (table)) × (row_start (q) (length (speeds)) ≤ length (rows)) × (length (speeds) ≤ length (numbers))
     = let here = c in
-      let last = neither (ltb (length (table)) places || ltb (length (rows)) (row_start (q) (length (speeds)))) (ltb (length (numbers)) (length (speeds))) (tested c.if-table-rows.false) in
+      let last = neither (ltb (length (table)) places || ltb (length (rows)) (row_start (q) (length (speeds)))) (ltb (length (numbers)) (length (speeds))) (tested _ c.if-table-rows.false) in
       let first = neither (ltb (length (table)) places) (ltb (length (rows)) (row_start (q) (length (speeds)))) last.0 in
       (ltb-false (length (table)) places first.0, ltb-false (length (rows)) (row_start (q) (length (speeds))) first.1, ltb-false (length (numbers)) (length (speeds)) last.1) in
     let at-else = c in
@@ -240,12 +240,12 @@ returns c =
     = c.if-speeds-gt-MOST_SPEEDS.false in
     let jobs : c.counted_within-jobs.result ≡ counted (q)
     = c.counted_within-jobs.ensures in
-    let tested : {found : _} → (ltb (length (table)) places || ltb (length (rows)) (length (speeds) * c.counted_within-jobs.result) || ltb (length (numbers)) (length (speeds))) ≡ found → (ltb (length (table)) places || ltb (length (rows)) (row_start (q) (length (speeds))) || ltb (length (numbers)) (length (speeds))) ≡ found
-    = λ e. ap (λ n. ltb (length (table)) places || ltb (length (rows)) (length (speeds) * n) || ltb (length (numbers)) (length (speeds))) (sym (jobs)) ∙ e in
+    let tested : (found : Bool) → (ltb (length (table)) places || ltb (length (rows)) (length (speeds) * c.counted_within-jobs.result) || ltb (length (numbers)) (length (speeds))) ≡ found → (ltb (length (table)) places || ltb (length (rows)) (row_start (q) (length (speeds))) || ltb (length (numbers)) (length (speeds))) ≡ found
+    = λ found e. ap (λ n. ltb (length (table)) places || ltb (length (rows)) (length (speeds) * n) || ltb (length (numbers)) (length (speeds))) (sym (jobs)) ∙ e in
     λ p cols. let at-speeds = c in
     let at-else = at-speeds in
     let counting = at-else in
     let here = c in
     at-speeds.carry_speeds-next.ensures
-    ∙ shift_done (q) (table) (run) (speeds) (rows) (numbers) (sound) (few) (tested at-else.if-table-rows.false)
+    ∙ shift_done (q) (table) (run) (speeds) (rows) (numbers) (sound) (few) (tested _ at-else.if-table-rows.false)
     ∙ carried-over p cols

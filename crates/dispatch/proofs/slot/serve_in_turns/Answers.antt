@@ -18,11 +18,6 @@ use Rattle.dispatch.proofs.Queues.{serve_length}
 use Rattle.dispatch.proofs.TurnLaws.{hi_served, other_served, others_wait, hi_alone, then_others}
 use Rattle.dispatch.proofs.slot.serve_in_turns.Goals as goal
 
--- HELPER
-
-abbrev class : (c : tie.Start) → Bool → ℕ → Bool
-class c (is_hi c) = class_in (is_hi c) c.args.clock.0 c.args.grades.now c.args.releases.now c.args.deadlines.now
-
 pub serve_hi-rest-requires : goal.serve_hi-rest-requires
 serve_hi-rest-requires c =
     let live : ℕ → Bool
@@ -100,9 +95,9 @@ returns c =
     let a = here.args in
     let waits = others_wait a.clock.0 a.grades.now a.releases.now a.deadlines.now (dues) a.v.0 a.jobs (blank) (none) in
     let told =
-    c.serve_gathered.ensures.1 (class here false) (rank) a.jobs at_others.gather-others.ensures.1
+    c.serve_gathered.ensures.1 (class_in false c.args.clock.0 c.args.grades.now c.args.releases.now c.args.deadlines.now) (rank) a.jobs at_others.gather-others.ensures.1
     (λ k h e. ap (λ row. get_or row k 0) served.serve_hi-rest.ensures.0 ∙ waits k h e) in
     told.0
-    ∙ ap (serve (dues) rest (queue (class here false) (rank) a.jobs)) served.serve_hi-rest.ensures.0
+    ∙ ap (serve (dues) rest (queue (class_in false c.args.clock.0 c.args.grades.now c.args.releases.now c.args.deadlines.now) (rank) a.jobs)) served.serve_hi-rest.ensures.0
     ∙ sym (then_others a.clock.0 a.grades.now a.releases.now a.deadlines.now (dues) a.v.0 a.jobs (blank) (none)
     a.slow served.serve_hi-rest.ensures.1 (not-slow))
