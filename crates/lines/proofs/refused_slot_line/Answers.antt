@@ -25,5 +25,5 @@ returns c =
     grown_twice (grown_twice (grown_twice at-add-times.add_times-at.ensures.0 at-add.add-at.ensures) at-add-number.add_number-at.ensures.0) at-add2.add-at-2.ensures in
     record {
       prints = at-print.print.ensures ∙ ap (λ l. printed l entry.args.out.now) whole.bytes;
-      number_len_bound = omega (arith, whole.end);
+      fits = omega (arith, whole.end);
     }

@@ -26,5 +26,5 @@ returns c =
     grown_twice (grown_twice (grown_twice at-add-times.add_times-at.ensures.0 (grown_same at-mode-of.mode_of-mode.ensures at-add.add-at.ensures)) at-add-grants.add_grants-at.ensures.0) at-add2.add-at-2.ensures in
     record {
       prints = at-print.print.ensures ∙ ap (λ l. printed l entry.args.out.now) whole.bytes;
-      grants_len_bound = omega (arith, whole.end);
+      fits = omega (arith, whole.end);
     }

@@ -27,5 +27,5 @@ returns c =
     grown_twice (grown_twice (grown_twice (grown_twice (grown_twice at-add-name.add_name-at.ensures at-add.add-at.ensures) at-add2.add-at-2.ensures) at-add3.add-at-3.ensures) at-add-number.add_number-at.ensures.0) at-add4.add-at-4.ensures in
     record {
       prints = at-print.print.ensures ∙ ap (λ l. printed l entry.args.out.now) whole.bytes;
-      carried_len_bound = omega (arith, whole.end);
+      fits = omega (arith, whole.end);
     }
