@@ -1,0 +1,12 @@
+-- `gateway::metering::gateway_meter` meets its contract.
+use mathlib.Core.Path.{refl}
+use borrow.Author.Rules.{rules}
+use Rattle.gateway.specs.Calls.{speed_call}
+use Rattle.gateway.proofs.metering.gateway_meter.Goals as goal
+
+pub returns : goal.returns
+unfolding speed_call
+returns c =
+    let at-speed = c in
+    let at_told = at-speed in
+    rw (← at_told.speed_of-told.ensures, ← at-speed.metered_speed.ensures, ← c.metered_number.ensures) refl

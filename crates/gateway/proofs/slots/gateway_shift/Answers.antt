@@ -1,0 +1,108 @@
+-- `gateway::slots::gateway_shift` meets its contract: 22, then 21, otherwise the shift over the columns of the plan.
+use mathlib.Core.Path.{◌≡◌, refl, sym, ◌∙◌, ap}
+use mathlib.Core.Bool.{Bool, true}
+use mathlib.Core.List.{List}
+use Prim.Native.Nat.{ℕ}
+use borrow.Author.Rules.{rules}
+use borrow.Author.Tests.{not-true, not-false}
+use lib.ListN.{length, replicate, length-replicate}
+use Rattle.plan.specs.Edition.{most_jobs}
+use Rattle.dispatch.specs.Answers.{run_at, answer_view}
+use Rattle.dispatch.specs.declared.Moment.{Moment}
+use Rattle.dispatch.specs.Shift.{ShiftEffect, shifted}
+use Rattle.dispatch.proofs.SlotsInTurn.{unsound_shift}
+use Rattle.hostmemory.specs.Memory.{plan_of, marks_hold, run_of, run_put}
+use Rattle.hostmemory.proofs.ColumnLaws.{columns_read, too_large_unsound}
+use Rattle.hostmemory.proofs.RoundTrip.{run_again}
+use Rattle.gateway.specs.Calls.{shift_call}
+use Rattle.gateway.proofs.Laws.{outlined, shift_words_lem, shifted_long, put_back}
+use Rattle.gateway.proofs.RefusedCalls.{refused_shift_words}
+use mathlib.Core.Bool.{not}
+use Rattle.gateway.proofs.slots.gateway_shift.Goals as goal
+
+-- HELPER
+
+shift-effect : (c : tie.After-answer-number) → record {
+  answer = answer_view (at-shift-over c).shift-over.result.answer;
+  run = run_at (at-shift-over c).shift-over.result.next (at-shift-over c).shift-over.last.1.1.1.1.1.1.1.1.1.0 (run_of (at-start c).args.run.now).ended;
+  rows = (at-shift-over c).shift-over.last.1.1.1.1.1.1.1.1.1.1.0;
+  numbers = (at-shift-over c).shift-over.last.1.1.1.1.1.1.1.1.1.1.1.0;
+}
+    ≡ shifted (plan_of (at-start c).args.plan.now) (at-start c).args.table.now (run_of (at-start c).args.run.now) (at-start c).args.speeds.now (at-start c).args.rows.now (at-start c).args.numbers.now
+shift-effect c =
+    let a = (at-start c).args in
+    let at-ended-in = (at-carried-in c).before.before in
+    let at-moment-in = at-ended-in.before.before in
+    let p = plan_of a.plan.now in
+    let none : List ℕ = replicate most_jobs 0 in
+    let long : length none ≡ most_jobs = length-replicate {A = ℕ} most_jobs 0 in
+    ap (λ ended. record {
+      answer = answer_view (at-shift-over c).shift-over.result.answer;
+      run = run_at (at-shift-over c).shift-over.result.next (at-shift-over c).shift-over.last.1.1.1.1.1.1.1.1.1.0 ended;
+      rows = (at-shift-over c).shift-over.last.1.1.1.1.1.1.1.1.1.1.0;
+      numbers = (at-shift-over c).shift-over.last.1.1.1.1.1.1.1.1.1.1.1.0;
+    }) (sym at-ended-in.ended-in.ensures)
+    ∙ (at-shift-over c).shift-over.ensures p
+    (outlined p (at-outline-in c).outline-in.ensures
+    (columns_read a.plan.now none none none none _ _ _ _ _ (at-columns c).columns-in.ensures (not-false _ (at-outline-in c).before.if3.left) long long long long))
+    ∙ run-parts at-moment-in.moment-in.ensures (at-carried-in c).carried-in.ensures at-ended-in.ended-in.ensures
+  where
+    run-parts : {at next : Moment} {carried left : List ℕ} {ended marked : List Bool} → at ≡ next → carried ≡ left → ended ≡ marked
+        → shifted (plan_of (at-start c).args.plan.now) (at-start c).args.table.now (run_at at carried ended) (at-start c).args.speeds.now (at-start c).args.rows.now (at-start c).args.numbers.now
+        ≡ shifted (plan_of (at-start c).args.plan.now) (at-start c).args.table.now (run_at next left marked) (at-start c).args.speeds.now (at-start c).args.rows.now (at-start c).args.numbers.now
+    run-parts d e f = rw (d, e, f) refl
+
+pub returns-then-plan-run : goal.returns-then-plan-run
+unfolding shift_call
+returns-then-plan-run c =
+    rw c.if-plan-run.true refl
+
+pub returns-then-not-marks_hold : goal.returns-then-not-marks_hold
+unfolding shift_call
+returns-then-not-marks_hold c =
+    rw (c.if-plan-run.false, sym c.marks_hold.ensures ∙ not-true _ (ap not c.if-not-marks_hold.true)) refl
+
+pub returns-then-not-columns_in : goal.returns-then-not-columns_in
+returns-then-not-columns_in c =
+    let marks : marks_hold c.args.run.now ≡ true
+    = let at-if2 = c in
+      sym at-if2.marks_hold.ensures ∙ not-false _ (ap not at-if2.if-not-marks_hold.false) in
+    let at-columns = c in
+    let at-if2 = at-columns in
+    let at-marks-hold = at-if2 in
+    let at-if1 = at-marks-hold in
+    let a = at-if1.args in
+    let marks = sym at-marks-hold.marks_hold.ensures ∙ not-false _ (ap not at-if2.if-not-marks_hold.false) in
+    shift_words_lem a.plan.now a.table.now a.run.now a.speeds.now a.rows.now a.numbers.now at-if1.if-plan-run.false marks
+    (unsound_shift (plan_of a.plan.now) a.table.now (run_of a.run.now) a.speeds.now a.rows.now a.numbers.now
+    (too_large_unsound a.plan.now (run_of a.run.now) (sym at-columns.columns_in.ensures.0 ∙ not-true _ (ap not c.if-not-columns_in.true))))
+    refl (sym (run_again a.run.now marks))
+
+pub returns-then-number : goal.returns-then-number
+returns-then-number c =
+    let marks : marks_hold c.args.run.now ≡ true
+    = let at-if2 = c in
+      sym at-if2.marks_hold.ensures ∙ not-false _ (ap not at-if2.if-not-marks_hold.false) in
+    let the-words : {left : List ℕ} → left ≡ run_put c.args.run.now (run_at c.shift_over-s.result.next c.shift_over-s.new.carried (run_of c.args.run.now).ended) → record { number = c.answer_number-number.result; run = left; rows = c.shift_over-s.new.rows; numbers = c.shift_over-s.new.numbers } ≡ shift_call c.args.plan.now c.args.table.now c.args.run.now c.args.speeds.now c.args.rows.now c.args.numbers.now
+    = let a = c.args in
+      shift_words_lem a.plan.now a.table.now a.run.now a.speeds.now a.rows.now a.numbers.now c.if-plan-run.false
+      (marks) (shift-effect c) c.answer_number-number.ensures in
+    let a = c.args in
+    refused_shift_words a.plan.now a.table.now a.run.now a.speeds.now a.rows.now a.numbers.now (the-words refl) c.if-number.true
+
+pub returns : goal.returns
+returns c =
+    let marks : marks_hold c.args.run.now ≡ true
+    = let at-if2 = c in
+      sym at-if2.marks_hold.ensures ∙ not-false _ (ap not at-if2.if-not-marks_hold.false) in
+    let the-words : {left : List ℕ} → left ≡ run_put c.args.run.now (run_at c.shift_over-s.result.next c.shift_over-s.new.carried (run_of c.args.run.now).ended) → record { number = c.answer_number-number.result; run = left; rows = c.shift_over-s.new.rows; numbers = c.shift_over-s.new.numbers } ≡ shift_call c.args.plan.now c.args.table.now c.args.run.now c.args.speeds.now c.args.rows.now c.args.numbers.now
+    = let a = c.args in
+      shift_words_lem a.plan.now a.table.now a.run.now a.speeds.now a.rows.now a.numbers.now c.if-plan-run.false
+      (marks) (shift-effect c) c.answer_number-number.ensures in
+    let at-put-slot = c in
+    let at-number = at-put-slot in
+    let a = c.args in
+    the-words
+    (put_back a.run.now c.shift_over-s.result.next c.shift_over-s.new.carried (marks)
+    (ap (λ (s : ShiftEffect). length s.run.carried) (shift-effect at-number) ∙ shifted_long (plan_of a.plan.now) a.table.now (run_of a.run.now) a.speeds.now a.rows.now a.numbers.now)
+    at-put-slot.put_slot.ensures)
