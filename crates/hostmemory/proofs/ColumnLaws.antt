@@ -61,6 +61,7 @@ job_read w from (suc n) i h =
     below-or-last i n h
     (λ l. get_or-append (jobs_to w from n) (job_at w (job_index from n) ∷ []) no_job i (omega (arith, jobs_count w from n)) ∙ job_read w from n i l)
     (λ q. rw q (get_or_at (jobs_to w from n) (job_at w (job_index from n)) [] no_job n (jobs_count w from n)))
+job_read w from zero i h = elim h [ ]
 
 -- The job list that words encode has all its records, and names of eight bytes if the words have 64 bits.
 pub list_records : (w : List ℕ) → length (list_held w).jobs ≡ most_jobs

@@ -67,7 +67,7 @@ pub fn stray_line(out: &mut [u8]) -> Printed
 // The line of a refused plan.
 pub fn refused_line(number: u8, out: &mut [u8]) -> Printed
     ensures prints { Prints (refused_line number) out.old result out.new }
-    ensures number_len_bound { length (refused_line number) ≤ longest_line }
+    ensures fits { length (refused_line number) ≤ longest_line }
 {
     let mut line = [0u8; LONGEST_LINE];
     let mut at = add(&mut line, 0, b"refused ");
@@ -86,7 +86,7 @@ pub fn slot_line(
     out: &mut [u8],
 ) -> Printed
     ensures prints { Prints (slot_line clock.0 speed slow p grants.now) out.old result out.new }
-    ensures grants_len_bound { length (slot_line clock.0 speed slow p grants.now) ≤ longest_line }
+    ensures fits { length (slot_line clock.0 speed slow p grants.now) ≤ longest_line }
 {
     let mut line = [0u8; LONGEST_LINE];
     let mut at = add_times(&mut line, clock, speed);
@@ -100,7 +100,7 @@ pub fn slot_line(
 // The line of a refused slot.
 pub fn refused_slot_line(clock: Slots, speed: u16, number: u8, out: &mut [u8]) -> Printed
     ensures prints { Prints (refused_slot_line clock.0 speed number) out.old result out.new }
-    ensures number_len_bound { length (refused_slot_line clock.0 speed number) ≤ longest_line }
+    ensures fits { length (refused_slot_line clock.0 speed number) ≤ longest_line }
 {
     let mut line = [0u8; LONGEST_LINE];
     let mut at = add_times(&mut line, clock, speed);
@@ -114,7 +114,7 @@ pub fn refused_slot_line(clock: Slots, speed: u16, number: u8, out: &mut [u8]) -
 fn word_line(name: Name, word: &[u8], carried: u32, out: &mut [u8]) -> Printed
     requires { length word.now ≤ most_digits }
     ensures prints { Prints (outcome_line name.0 word.now carried) out.old result out.new }
-    ensures carried_len_bound { length (outcome_line name.0 word.now carried) ≤ longest_line }
+    ensures fits { length (outcome_line name.0 word.now carried) ≤ longest_line }
 {
     let mut line = [0u8; LONGEST_LINE];
     let mut at = add_name(&mut line, 0, name);
@@ -128,8 +128,8 @@ fn word_line(name: Name, word: &[u8], carried: u32, out: &mut [u8]) -> Printed
 
 // The line of a job. A refused outcome has no line: its number is the answer.
 pub fn outcome_line(name: Name, outcome: Outcome, carried: u32, out: &mut [u8]) -> Printed
-    ensures prints_outcome { PrintsOutcome name outcome carried out.old result out.new }
-    ensures carried_len_bound { length (outcome_line name.0 (ending_word (outcome_view outcome)) carried) ≤ longest_line }
+    ensures prints { PrintsOutcome name outcome carried out.old result out.new }
+    ensures fits { length (outcome_line name.0 (ending_word (outcome_view outcome)) carried) ≤ longest_line }
 {
     match outcome {
         Outcome::Met => word_line(name, b"met", carried, out),

@@ -18,8 +18,8 @@ use planfile::reader::{Answer, read};
 
 // Refuses a plan; the program is then over.
 fn refuse(p: Plan, number: u8, out: &mut [u8]) -> Turn
-    ensures progress_value { (result.progress ≡ progress Over p no_run) × (Prints (refused_line number) out.old result.printed out.new) }
-    ensures number_len_bound { length (refused_line number) ≤ longest_line }
+    ensures takes { (result.progress ≡ progress Over p no_run) × (Prints (refused_line number) out.old result.printed out.new) }
+    ensures fits { length (refused_line number) ≤ longest_line }
 {
     let printed = refused_line(number, out);
     let run = no_run();
@@ -37,7 +37,7 @@ fn refuse(p: Plan, number: u8, out: &mut [u8]) -> Turn
 // Judges a plan that was read, and starts its run or refuses it.
 fn judge_and_start(p: Plan, table: &[u32], out: &mut [u8]) -> Turn
     ensures takes { Takes (opened_by (judged p table.now) p) out.old result out.new }
-    ensures p_len_bound { length (opened_by (judged p table.now) p).line ≤ longest_line }
+    ensures fits { length (opened_by (judged p table.now) p).line ≤ longest_line }
 {
     let begun = start(p, table);
     let verdict = begun.verdict;
@@ -60,8 +60,8 @@ fn judge_and_start(p: Plan, table: &[u32], out: &mut [u8]) -> Turn
 // Reads a plan file into the lent table, judges the plan and starts its run. The line is
 // the header of the slots, or the refusal.
 pub fn open(file: &[u8], table: &mut [u32], out: &mut [u8]) -> Turn
-    ensures opens { Opens file.now table.old out.old result table.new out.new }
-    ensures table_len_bound { length (opened (reader file.now table.old)).line ≤ longest_line }
+    ensures takes { Opens file.now table.old out.old result table.new out.new }
+    ensures fits { length (opened (reader file.now table.old)).line ≤ longest_line }
 {
     let reading = read(file, table);
     let said = reading.answer;

@@ -21,8 +21,8 @@ use plan::rules::counted_of;
 
 // The turn of a slot at speed v.
 fn serve(p: Plan, table: &[u32], run: Run, v: u16, out: &mut [u8]) -> Turn
-    ensures progress_value { (result.progress ≡ progress Slots p (slot_of p table.now run v).run) × (Prints (slot_text p run v (slot_of p table.now run v).answer (slot_of p table.now run v)) out.old result.printed out.new) }
-    ensures v_len_bound { length (slot_text p run v (slot_of p table.now run v).answer (slot_of p table.now run v)) ≤ longest_line }
+    ensures takes { (result.progress ≡ progress Slots p (slot_of p table.now run v).run) × (Prints (slot_text p run v (slot_of p table.now run v).answer (slot_of p table.now run v)) out.old result.printed out.new) }
+    ensures fits { length (slot_text p run v (slot_of p table.now run v).answer (slot_of p table.now run v)) ≤ longest_line }
 {
     let mut grants = [0u32; Edition::MOST_JOBS];
     let stepped = step(p, table, run, v, &mut grants);
@@ -94,7 +94,7 @@ fn wide(byte: u8) -> u16
 // slot, an odd byte, or the end of the speeds.
 fn take_slot(p: Plan, table: &[u32], run: Run, bytes: &[u8], out: &mut [u8]) -> Turn
     ensures takes { Takes (slot_turn p table.now run bytes.now) out.old result out.new }
-    ensures bytes_len_bound { length (slot_turn p table.now run bytes.now).line ≤ longest_line }
+    ensures fits { length (slot_turn p table.now run bytes.now).line ≤ longest_line }
 {
     if bytes.len() == 0 {
         return close(p, run, out);
@@ -160,7 +160,7 @@ fn next_job(p: Plan, i: usize) -> Phase
 // The line of a job's outcome; a refused outcome has none.
 fn job_line(p: Plan, run: Run, i: usize, out: &mut [u8]) -> Printed
     ensures prints { Prints (job_text p run i) out.old result out.new }
-    ensures i_len_bound { length (job_text p run i) ≤ longest_line }
+    ensures fits { length (job_text p run i) ≤ longest_line }
 {
     let ended = outcome(p, run, i);
     if is_refused(ended) {
@@ -172,7 +172,7 @@ fn job_line(p: Plan, run: Run, i: usize, out: &mut [u8]) -> Printed
 // The turn of a job's outcome; the next job's follows if there is one.
 fn tell_job(p: Plan, run: Run, i: usize, out: &mut [u8]) -> Turn
     ensures takes { Takes (job_turn p run i) out.old result out.new }
-    ensures i_len_bound { length (job_turn p run i).line ≤ longest_line }
+    ensures fits { length (job_turn p run i).line ≤ longest_line }
 {
     let printed = job_line(p, run, i, out);
     let next = Progress {
@@ -189,7 +189,7 @@ fn tell_job(p: Plan, run: Run, i: usize, out: &mut [u8]) -> Turn
 // One turn, with the bytes read for it.
 pub fn advance(n: Progress, table: &[u32], bytes: &[u8], out: &mut [u8]) -> Turn
     ensures takes { Takes (turned n table.now bytes.now) out.old result out.new }
-    ensures bytes_len_bound { length (turned n table.now bytes.now).line ≤ longest_line }
+    ensures fits { length (turned n table.now bytes.now).line ≤ longest_line }
 {
     let phase = n.phase;
     let p = n.plan;

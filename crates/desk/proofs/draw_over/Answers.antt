@@ -3,15 +3,12 @@
 use mathlib.Core.Path.{◌≡◌, refl, sym, ◌∙◌, ap}
 use mathlib.Core.Bool.{false, true, true≢false}
 use mathlib.Core.List.{List, [], ◌∷◌, ◌++◌}
-use mathlib.Core.Logic.{⊎_elim}
-use Prim.Native.Nat.{ℕ, suc, ◌*◌, ◌-◌, ◌≤◌}
-use native.Mathlib.Omega.{arith}
-use borrow.Author.Rules.{rules}
-use lib.ListN.{length, get_or, drop, replicate, length-drop}
+use Prim.Native.Nat.{ℕ, suc, ◌*◌, ◌-◌}
+use lib.ListN.{length, get_or, drop, replicate}
 use lib.Seq.{length-take-le}
 use Rattle.base.specs.Fill.{filled}
 use Rattle.plan.specs.Edition.{most_intervals, places}
-use Rattle.plan.specs.Boundaries.{boundaries, first_release}
+use Rattle.plan.specs.Boundaries.{boundaries}
 use Rattle.plan.specs.Columns.{Columns}
 use Rattle.plan.specs.Report.{Report, is_none, number_of}
 use Rattle.plan.specs.declared.kinds.Outline.{Outline}
@@ -22,6 +19,7 @@ use Rattle.desk.specs.Desk.{jobs_fault, table_after}
 use Rattle.desk.specs.Answers.{shortage_view}
 use Rattle.desk.proofs.CodeLaws.{job_columns}
 use Rattle.desk.proofs.draw_over.Goals as goal
+use Rattle.desk.proofs.draw_over.Goals.{else-is_nothing, then-is_nothing}
 
 -- The rooms that the code fills are those of the plan.
 rooms-are : (p : Plan) {o : Outline} {grades releases sizes deadlines times rooms : List ℕ} → Columns p o grades releases sizes deadlines → times ≡ boundaries p
@@ -41,46 +39,23 @@ refused : (p : Plan) (table : List ℕ) (jobs : Report) → is_none jobs ≡ fal
 refused p table [] h = absurd (true≢false h)
 refused p table (number ∷ rest) h = refl
 
-cleared-long : (table : List ℕ) → places ≤ length table → length (cleared table) ≡ length table
-cleared-long table h = simp length-drop (omega arith)
-
-pub slice_bounds-clear-end-2 : goal.slice_bounds-clear-end-2
-slice_bounds-clear-end-2 c =
-    let entry = c in
-    sym (length-take-le places entry.args.table.now entry.requires.2)
-
-pub shape_of-table : goal.shape_of-table
-shape_of-table c =
-    let table-clear : c.clear.new.row ++ drop places c.args.table.now ≡ cleared c.args.table.now
-    = let entry = c in
-      ap (λ l. l ++ drop places entry.args.table.now)
-      (c.clear.ensures ∙ ap (λ n. replicate n 0) (length-take-le places entry.args.table.now entry.requires.2)) in
-    let at_clear = c in
-    let entry = at_clear in
-    let long = ap length (table-clear) ∙ cleared-long entry.args.table.now entry.requires.2 in
-    ⊎_elim (λ w. ap length w.14 ∙ w.11.ensures.0 ∙ w.6.ensures.0 ∙ long) (λ w. ap length w.1 ∙ long) c.if-is_nothing.branch
-
 pub returns : goal.returns
 returns c =
-    let table-clear : c.clear.new.row ++ drop places c.args.table.now ≡ cleared c.args.table.now
-    = let entry = c in
-      ap (λ l. l ++ drop places entry.args.table.now)
-      (c.clear.ensures ∙ ap (λ n. replicate n 0) (length-take-le places entry.args.table.now entry.requires.2)) in
-    λ p cols at begin. let at-is-nothing = c in
-    let at-shortage-over = at-is-nothing in
-    let at_clear = at-shortage-over in
-    let entry = at_clear in
-    let table = entry.args.table.now in
-    let short : shortage_view at-shortage-over.shortage_over-short.result ≡ jobs_fault p = at-shortage-over.shortage_over-short.ensures p cols at begin in
-    let told = at-is-nothing.is_nothing.ensures ∙ ap is_none short in (
+    let own : c.clear.new.row ++ drop places c.args.table.now ≡ cleared c.args.table.now
+        = ap (λ l. l ++ drop places c.args.table.now)
+          (c.clear.ensures ∙ ap (λ n. replicate n 0) (length-take-le places c.args.table.now c.requires.2)) in
+    λ p cols at begin.
+    let table = c.args.table.now in
+    let short : shortage_view c.shortage_over-short.result ≡ jobs_fault p = c.shortage_over-short.ensures p cols at begin in
+    let told = c.is_nothing.ensures ∙ ap is_none short in (
       c.number_of.ensures ∙ ap number_of short,
-      ⊎_elim
-          (λ w.
-          let jobs = job_columns p cols w.1.ensures in
+      elim c.if-is_nothing.branch [
+        then-is_nothing w ↦
+          let jobs = job_columns p cols w.counted_within-jobs.ensures in
           let spans = ap (λ l. length l - 1) at in
-          w.14
-          ∙ both-placed p table (rooms-are p cols at w.3.ensures) (table-clear) (w.6.ensures.1 p jobs at spans) (w.11.ensures.1 p jobs at spans)
-          ∙ ap (table_after p table []) (sym (none_empty (jobs_fault p) (sym told ∙ w.0.taken))))
-          (λ w. w.1 ∙ table-clear ∙ refused p table (jobs_fault p) (sym told ∙ w.0.left))
-          c.if-is_nothing.branch,
+          w.table-is
+          ∙ both-placed p table (rooms-are p cols at w.fill_rooms.ensures) own (w.place_class.ensures.1 p jobs at spans) (w.place_class-then-is_nothing.ensures.1 p jobs at spans)
+          ∙ ap (table_after p table []) (sym (none_empty (jobs_fault p) (sym told ∙ w.if-is_nothing.true)))
+      | else-is_nothing w ↦ w.table-is ∙ own ∙ refused p table (jobs_fault p) (sym told ∙ w.if-is_nothing.false)
+      ],
     )

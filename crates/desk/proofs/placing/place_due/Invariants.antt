@@ -1,18 +1,14 @@
 -- `desk::placing::place_due` meets its contract: after q iterations the draft is that of the first q turns, for every
 -- plan whose columns are lent.
-use mathlib.Core.Path.{◌≡◌, refl, ◌∙◌, ap, ap₂}
-use mathlib.Core.Logic.{⊎_elim}
-use Prim.Native.Nat.{ℕ, ◌-◌, ◌≤◌}
-use native.Mathlib.Omega.{arith}
-use borrow.Author.Rules.{rules}
-use lib.ListN.{length, get_or}
+use mathlib.Core.Path.{◌≡◌}
+use Prim.Native.Nat.{◌-◌, ◌≤◌}
+use lib.ListN.{length}
 use Rattle.plan.specs.Rules.{counted}
 use Rattle.plan.specs.Boundaries.{boundary}
 use Rattle.plan.specs.declared.kinds.Plan.{Plan}
 use Rattle.judge.specs.Slack.{through}
-use Rattle.desk.specs.Timetable.{Draft, turn, placing, job_turn, turns_at}
+use Rattle.desk.specs.Timetable.{turn, job_turn}
 use Rattle.desk.specs.Inner.Lists.{JobColumns}
-use Rattle.desk.proofs.CodeLaws.{through_start, through_next, turn_taken, turn_left}
 use Rattle.desk.proofs.placing.place_due.Given as goal
 
 abbrev pub invariant-loop-q : goal.invariant-loop-q

@@ -17,6 +17,7 @@ use Rattle.plan.specs.Edition.{most_jobs}
 use Rattle.plan.specs.declared.kinds.Units.{Units}
 use Rattle.dispatch.specs.Inner.Turns.{due_in, claim_in, unknown}
 use Rattle.dispatch.proofs.claims.all_fit.Goals as goal
+use Rattle.dispatch.proofs.claims.all_fit.Goals.{else-is_served, then-is_served}
 
 pub loop-i-init : goal.loop-i-init
 loop-i-init c =
@@ -108,14 +109,10 @@ overflow_cast-claims c =
     = let a = c.args in
       claim_in a.clock.0 a.slow a.slow a.spans a.grades.now a.releases.now a.sizes.now a.deadlines.now a.carried.now a.table.now in
     let claimed : (c.if-is_served.claim.0 ≡ (claims) c.loop-i.i) × (c.if-is_served.claim.0 ≤ unknown)
-    = ⊎_elim
-      (λ w.
-      let is = ap (λ (u : Units). u.0) w.2 in
-      (is ∙ w.1.ensures.0 ∙ ap (λ b. on b (due)) (sym w.0.taken ∙ c.is_served.ensures), omega (arith, is, w.1.ensures.1)))
-      (λ w.
-      let is = ap (λ (u : Units). u.0) w.1 in
-      (is ∙ ap (λ b. on b (due)) (sym w.0.left ∙ c.is_served.ensures), omega (arith, is)))
-      c.if-is_served.branch in
+    = elim c.if-is_served.branch [ then-is_served w ↦ let is = ap (λ (u : Units). u.0) w.claim-is in
+      (is ∙ w.due_at-claim.ensures.0 ∙ ap (λ b. on b (due)) (sym w.if-is_served.true ∙ c.is_served.ensures), omega (arith, is, w.due_at-claim.ensures.1))
+      | else-is_served w ↦ let is = ap (λ (u : Units). u.0) w.claim-is in
+      (is ∙ ap (λ b. on b (due)) (sym w.if-is_served.false ∙ c.is_served.ensures), omega (arith, is)) ] in
     record { fits = omega (arith, (claimed).1) }
 
 pub offset_bounds-claims-i : goal.offset_bounds-claims-i
@@ -154,14 +151,10 @@ overflow_add-total c =
     = let a = c.args in
       claim_in a.clock.0 a.slow a.slow a.spans a.grades.now a.releases.now a.sizes.now a.deadlines.now a.carried.now a.table.now in
     let claimed : (c.if-is_served.claim.0 ≡ (claims) c.loop-i.i) × (c.if-is_served.claim.0 ≤ unknown)
-    = ⊎_elim
-      (λ w.
-      let is = ap (λ (u : Units). u.0) w.2 in
-      (is ∙ w.1.ensures.0 ∙ ap (λ b. on b (due)) (sym w.0.taken ∙ c.is_served.ensures), omega (arith, is, w.1.ensures.1)))
-      (λ w.
-      let is = ap (λ (u : Units). u.0) w.1 in
-      (is ∙ ap (λ b. on b (due)) (sym w.0.left ∙ c.is_served.ensures), omega (arith, is)))
-      c.if-is_served.branch in
+    = elim c.if-is_served.branch [ then-is_served w ↦ let is = ap (λ (u : Units). u.0) w.claim-is in
+      (is ∙ w.due_at-claim.ensures.0 ∙ ap (λ b. on b (due)) (sym w.if-is_served.true ∙ c.is_served.ensures), omega (arith, is, w.due_at-claim.ensures.1))
+      | else-is_served w ↦ let is = ap (λ (u : Units). u.0) w.claim-is in
+      (is ∙ ap (λ b. on b (due)) (sym w.if-is_served.false ∙ c.is_served.ensures), omega (arith, is)) ] in
     let joined = c in
     let turn = joined in
     omega (arith, (claimed).1, (going).1, turn.requires.1)
@@ -200,20 +193,16 @@ loop-i-preserved c =
     = let a = c.args in
       due_in a.slow a.spans a.sizes.now a.carried.now a.table.now c.loop-i.i in
     let claimed : (c.if-is_served.claim.0 ≡ (claims) c.loop-i.i) × (c.if-is_served.claim.0 ≤ unknown)
-    = ⊎_elim
-      (λ w.
-      let is = ap (λ (u : Units). u.0) w.2 in
-      (is ∙ w.1.ensures.0 ∙ ap (λ b. on b (due)) (sym w.0.taken ∙ c.is_served.ensures), omega (arith, is, w.1.ensures.1)))
-      (λ w.
-      let is = ap (λ (u : Units). u.0) w.1 in
-      (is ∙ ap (λ b. on b (due)) (sym w.0.left ∙ c.is_served.ensures), omega (arith, is)))
-      c.if-is_served.branch in
+    = elim c.if-is_served.branch [ then-is_served w ↦ let is = ap (λ (u : Units). u.0) w.claim-is in
+      (is ∙ w.due_at-claim.ensures.0 ∙ ap (λ b. on b (due)) (sym w.if-is_served.true ∙ c.is_served.ensures), omega (arith, is, w.due_at-claim.ensures.1))
+      | else-is_served w ↦ let is = ap (λ (u : Units). u.0) w.claim-is in
+      (is ∙ ap (λ b. on b (due)) (sym w.if-is_served.false ∙ c.is_served.ensures), omega (arith, is)) ] in
     let joined = c in
     let turn = joined in
-    let loop = (c).loop in (
+    let loop = c.loop-i in (
       omega (arith, (going).0),
-      filled_next _ loop.i _ loop.inv.1 (claimed).0,
-      omega (arith, loop.inv.2, (claimed).0, sum_step (claims) loop.i),
+      filled_next _ loop.i _ loop.invariant.1 (claimed).0,
+      omega (arith, loop.invariant.2, (claimed).0, sum_step (claims) loop.i),
     )
 
 pub returns : goal.returns

@@ -44,7 +44,7 @@ returns-then-not-is_sound c =
     let tested : c.is_sound.result ≡ sound_at (q) (run).clock.0 (run).carried
     = c.is_sound.ensures ∙ ap is_sound c.readiness_of.ensures ∙ readiness_sound (q) (run).clock.0 (run).carried in
     let a = c in
-    columns.unsound_tells (o) (grades) (releases) (sizes) (deadlines) (run) (i) (sym (tested) ∙ not-true _ (ap not (ap not c.if-not-is_sound.true)))
+    columns.unsound_tells (o) (grades) (releases) (sizes) (deadlines) (run) (i) (sym (tested) ∙ not-true _ (ap not c.if-not-is_sound.true))
 
 pub returns-then-o-position : goal.returns-then-o-position
 returns-then-o-position c =
@@ -68,7 +68,7 @@ returns-then-o-position c =
     = c.is_sound.ensures ∙ ap is_sound c.readiness_of.ensures ∙ readiness_sound (q) (run).clock.0 (run).carried in
     let at-if1 = c in
     let a = at-if1 in
-    columns.uncounted_tells (o) (grades) (releases) (sizes) (deadlines) (run) (i) (sym (tested) ∙ not-false _ (ap not (ap not at-if1.if-not-is_sound.false))) c.if-o-position.true
+    columns.uncounted_tells (o) (grades) (releases) (sizes) (deadlines) (run) (i) (sym (tested) ∙ not-false _ (ap not at-if1.if-not-is_sound.false)) c.if-o-position.true
 
 pub offset_bounds-releases-position : goal.offset_bounds-releases-position
 offset_bounds-releases-position c =
@@ -91,7 +91,7 @@ offset_bounds-releases-position c =
     let tested : c.is_sound.result ≡ sound_at (q) (run).clock.0 (run).carried
     = c.is_sound.ensures ∙ ap is_sound c.readiness_of.ensures ∙ readiness_sound (q) (run).clock.0 (run).carried in
     let sound : sound_at (q) (run).clock.0 (run).carried ≡ true
-    = sym (tested) ∙ not-false _ (ap not (ap not c.if-not-is_sound.false)) in
+    = sym (tested) ∙ not-false _ (ap not c.if-not-is_sound.false) in
     let inside : i < most_jobs
     = has_entry (o) (grades) (releases) (sizes) (deadlines) (run) (i) (sound) c.if-o-position.false in
     omega (arith, inside)
@@ -117,7 +117,7 @@ bounds-releases-position c =
     let tested : c.is_sound.result ≡ sound_at (q) (run).clock.0 (run).carried
     = c.is_sound.ensures ∙ ap is_sound c.readiness_of.ensures ∙ readiness_sound (q) (run).clock.0 (run).carried in
     let sound : sound_at (q) (run).clock.0 (run).carried ≡ true
-    = sym (tested) ∙ not-false _ (ap not (ap not c.if-not-is_sound.false)) in
+    = sym (tested) ∙ not-false _ (ap not c.if-not-is_sound.false) in
     let inside : i < most_jobs
     = has_entry (o) (grades) (releases) (sizes) (deadlines) (run) (i) (sound) c.if-o-position.false in
     omega (arith, inside)
@@ -143,14 +143,14 @@ returns-then-clock-release c =
     let tested : c.is_sound.result ≡ sound_at (q) (run).clock.0 (run).carried
     = c.is_sound.ensures ∙ ap is_sound c.readiness_of.ensures ∙ readiness_sound (q) (run).clock.0 (run).carried in
     let sound : sound_at (q) (run).clock.0 (run).carried ≡ true
-    = sym (tested) ∙ not-false _ (ap not (ap not c.if-not-is_sound.false)) in
+    = sym (tested) ∙ not-false _ (ap not c.if-not-is_sound.false) in
     let third : (ltb (run).clock.0 (get_or (releases) (i) 0) || not c.is_open.result) ≡ (ltb (run).clock.0 (get_or (releases) (i) 0) || not (is_open (outcome (q) (run) (i))))
     = ap (λ b. ltb (run).clock.0 (get_or (releases) (i) 0) || not b)
       (c.is_open.ensures ∙ ap is_open (c.outcome_over-ending.ensures (q) (own_columns (grades) (releases) (sizes) (deadlines) (o)))) in
     let at_open = c in
     let w = c in
     let a = c in
-    columns.cannot_tells (o) (grades) (releases) (sizes) (deadlines) (run) (i) (sound) w.if-o-position.left (sym (third) ∙ c.if-clock-release.true)
+    columns.cannot_tells (o) (grades) (releases) (sizes) (deadlines) (run) (i) (sound) w.if-o-position.false (sym (third) ∙ c.if-clock-release.true)
 
 pub bounds-after-position : goal.bounds-after-position
 bounds-after-position c =
@@ -173,7 +173,7 @@ bounds-after-position c =
     let tested : c.is_sound.result ≡ sound_at (q) (run).clock.0 (run).carried
     = c.is_sound.ensures ∙ ap is_sound c.readiness_of.ensures ∙ readiness_sound (q) (run).clock.0 (run).carried in
     let sound : sound_at (q) (run).clock.0 (run).carried ≡ true
-    = sym (tested) ∙ not-false _ (ap not (ap not c.if-not-is_sound.false)) in
+    = sym (tested) ∙ not-false _ (ap not c.if-not-is_sound.false) in
     let inside : i < most_jobs
     = has_entry (o) (grades) (releases) (sizes) (deadlines) (run) (i) (sound) c.if-o-position.false in
     omega (arith, inside)
@@ -199,11 +199,11 @@ returns c =
     let tested : c.is_sound.result ≡ sound_at (q) (run).clock.0 (run).carried
     = c.is_sound.ensures ∙ ap is_sound c.readiness_of.ensures ∙ readiness_sound (q) (run).clock.0 (run).carried in
     let sound : sound_at (q) (run).clock.0 (run).carried ≡ true
-    = sym (tested) ∙ not-false _ (ap not (ap not c.if-not-is_sound.false)) in
+    = sym (tested) ∙ not-false _ (ap not c.if-not-is_sound.false) in
     let third : (ltb (run).clock.0 (get_or (releases) (i) 0) || not c.is_open.result) ≡ (ltb (run).clock.0 (get_or (releases) (i) 0) || not (is_open (outcome (q) (run) (i))))
     = ap (λ b. ltb (run).clock.0 (get_or (releases) (i) 0) || not b)
       (c.is_open.ensures ∙ ap is_open (c.outcome_over-ending.ensures (q) (own_columns (grades) (releases) (sizes) (deadlines) (o)))) in
     let at_open = c in
     let w = c in
     let a = c in
-    columns.ends_tells (o) (grades) (releases) (sizes) (deadlines) (run) (i) (sound) w.if-o-position.left (sym (third) ∙ c.if-clock-release.false)
+    columns.ends_tells (o) (grades) (releases) (sizes) (deadlines) (run) (i) (sound) w.if-o-position.false (sym (third) ∙ c.if-clock-release.false)

@@ -19,6 +19,7 @@ use Rattle.plan.specs.declared.kinds.Units.{Units}
 use Rattle.dispatch.specs.Inner.Turns.{class_in, due_in, unknown, KnownDue}
 use Rattle.dispatch.proofs.TurnLaws.{same_known, noted}
 use Rattle.dispatch.proofs.essential.grant_hi.Goals as goal
+use Rattle.dispatch.proofs.essential.grant_hi.Goals.{else-is_of, then-is_of}
 
 pub loop-i-init : goal.loop-i-init
 loop-i-init c =
@@ -49,9 +50,9 @@ claim_at-due-requires c =
     let i : ℕ
     = c.loop-i.i in
     let tested = c in
-    let i = (c).loop.i in
+    let i = c.loop-i.i in
     let passes : class i ≡ true = sym tested.is_of.ensures ∙ c.if-is_of.true in
-    (below, (c).loop.invariant.4 i ((c).requires.2 i (going).0 passes))
+    (below, c.loop-i.invariant.4 i (c.requires.2 i (going).0 passes))
 
 pub overflow_cast-claims : goal.overflow_cast-claims
 overflow_cast-claims c =
@@ -88,14 +89,10 @@ overflow_cast-grants c =
     let class : ℕ → Bool
     = class_in true c.args.clock.0 c.args.grades.now c.args.releases.now c.args.deadlines.now in
     let granted : (c.if-is_of.due.0 ≡ on (class (i)) (dues (i))) × (c.if-is_of.due.0 ≤ unknown)
-    = ⊎_elim
-      (λ w.
-      let is = ap (λ (u : Units). u.0) w.5 in
-      (is ∙ w.2.ensures.0 ∙ ap (λ b. on b (dues (i))) (sym w.0.taken ∙ c.is_of.ensures), omega (arith, is, w.2.ensures.1)))
-      (λ w.
-      let is = ap (λ (u : Units). u.0) w.2 in
-      (is ∙ ap (λ b. on b (dues (i))) (sym w.0.left ∙ c.is_of.ensures), omega (arith, is)))
-      c.if-is_of.branch in
+    = elim c.if-is_of.branch [ then-is_of w ↦ let is = ap (λ (u : Units). u.0) w.due-is in
+      (is ∙ w.claim_at-due.ensures.0 ∙ ap (λ b. on b (dues (i))) (sym w.if-is_of.true ∙ c.is_of.ensures), omega (arith, is, w.claim_at-due.ensures.1))
+      | else-is_of w ↦ let is = ap (λ (u : Units). u.0) w.due-is in
+      (is ∙ ap (λ b. on b (dues (i))) (sym w.if-is_of.false ∙ c.is_of.ensures), omega (arith, is)) ] in
     record { fits = omega (arith, (granted).1) }
 
 pub offset_bounds-grants-i : goal.offset_bounds-grants-i
@@ -124,9 +121,9 @@ bounds-grants-i c =
     omega (
       arith,
       (going).0,
-      (c).pre.1,
-      ap length (c).loop.inv.1,
-      filled_length (λ k. on (class k) (dues k)) (c).loop.i (c).args.grants.now,
+      c.requires.1,
+      ap length c.loop-i.invariant.1,
+      filled_length (λ k. on (class k) (dues k)) c.loop-i.i c.args.grants.now,
     )
 
 pub overflow_add-total : goal.overflow_add-total
@@ -145,16 +142,12 @@ overflow_add-total c =
     let class : ℕ → Bool
     = class_in true c.args.clock.0 c.args.grades.now c.args.releases.now c.args.deadlines.now in
     let granted : (c.if-is_of.due.0 ≡ on (class (i)) (dues (i))) × (c.if-is_of.due.0 ≤ unknown)
-    = ⊎_elim
-      (λ w.
-      let is = ap (λ (u : Units). u.0) w.5 in
-      (is ∙ w.2.ensures.0 ∙ ap (λ b. on b (dues (i))) (sym w.0.taken ∙ c.is_of.ensures), omega (arith, is, w.2.ensures.1)))
-      (λ w.
-      let is = ap (λ (u : Units). u.0) w.2 in
-      (is ∙ ap (λ b. on b (dues (i))) (sym w.0.left ∙ c.is_of.ensures), omega (arith, is)))
-      c.if-is_of.branch in
+    = elim c.if-is_of.branch [ then-is_of w ↦ let is = ap (λ (u : Units). u.0) w.due-is in
+      (is ∙ w.claim_at-due.ensures.0 ∙ ap (λ b. on b (dues (i))) (sym w.if-is_of.true ∙ c.is_of.ensures), omega (arith, is, w.claim_at-due.ensures.1))
+      | else-is_of w ↦ let is = ap (λ (u : Units). u.0) w.due-is in
+      (is ∙ ap (λ b. on b (dues (i))) (sym w.if-is_of.false ∙ c.is_of.ensures), omega (arith, is)) ] in
     let joined = c in
-    omega (arith, (granted).1, c.loop-i.inv.3, below)
+    omega (arith, (granted).1, c.loop-i.invariant.3, below)
 
 pub overflow_add-i : goal.overflow_add-i
 overflow_add-i c =
@@ -190,27 +183,21 @@ loop-i-preserved c =
     let i : ℕ
     = c.loop-i.i in
     let granted : (c.if-is_of.due.0 ≡ on (class (i)) (dues (i))) × (c.if-is_of.due.0 ≤ unknown)
-    = ⊎_elim
-      (λ w.
-      let is = ap (λ (u : Units). u.0) w.5 in
-      (is ∙ w.2.ensures.0 ∙ ap (λ b. on b (dues (i))) (sym w.0.taken ∙ c.is_of.ensures), omega (arith, is, w.2.ensures.1)))
-      (λ w.
-      let is = ap (λ (u : Units). u.0) w.2 in
-      (is ∙ ap (λ b. on b (dues (i))) (sym w.0.left ∙ c.is_of.ensures), omega (arith, is)))
-      c.if-is_of.branch in
+    = elim c.if-is_of.branch [ then-is_of w ↦ let is = ap (λ (u : Units). u.0) w.due-is in
+      (is ∙ w.claim_at-due.ensures.0 ∙ ap (λ b. on b (dues (i))) (sym w.if-is_of.true ∙ c.is_of.ensures), omega (arith, is, w.claim_at-due.ensures.1))
+      | else-is_of w ↦ let is = ap (λ (u : Units). u.0) w.due-is in
+      (is ∙ ap (λ b. on b (dues (i))) (sym w.if-is_of.false ∙ c.is_of.ensures), omega (arith, is)) ] in
     let right : (k : ℕ) → KnownDue c.args.claims.now (dues) k → KnownDue c.if-is_of.claims (dues) k
-    = λ k was. let now = c.loop-i.inv.4 k was in
-      ⊎_elim
-      (λ w. same_known (dues) k w.4 (noted (dues) c.loop-i.claims (i) _ k w.2.ensures.0 now))
-      (λ w. same_known (dues) k w.1 now)
-      c.if-is_of.branch in
+    = λ k was. let now = c.loop-i.invariant.4 k was in
+      elim c.if-is_of.branch [ then-is_of w ↦ same_known (dues) k w.claims-is (noted (dues) c.loop-i.claims (i) _ k w.claim_at-due.ensures.0 now)
+      | else-is_of w ↦ same_known (dues) k w.claims-is now ] in
     let joined = c in
     let here = c in
-    let loop = (c).loop in (
+    let loop = c.loop-i in (
       omega (arith, (going).0),
-      filled_next _ loop.i _ loop.inv.1 (granted).0,
-      omega (arith, loop.inv.2, (granted).0, sum_step (λ k. on (class k) (dues k)) loop.i),
-      omega (arith, loop.inv.3, (granted).1),
+      filled_next _ loop.i _ loop.invariant.1 (granted).0,
+      omega (arith, loop.invariant.2, (granted).0, sum_step (λ k. on (class k) (dues k)) loop.i),
+      omega (arith, loop.invariant.3, (granted).1),
       right,
     )
 

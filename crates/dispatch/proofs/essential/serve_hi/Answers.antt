@@ -17,6 +17,7 @@ use Rattle.dispatch.specs.Inner.Turns.{class_in, rank_in, due_in, KnownDue}
 use Rattle.dispatch.proofs.Queues.{serve_length}
 use Rattle.dispatch.proofs.TurnLaws.{granted_served, granted_cleared, same_known}
 use Rattle.dispatch.proofs.essential.serve_hi.Goals as goal
+use Rattle.dispatch.proofs.essential.serve_hi.Goals.{then-slow-claims+else-total-v, else-slow-claims}
 
 pub grant_hi-total-requires : goal.grant_hi-total-requires
 grant_hi-total-requires c =
@@ -47,16 +48,11 @@ clear_grants-requires c =
     = due_in c.args.whole c.args.spans c.args.goals.now c.args.carried.now c.args.table.now in
     let blank : List ℕ
     = filled (λ k. 0) c.args.jobs c.args.grants.now in
-    let cleared : c.clear_grants.new.grants ≡ blank
-    = c.clear_grants.ensures ∙ (as_before).0 in
     let as_before : (filled (λ k. 0) c.args.jobs c.if-slow-claims.grants ≡ blank) × (length c.if-slow-claims.grants ≡ length c.args.grants.now)
-    = ⊎_elim
-      (λ w.
-      let cleared =
-      granted_cleared (λ k. on (class k) (dues k)) c.args.v.0 c.args.jobs c.args.grants.now w.3.ensures.0 in
-      (ap (filled (λ k. 0) c.args.jobs) w.10 ∙ cleared.0, ap length w.10 ∙ cleared.1))
-      (λ w. (ap (filled (λ k. 0) c.args.jobs) w.2, ap length w.2))
-      c.if-slow-claims.branch in
+    = elim c.if-slow-claims.branch [ then-slow-claims+else-total-v w ↦ let cleared =
+      granted_cleared (λ k. on (class k) (dues k)) c.args.v.0 c.args.jobs c.args.grants.now w.grant_hi-total.ensures.0 in
+      (ap (filled (λ k. 0) c.args.jobs) w.grants-is ∙ cleared.0, ap length w.grants-is ∙ cleared.1)
+      | else-slow-claims w ↦ (ap (filled (λ k. 0) c.args.jobs) w.grants-is, ap length w.grants-is) ] in
     omega (arith, (as_before).1, c.requires.2)
 
 pub serve_gathered-requires : goal.serve_gathered-requires
@@ -64,28 +60,23 @@ serve_gathered-requires c =
     let dues : ℕ → ℕ
     = due_in c.args.whole c.args.spans c.args.goals.now c.args.carried.now c.args.table.now in
     let right : (k : ℕ) → KnownDue c.args.claims.now (dues) k → KnownDue c.if-slow-claims.claims (dues) k
-    = λ k. ⊎_elim
-      (λ w known. same_known (dues) k w.9 (w.3.ensures.1 k known))
-      (λ w known. same_known (dues) k w.1 known)
-      c.if-slow-claims.branch in
+    = λ k. elim c.if-slow-claims.branch [ then-slow-claims+else-total-v w ↦ λ known. same_known (dues) k w.claims-is (w.grant_hi-total.ensures.1 k known)
+      | else-slow-claims w ↦ λ known. same_known (dues) k w.claims-is known ] in
     let class : ℕ → Bool
     = class_in true c.args.clock.0 c.args.grades.now c.args.releases.now c.args.deadlines.now in
     let blank : List ℕ
     = filled (λ k. 0) c.args.jobs c.args.grants.now in
     let as_before : (filled (λ k. 0) c.args.jobs c.if-slow-claims.grants ≡ blank) × (length c.if-slow-claims.grants ≡ length c.args.grants.now)
-    = ⊎_elim
-      (λ w.
-      let cleared =
-      granted_cleared (λ k. on (class k) (dues k)) c.args.v.0 c.args.jobs c.args.grants.now w.3.ensures.0 in
-      (ap (filled (λ k. 0) c.args.jobs) w.10 ∙ cleared.0, ap length w.10 ∙ cleared.1))
-      (λ w. (ap (filled (λ k. 0) c.args.jobs) w.2, ap length w.2))
-      c.if-slow-claims.branch in
+    = elim c.if-slow-claims.branch [ then-slow-claims+else-total-v w ↦ let cleared =
+      granted_cleared (λ k. on (class k) (dues k)) c.args.v.0 c.args.jobs c.args.grants.now w.grant_hi-total.ensures.0 in
+      (ap (filled (λ k. 0) c.args.jobs) w.grants-is ∙ cleared.0, ap length w.grants-is ∙ cleared.1)
+      | else-slow-claims w ↦ (ap (filled (λ k. 0) c.args.jobs) w.grants-is, ap length w.grants-is) ] in
     let cleared : c.clear_grants.new.grants ≡ blank
     = c.clear_grants.ensures ∙ (as_before).0 in
     let at-gather = c in
     let start = c in
-    let pre = (c).pre in
-    let a = (c).args in
+    let pre = c.requires in
+    let a = c.args in
     let g = at-gather.gather-count.ensures.1 in (
       omega (arith, g.few, pre.0),
       omega (arith, g.few, pre.1, at-gather.gather-count.ensures.0),
@@ -106,18 +97,15 @@ shape_of-grants c =
     let blank : List ℕ
     = filled (λ k. 0) c.args.jobs c.args.grants.now in
     let as_before : (filled (λ k. 0) c.args.jobs c.if-slow-claims.grants ≡ blank) × (length c.if-slow-claims.grants ≡ length c.args.grants.now)
-    = ⊎_elim
-      (λ w.
-      let cleared =
-      granted_cleared (λ k. on (class k) (dues k)) c.args.v.0 c.args.jobs c.args.grants.now w.3.ensures.0 in
-      (ap (filled (λ k. 0) c.args.jobs) w.10 ∙ cleared.0, ap length w.10 ∙ cleared.1))
-      (λ w. (ap (filled (λ k. 0) c.args.jobs) w.2, ap length w.2))
-      c.if-slow-claims.branch in
+    = elim c.if-slow-claims.branch [ then-slow-claims+else-total-v w ↦ let cleared =
+      granted_cleared (λ k. on (class k) (dues k)) c.args.v.0 c.args.jobs c.args.grants.now w.grant_hi-total.ensures.0 in
+      (ap (filled (λ k. 0) c.args.jobs) w.grants-is ∙ cleared.0, ap length w.grants-is ∙ cleared.1)
+      | else-slow-claims w ↦ (ap (filled (λ k. 0) c.args.jobs) w.grants-is, ap length w.grants-is) ] in
     let cleared : c.clear_grants.new.grants ≡ blank
     = c.clear_grants.ensures ∙ (as_before).0 in
-    let none : (k : ℕ) → k < (c).args.jobs → get_or (blank) k 0 ≡ 0
-    = λ k h. filled_at (λ k. 0) (c).args.jobs (c).args.grants.now k (omega (arith, (c).pre.2)) h in
-    let had : (c.serve_gathered.new.grants ≡ serve (dues) (c).args.v.0 (queue (class) (rank) (c).args.jobs) (blank)) × (c.serve_gathered.result.0 ≡ (c).args.v.0 - sum (λ k. on (class k) (dues k)) (c).args.jobs)
+    let none : (k : ℕ) → k < c.args.jobs → get_or (blank) k 0 ≡ 0
+    = λ k h. filled_at (λ k. 0) c.args.jobs c.args.grants.now k (omega (arith, c.requires.2)) h in
+    let had : (c.serve_gathered.new.grants ≡ serve (dues) c.args.v.0 (queue (class) (rank) c.args.jobs) (blank)) × (c.serve_gathered.result.0 ≡ c.args.v.0 - sum (λ k. on (class k) (dues k)) c.args.jobs)
     = let at-gather = c in
       let start = c in
       let a = start.args in
@@ -132,10 +120,8 @@ returns c =
     let dues : ℕ → ℕ
     = due_in c.args.whole c.args.spans c.args.goals.now c.args.carried.now c.args.table.now in
     let right : (k : ℕ) → KnownDue c.args.claims.now (dues) k → KnownDue c.if-slow-claims.claims (dues) k
-    = λ k. ⊎_elim
-      (λ w known. same_known (dues) k w.9 (w.3.ensures.1 k known))
-      (λ w known. same_known (dues) k w.1 known)
-      c.if-slow-claims.branch in
+    = λ k. elim c.if-slow-claims.branch [ then-slow-claims+else-total-v w ↦ λ known. same_known (dues) k w.claims-is (w.grant_hi-total.ensures.1 k known)
+      | else-slow-claims w ↦ λ known. same_known (dues) k w.claims-is known ] in
     let class : ℕ → Bool
     = class_in true c.args.clock.0 c.args.grades.now c.args.releases.now c.args.deadlines.now in
     let rank : ℕ → ℕ
@@ -143,18 +129,15 @@ returns c =
     let blank : List ℕ
     = filled (λ k. 0) c.args.jobs c.args.grants.now in
     let as_before : (filled (λ k. 0) c.args.jobs c.if-slow-claims.grants ≡ blank) × (length c.if-slow-claims.grants ≡ length c.args.grants.now)
-    = ⊎_elim
-      (λ w.
-      let cleared =
-      granted_cleared (λ k. on (class k) (dues k)) c.args.v.0 c.args.jobs c.args.grants.now w.3.ensures.0 in
-      (ap (filled (λ k. 0) c.args.jobs) w.10 ∙ cleared.0, ap length w.10 ∙ cleared.1))
-      (λ w. (ap (filled (λ k. 0) c.args.jobs) w.2, ap length w.2))
-      c.if-slow-claims.branch in
+    = elim c.if-slow-claims.branch [ then-slow-claims+else-total-v w ↦ let cleared =
+      granted_cleared (λ k. on (class k) (dues k)) c.args.v.0 c.args.jobs c.args.grants.now w.grant_hi-total.ensures.0 in
+      (ap (filled (λ k. 0) c.args.jobs) w.grants-is ∙ cleared.0, ap length w.grants-is ∙ cleared.1)
+      | else-slow-claims w ↦ (ap (filled (λ k. 0) c.args.jobs) w.grants-is, ap length w.grants-is) ] in
     let cleared : c.clear_grants.new.grants ≡ blank
     = c.clear_grants.ensures ∙ (as_before).0 in
-    let none : (k : ℕ) → k < (c).args.jobs → get_or (blank) k 0 ≡ 0
-    = λ k h. filled_at (λ k. 0) (c).args.jobs (c).args.grants.now k (omega (arith, (c).pre.2)) h in
-    let had : (c.serve_gathered.new.grants ≡ serve (dues) (c).args.v.0 (queue (class) (rank) (c).args.jobs) (blank)) × (c.serve_gathered.result.0 ≡ (c).args.v.0 - sum (λ k. on (class k) (dues k)) (c).args.jobs)
+    let none : (k : ℕ) → k < c.args.jobs → get_or (blank) k 0 ≡ 0
+    = λ k h. filled_at (λ k. 0) c.args.jobs c.args.grants.now k (omega (arith, c.requires.2)) h in
+    let had : (c.serve_gathered.new.grants ≡ serve (dues) c.args.v.0 (queue (class) (rank) c.args.jobs) (blank)) × (c.serve_gathered.result.0 ≡ c.args.v.0 - sum (λ k. on (class k) (dues k)) c.args.jobs)
     = let at-gather = c in
       let start = c in
       let a = start.args in

@@ -25,17 +25,9 @@ use Rattle.dispatch.proofs.SlotSoundness.{SlotSound, slot_sound_lem}
 use Rattle.dispatch.proofs.SoundColumns.{size_on, deadline_on}
 use Rattle.dispatch.proofs.shift.carry_kept.Goals as goal
 
--- HELPER
-
-settled_is : (c : tie.After-share-slot) → (k : ℕ) → k < counted (q (start c)) → get_or (settled c) k 0 ≡ settled_of (q (start c)) (run (start c)) k
-settled c_is k l =
-    ap (λ r. get_or r k 0) (settling c).settle.ensures
-    ∙ filled_at (settled_in (run (start c)).ended (sizes (start c)) (run (start c)).carried) most_jobs (replicate most_jobs 0) k (rw (length-replicate {A = ℕ} most_jobs 0) (omega arith)) (omega arith)
-    ∙ ap (λ s. settledBy (ended_of (run (start c)) k) s (carried_of (run (start c)) k)) (sym (size_on (o (start c)) (grades (start c)) (releases (start c)) (sizes (start c)) (deadlines (start c)) k l))
-  where
-    settledBy : Bool → ℕ → ℕ → ℕ
-    settledBy true s c = s
-    settledBy false s c = c
+abbrev settled_by : Bool → ℕ → ℕ → ℕ
+settled_by true s c = s
+settled_by false s c = c
 
 pub share_slot-slow-requires : goal.share_slot-slow-requires
 share_slot-slow-requires c =
@@ -86,12 +78,16 @@ carry_grants-requires c =
     let parts : SlotSound (q) (run)
     = slot_sound_lem (q) (run) c.requires.0 in
     let settled : List ℕ
-    = c.settle.last.1.1.1.0 in
+    = c.settle.new.settled in
+    let settled_is : (k : ℕ) → k < counted (q) → get_or (settled) k 0 ≡ settled_of (q) (run) k
+    = λ k l. ap (λ r. get_or r k 0) c.settle.ensures
+      ∙ filled_at (settled_in (run).ended (sizes) (run).carried) most_jobs (replicate most_jobs 0) k (rw (length-replicate {A = ℕ} most_jobs 0) (omega arith)) (omega arith)
+      ∙ ap (λ s. settled_by (ended_of (run) k) s (carried_of (run) k)) (sym (size_on (o) (grades) (releases) (sizes) (deadlines) k l)) in
     let left : List ℕ
     = c.share_slot-slow.new.grants in
     let grants-are : (left) ≡ granted (q) (table) (run) (v) (grants)
     = c.share_slot-slow.ensures.1
-      ∙ settled_granted (q) (table) (run) (settled) (v) (settled_is c) (grants) c.requires.1 in
+      ∙ settled_granted (q) (table) (run) (settled) (v) (settled_is) (grants) c.requires.1 in
     let jobs : c.counted_within-jobs.result ≡ counted (q)
     = c.counted_within-jobs.ensures in
     let at-share-slot = c in
@@ -127,19 +123,29 @@ returns c =
     let left : List ℕ
     = c.share_slot-slow.new.grants in
     let settled : List ℕ
-    = c.settle.last.1.1.1.0 in
+    = c.settle.new.settled in
+    let settled_is : (k : ℕ) → k < counted (q) → get_or (settled) k 0 ≡ settled_of (q) (run) k
+    = λ k l. ap (λ r. get_or r k 0) c.settle.ensures
+      ∙ filled_at (settled_in (run).ended (sizes) (run).carried) most_jobs (replicate most_jobs 0) k (rw (length-replicate {A = ℕ} most_jobs 0) (omega arith)) (omega arith)
+      ∙ ap (λ s. settled_by (ended_of (run) k) s (carried_of (run) k)) (sym (size_on (o) (grades) (releases) (sizes) (deadlines) k l)) in
     let grants-are : (left) ≡ granted (q) (table) (run) (v) (grants)
     = c.share_slot-slow.ensures.1
-      ∙ settled_granted (q) (table) (run) (settled) (v) (settled_is c) (grants) c.requires.1 in
+      ∙ settled_granted (q) (table) (run) (settled) (v) (settled_is) (grants) c.requires.1 in
     let slow_is : c.share_slot-slow.result ≡ slow_after (q) (table) (run) (v)
-    = c.share_slot-slow.ensures.0 ∙ settled_mark (q) (table) (run) (settled) (v) (settled_is c) in
+    = c.share_slot-slow.ensures.0 ∙ settled_mark (q) (table) (run) (settled) (v) (settled_is) in
     let jobs : c.counted_within-jobs.result ≡ counted (q)
     = c.counted_within-jobs.ensures in
     let at-carry-grants = c in
     let at-share-slot = at-carry-grants in
     let here = c in (
       slot_run (q) (table) (run) (v) (grants) here.requires.1 refl (slow_is)
-          (c).below_after.ensures (grants-are)
+          c.below_after-below.ensures (grants-are)
           (at-carry-grants.carry_grants.ensures ∙ ap (λ m. filled (λ k. carried_of (run) k + get_or (left) k 0) m (run).carried) (jobs)),
       grants-are,
     )
+
+pub overflow_add-clock : goal.overflow_add-clock
+overflow_add-clock c =
+    let a = c.args in
+    let parts = slot_sound_lem (plan_on a.o a.grades.now a.releases.now a.sizes.now a.deadlines.now) (run_at c.args.at c.args.carried.now c.args.ended.now) c.requires.0 in
+    omega (arith, parts.not_over, parts.rules.last)

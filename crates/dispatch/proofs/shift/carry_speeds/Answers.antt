@@ -23,11 +23,6 @@ use Rattle.dispatch.proofs.SoundColumns.{last_on}
 use Rattle.dispatch.proofs.shift.carry_speeds.Invariants.{Calls}
 use Rattle.dispatch.proofs.shift.carry_speeds.Goals as goal
 
--- HELPER
-
-jobs_are : (c : tie.In-loop invariant-loop decreases-loop) → (jobs c) ≡ counted (q c)
-jobs c_are = (counting c).counted-within.ensures
-
 pub last_of-last-requires : goal.last_of-last-requires
 last_of-last-requires c =
     omega (arith, c.counted_within-jobs.ensures)
@@ -38,12 +33,10 @@ fill_goals-requires c =
 
 pub loop-k-init : goal.loop-k-init
 loop-k-init c =
-    let k : ℕ
-    = c.loop-k.k in
     let jobs : ℕ
     = c.counted_within-jobs.result in
     let counting = c in
-    let start = c
+    let start = counting in
     let a = start.args in
     let f = kept_goal 0 a.sizes.now a.table.now in
     let blank : List ℕ = replicate most_jobs 0 in
@@ -66,8 +59,12 @@ overflow_mul-from c =
     = c.loop-k.k in
     let jobs : ℕ
     = c.counted_within-jobs.result in
+    let q : Plan
+    = plan_on c.args.o c.args.grades.now c.args.releases.now c.args.sizes.now c.args.deadlines.now in
+    let jobs_are : (jobs) ≡ counted (q)
+    = c.counted_within-jobs.ensures in
     let few : (k) * (jobs) ≤ most_speeds * most_jobs
-    = mul-le-mul {n₁ = (k)} {m₁ = (jobs)} {n₂ = most_speeds} {m₂ = most_jobs} (omega (arith, c.loop-k-test.true, c.requires.2)) (omega (arith, (jobs_are c))) in
+    = mul-le-mul {n₁ = (k)} {m₁ = (jobs)} {n₂ = most_speeds} {m₂ = most_jobs} (omega (arith, c.loop-k-test.true, c.requires.2)) (omega (arith, (jobs_are))) in
     record { fits = omega (arith, few) }
 
 pub offset_bounds-rows-from : goal.offset_bounds-rows-from
@@ -76,8 +73,12 @@ offset_bounds-rows-from c =
     = c.loop-k.k in
     let jobs : ℕ
     = c.counted_within-jobs.result in
+    let q : Plan
+    = plan_on c.args.o c.args.grades.now c.args.releases.now c.args.sizes.now c.args.deadlines.now in
+    let jobs_are : (jobs) ≡ counted (q)
+    = c.counted_within-jobs.ensures in
     let few : (k) * (jobs) ≤ most_speeds * most_jobs
-    = mul-le-mul {n₁ = (k)} {m₁ = (jobs)} {n₂ = most_speeds} {m₂ = most_jobs} (omega (arith, c.loop-k-test.true, c.requires.2)) (omega (arith, (jobs_are c))) in
+    = mul-le-mul {n₁ = (k)} {m₁ = (jobs)} {n₂ = most_speeds} {m₂ = most_jobs} (omega (arith, c.loop-k-test.true, c.requires.2)) (omega (arith, (jobs_are))) in
     record { fits = omega (arith, few) }
 
 pub slice_bounds-row-count : goal.slice_bounds-row-count
@@ -86,10 +87,14 @@ slice_bounds-row-count c =
     = c.loop-k.k in
     let jobs : ℕ
     = c.counted_within-jobs.result in
+    let q : Plan
+    = plan_on c.args.o c.args.grades.now c.args.releases.now c.args.sizes.now c.args.deadlines.now in
+    let jobs_are : (jobs) ≡ counted (q)
+    = c.counted_within-jobs.ensures in
     let room : (k) * (jobs) + (jobs) ≤ length c.loop-k.rows
     = let all : suc (k) * (jobs) ≤ length c.args.speeds.now * (jobs) = mul-le-mul {n₁ = suc (k)} {m₁ = (jobs)} {n₂ = length c.args.speeds.now} {m₂ = (jobs)} (omega (arith, c.loop-k-test.true)) (omega arith) in
       let lent : length c.args.speeds.now * (jobs) ≤ length c.args.rows.now
-      = omega (arith, c.requires.3, ap (λ n. length c.args.speeds.now * n) (jobs_are c)) in
+      = omega (arith, c.requires.3, ap (λ n. length c.args.speeds.now * n) (jobs_are)) in
       omega (arith, suc-mul (k) (jobs), c.loop-k.invariant.rows_long) in
     omega (arith, room, c.loop-k.invariant.rows_long)
 
@@ -99,10 +104,14 @@ slice_bounds-row-start c =
     = c.loop-k.k in
     let jobs : ℕ
     = c.counted_within-jobs.result in
+    let q : Plan
+    = plan_on c.args.o c.args.grades.now c.args.releases.now c.args.sizes.now c.args.deadlines.now in
+    let jobs_are : (jobs) ≡ counted (q)
+    = c.counted_within-jobs.ensures in
     let room : (k) * (jobs) + (jobs) ≤ length c.loop-k.rows
     = let all : suc (k) * (jobs) ≤ length c.args.speeds.now * (jobs) = mul-le-mul {n₁ = suc (k)} {m₁ = (jobs)} {n₂ = length c.args.speeds.now} {m₂ = (jobs)} (omega (arith, c.loop-k-test.true)) (omega arith) in
       let lent : length c.args.speeds.now * (jobs) ≤ length c.args.rows.now
-      = omega (arith, c.requires.3, ap (λ n. length c.args.speeds.now * n) (jobs_are c)) in
+      = omega (arith, c.requires.3, ap (λ n. length c.args.speeds.now * n) (jobs_are)) in
       omega (arith, suc-mul (k) (jobs), c.loop-k.invariant.rows_long) in
     omega (arith, room, c.loop-k.invariant.rows_long)
 
@@ -112,32 +121,40 @@ slice_bounds-row-end c =
     = c.loop-k.k in
     let jobs : ℕ
     = c.counted_within-jobs.result in
+    let q : Plan
+    = plan_on c.args.o c.args.grades.now c.args.releases.now c.args.sizes.now c.args.deadlines.now in
+    let jobs_are : (jobs) ≡ counted (q)
+    = c.counted_within-jobs.ensures in
     let room : (k) * (jobs) + (jobs) ≤ length c.loop-k.rows
     = let all : suc (k) * (jobs) ≤ length c.args.speeds.now * (jobs) = mul-le-mul {n₁ = suc (k)} {m₁ = (jobs)} {n₂ = length c.args.speeds.now} {m₂ = (jobs)} (omega (arith, c.loop-k-test.true)) (omega arith) in
       let lent : length c.args.speeds.now * (jobs) ≤ length c.args.rows.now
-      = omega (arith, c.requires.3, ap (λ n. length c.args.speeds.now * n) (jobs_are c)) in
+      = omega (arith, c.requires.3, ap (λ n. length c.args.speeds.now * n) (jobs_are)) in
       omega (arith, suc-mul (k) (jobs), c.loop-k.invariant.rows_long) in
     omega (arith, room, c.loop-k.invariant.rows_long)
 
 pub next_slot-slot-requires : goal.next_slot-slot-requires
 next_slot-slot-requires c =
-    let k : ℕ
-    = c.loop-k.k in
+    let q : Plan
+    = plan_on c.args.o c.args.grades.now c.args.releases.now c.args.sizes.now c.args.deadlines.now in
     let jobs : ℕ
     = c.counted_within-jobs.result in
+    let jobs_are : (jobs) ≡ counted (q)
+    = c.counted_within-jobs.ensures in
+    let k : ℕ
+    = c.loop-k.k in
     let room : (k) * (jobs) + (jobs) ≤ length c.loop-k.rows
     = let all : suc (k) * (jobs) ≤ length c.args.speeds.now * (jobs) = mul-le-mul {n₁ = suc (k)} {m₁ = (jobs)} {n₂ = length c.args.speeds.now} {m₂ = (jobs)} (omega (arith, c.loop-k-test.true)) (omega arith) in
       let lent : length c.args.speeds.now * (jobs) ≤ length c.args.rows.now
-      = omega (arith, c.requires.3, ap (λ n. length c.args.speeds.now * n) (jobs_are c)) in
+      = omega (arith, c.requires.3, ap (λ n. length c.args.speeds.now * n) (jobs_are)) in
       omega (arith, suc-mul (k) (jobs), c.loop-k.invariant.rows_long) in
     let turn = c in
-    let a = (c).args in
+    let a = c.args in
     let inv = turn.loop-k.invariant in (
       inv.sound,
-      turn.last_of-last.ensures ∙ ap (greatest (λ i. get_or a.deadlines.now i 0)) (jobs_are turn)
+      turn.last_of-last.ensures ∙ ap (greatest (λ i. get_or a.deadlines.now i 0)) (jobs_are)
           ∙ sym (last_on a.o a.grades.now a.releases.now a.sizes.now a.deadlines.now),
-      (c).requires.1,
-      rw (length-take, length-drop) (omega (arith, room, jobs_are turn, inv.rows_long)),
+      c.requires.1,
+      rw (length-take, length-drop) (omega (arith, room, jobs_are, inv.rows_long)),
       inv.goals-long,
       inv.goals-kept,
     )
@@ -145,12 +162,12 @@ next_slot-slot-requires c =
 pub bounds-numbers-k : goal.bounds-numbers-k
 bounds-numbers-k c =
     let turn = c in
-    omega (arith, turn.loop-k-test.true, turn.loop-k.invariant.numbers_long, (c).requires.4)
+    omega (arith, turn.loop-k-test.true, turn.loop-k.invariant.numbers_long, c.requires.4)
 
 pub overflow_add-k : goal.overflow_add-k
 overflow_add-k c =
     let turn = c in
-    omega (arith, turn.loop-k-test.true, (c).requires.2)
+    omega (arith, turn.loop-k-test.true, c.requires.2)
 
 pub loop-k-preserved : goal.loop-k-preserved
 loop-k-preserved c =
@@ -160,16 +177,18 @@ loop-k-preserved c =
     = c.loop-k.k in
     let jobs : ℕ
     = c.counted_within-jobs.result in
+    let jobs_are : (jobs) ≡ counted (q)
+    = c.counted_within-jobs.ensures in
     let room : (k) * (jobs) + (jobs) ≤ length c.loop-k.rows
     = let all : suc (k) * (jobs) ≤ length c.args.speeds.now * (jobs) = mul-le-mul {n₁ = suc (k)} {m₁ = (jobs)} {n₂ = length c.args.speeds.now} {m₂ = (jobs)} (omega (arith, c.loop-k-test.true)) (omega arith) in
       let lent : length c.args.speeds.now * (jobs) ≤ length c.args.rows.now
-      = omega (arith, c.requires.3, ap (λ n. length c.args.speeds.now * n) (jobs_are c)) in
+      = omega (arith, c.requires.3, ap (λ n. length c.args.speeds.now * n) (jobs_are)) in
       omega (arith, suc-mul (k) (jobs), c.loop-k.invariant.rows_long) in
     let at_slot = c in
     let turn = at_slot in
     let loop = turn.loop-k in
     let inv = loop.invariant in
-    let a = (c).args in
+    let a = c.args in
     let all = length a.rows.now in
     let from = k * jobs in
     let was = run_at loop.next loop.carried a.ended.now in
@@ -178,11 +197,11 @@ loop-k-preserved c =
     let part = at_slot.next_slot-slot.new.grants in
     let slot = at_slot.next_slot-slot.ensures.0 in
     let inside : from ≤ all = omega (arith, room, inv.rows_long) in
-    let fits : counted (q) ≤ length lent = rw (length-take, length-drop) (omega (arith, room, jobs_are turn, inv.rows_long)) in
+    let fits : counted (q) ≤ length lent = rw (length-take, length-drop) (omega (arith, room, jobs_are, inv.rows_long)) in
     record {
       below = omega (arith, turn.loop-k-test.true);
       rest = call_made (q) a.table.now a.speeds.now (k) was _ loop.rows loop.numbers part _ _ (jobs) all
-          turn.loop-k-test.true (jobs_are turn) inv.rows_long inside slot c.number_of.ensures
+          turn.loop-k-test.true (jobs_are) inv.rows_long inside slot c.number_of.ensures
           ∙ inv.rest;
       sound = ap (λ (s : SlotEffect). slot_sound (q) s.run) slot ∙ sound_stays (q) a.table.now was v lent inv.sound;
       rows_long = put_back_long loop.rows from all inv.rows_long inside part

@@ -1,7 +1,7 @@
 -- `dispatch::shift::shift_over` meets its contract: for the plan made from the columns its refusals in their order, otherwise
 -- the calls at the speeds; and so for every plan whose columns they are.
 use mathlib.Core.Path.{◌≡◌, sym, ◌∙◌, ap}
-use mathlib.Core.Bool.{true, ◌||◌}
+use mathlib.Core.Bool.{Bool, true, ◌||◌}
 use mathlib.Core.List.{List}
 use Prim.Native.Nat.{ℕ, ◌*◌, ◌≤◌}
 use native.Mathlib.Nat.{mul-le-mul}
@@ -58,7 +58,7 @@ returns-then-not-is_sound c =
     let carried-over : (p : Plan) → Columns p (o) (grades) (releases) (sizes) (deadlines) → shifted (q) (table) (run) (speeds) (rows) (numbers) ≡ shifted p (table) (run) (speeds) (rows) (numbers)
     = λ p cols. sym (alike_shift p (table) (q) (table) (columns_alike (grades) (releases) (sizes) (deadlines) (o) p (table) cols) (run) (speeds) (rows) (numbers)) in
     λ p cols. let at = c in
-    unsound_shift (q) (table) (run) (speeds) (rows) (numbers) (sym (sound_is) ∙ not-true _ (ap not (ap not c.if-not-is_sound.true))) ∙ carried-over cols
+    unsound_shift (q) (table) (run) (speeds) (rows) (numbers) (sym (sound_is) ∙ not-true _ (ap not c.if-not-is_sound.true)) ∙ carried-over p cols
 
 pub returns-then-speeds-gt-MOST_SPEEDS : goal.returns-then-speeds-gt-MOST_SPEEDS
 unfolding slot_sound
@@ -91,8 +91,8 @@ returns-then-speeds-gt-MOST_SPEEDS c =
     = λ p cols. sym (alike_shift p (table) (q) (table) (columns_alike (grades) (releases) (sizes) (deadlines) (o) p (table) cols) (run) (speeds) (rows) (numbers)) in
     λ p cols. let at = c in
     shift_refused (q) (table) (run) (speeds) (rows) (numbers)
-    (many_fault (q) (table) (run) (speeds) (rows) (numbers) (sym (sound_is) ∙ not-false _ (ap not (ap not c.if-not-is_sound.false))) c.if-speeds-gt-MOST_SPEEDS.true)
-    ∙ carried-over cols
+    (many_fault (q) (table) (run) (speeds) (rows) (numbers) (sym (sound_is) ∙ not-false _ (ap not c.if-not-is_sound.false)) c.if-speeds-gt-MOST_SPEEDS.true)
+    ∙ carried-over p cols
 
 pub overflow_mul-speeds : goal.overflow_mul-speeds
 overflow_mul-speeds c =
@@ -148,17 +148,17 @@ returns-then-table-rows c =
     let sound_is : c.is_sound.result ≡ slot_sound (q) (run)
     = c.is_sound.ensures ∙ ap is_sound c.readiness_of.ensures ∙ readiness_sound (q) (run).clock.0 (run).carried in
     let sound : slot_sound (q) (run) ≡ true
-    = sym (sound_is) ∙ not-false _ (ap not (ap not c.if-not-is_sound.false)) in
+    = sym (sound_is) ∙ not-false _ (ap not c.if-not-is_sound.false) in
     let few : length (speeds) ≤ most_speeds
     = c.if-speeds-gt-MOST_SPEEDS.false in
     let jobs : c.counted_within-jobs.result ≡ counted (q)
     = c.counted_within-jobs.ensures in
-    let tested : {found : _} → (ltb (length (table)) places || ltb (length (rows)) (length (speeds) * c.counted_within-jobs.result) || ltb (length (numbers)) (length (speeds))) ≡ found → (ltb (length (table)) places || ltb (length (rows)) (row_start (q) (length (speeds))) || ltb (length (numbers)) (length (speeds))) ≡ found
-    = λ e. ap (λ n. ltb (length (table)) places || ltb (length (rows)) (length (speeds) * n) || ltb (length (numbers)) (length (speeds))) (sym (jobs)) ∙ e in
+    let tested : (found : Bool) → (ltb (length (table)) places || ltb (length (rows)) (length (speeds) * c.counted_within-jobs.result) || ltb (length (numbers)) (length (speeds))) ≡ found → (ltb (length (table)) places || ltb (length (rows)) (row_start (q) (length (speeds))) || ltb (length (numbers)) (length (speeds))) ≡ found
+    = λ found e. ap (λ n. ltb (length (table)) places || ltb (length (rows)) (length (speeds) * n) || ltb (length (numbers)) (length (speeds))) (sym (jobs)) ∙ e in
     λ p cols. let counting = c in
     let here = c in
     shift_refused (q) (table) (run) (speeds) (rows) (numbers)
-    (short_fault (q) (table) (run) (speeds) (rows) (numbers) (sound) (few) (tested c.if-table-rows.true))
+    (short_fault (q) (table) (run) (speeds) (rows) (numbers) (sound) (few) (tested _ c.if-table-rows.true))
     ∙ carried-over p cols
 
 pub carry_speeds-next-requires : goal.carry_speeds-next-requires
@@ -181,7 +181,7 @@ carry_speeds-next-requires c =
     let sound_is : c.is_sound.result ≡ slot_sound (q) (run)
     = c.is_sound.ensures ∙ ap is_sound c.readiness_of.ensures ∙ readiness_sound (q) (run).clock.0 (run).carried in
     let sound : slot_sound (q) (run) ≡ true
-    = sym (sound_is) ∙ not-false _ (ap not (ap not c.if-not-is_sound.false)) in
+    = sym (sound_is) ∙ not-false _ (ap not c.if-not-is_sound.false) in
     let speeds : List ℕ
     = c.args.speeds.now in
     let few : length (speeds) ≤ most_speeds
@@ -194,11 +194,11 @@ carry_speeds-next-requires c =
     = c.args.numbers.now in
     let jobs : c.counted_within-jobs.result ≡ counted (q)
     = c.counted_within-jobs.ensures in
-    let tested : {found : _} → (ltb (length (table)) places || ltb (length (rows)) (length (speeds) * c.counted_within-jobs.result) || ltb (length (numbers)) (length (speeds))) ≡ found → (ltb (length (table)) places || ltb (length (rows)) (row_start (q) (length (speeds))) || ltb (length (numbers)) (length (speeds))) ≡ found
-    = λ e. ap (λ n. ltb (length (table)) places || ltb (length (rows)) (length (speeds) * n) || ltb (length (numbers)) (length (speeds))) (sym (jobs)) ∙ e in
+    let tested : (found : Bool) → (ltb (length (table)) places || ltb (length (rows)) (length (speeds) * c.counted_within-jobs.result) || ltb (length (numbers)) (length (speeds))) ≡ found → (ltb (length (table)) places || ltb (length (rows)) (row_start (q) (length (speeds))) || ltb (length (numbers)) (length (speeds))) ≡ found
+    = λ found e. ap (λ n. ltb (length (table)) places || ltb (length (rows)) (length (speeds) * n) || ltb (length (numbers)) (length (speeds))) (sym (jobs)) ∙ e in
     let long : (places ≤ length (table)) × (row_start (q) (length (speeds)) ≤ length (rows)) × (length (speeds) ≤ length (numbers))
     = let here = c in
-      let last = neither (ltb (length (table)) places || ltb (length (rows)) (row_start (q) (length (speeds)))) (ltb (length (numbers)) (length (speeds))) (tested c.if-table-rows.false) in
+      let last = neither (ltb (length (table)) places || ltb (length (rows)) (row_start (q) (length (speeds)))) (ltb (length (numbers)) (length (speeds))) (tested _ c.if-table-rows.false) in
       let first = neither (ltb (length (table)) places) (ltb (length (rows)) (row_start (q) (length (speeds)))) last.0 in
       (ltb-false (length (table)) places first.0, ltb-false (length (rows)) (row_start (q) (length (speeds))) first.1, ltb-false (length (numbers)) (length (speeds)) last.1) in
     let at-else = c in
@@ -235,17 +235,17 @@ returns c =
     let sound_is : c.is_sound.result ≡ slot_sound (q) (run)
     = c.is_sound.ensures ∙ ap is_sound c.readiness_of.ensures ∙ readiness_sound (q) (run).clock.0 (run).carried in
     let sound : slot_sound (q) (run) ≡ true
-    = sym (sound_is) ∙ not-false _ (ap not (ap not c.if-not-is_sound.false)) in
+    = sym (sound_is) ∙ not-false _ (ap not c.if-not-is_sound.false) in
     let few : length (speeds) ≤ most_speeds
     = c.if-speeds-gt-MOST_SPEEDS.false in
     let jobs : c.counted_within-jobs.result ≡ counted (q)
     = c.counted_within-jobs.ensures in
-    let tested : {found : _} → (ltb (length (table)) places || ltb (length (rows)) (length (speeds) * c.counted_within-jobs.result) || ltb (length (numbers)) (length (speeds))) ≡ found → (ltb (length (table)) places || ltb (length (rows)) (row_start (q) (length (speeds))) || ltb (length (numbers)) (length (speeds))) ≡ found
-    = λ e. ap (λ n. ltb (length (table)) places || ltb (length (rows)) (length (speeds) * n) || ltb (length (numbers)) (length (speeds))) (sym (jobs)) ∙ e in
+    let tested : (found : Bool) → (ltb (length (table)) places || ltb (length (rows)) (length (speeds) * c.counted_within-jobs.result) || ltb (length (numbers)) (length (speeds))) ≡ found → (ltb (length (table)) places || ltb (length (rows)) (row_start (q) (length (speeds))) || ltb (length (numbers)) (length (speeds))) ≡ found
+    = λ found e. ap (λ n. ltb (length (table)) places || ltb (length (rows)) (length (speeds) * n) || ltb (length (numbers)) (length (speeds))) (sym (jobs)) ∙ e in
     λ p cols. let at-speeds = c in
     let at-else = at-speeds in
     let counting = at-else in
     let here = c in
     at-speeds.carry_speeds-next.ensures
-    ∙ shift_done (q) (table) (run) (speeds) (rows) (numbers) (sound) (few) (tested at-else.if-table-rows.false)
+    ∙ shift_done (q) (table) (run) (speeds) (rows) (numbers) (sound) (few) (tested _ at-else.if-table-rows.false)
     ∙ carried-over p cols

@@ -18,11 +18,6 @@ use Rattle.dispatch.proofs.Queues.{serve_length}
 use Rattle.dispatch.proofs.TurnLaws.{hi_served, other_served, others_wait, hi_alone, then_others}
 use Rattle.dispatch.proofs.slot.serve_in_turns.Goals as goal
 
--- HELPER
-
-abbrev class : (c : tie.Start) → Bool → ℕ → Bool
-class c (is_hi c) = class_in (is_hi c) c.args.clock.0 c.args.grades.now c.args.releases.now c.args.deadlines.now
-
 pub serve_hi-rest-requires : goal.serve_hi-rest-requires
 serve_hi-rest-requires c =
     let live : ℕ → Bool
@@ -34,7 +29,7 @@ serve_hi-rest-requires c =
       search rules,
       entry.requires.1,
       entry.requires.2,
-      λ k h passes. entry.requires.3 k h (hi_served (live) (is_hi) entry.args.slow passes),
+      λ k h passes. entry.requires.3 k h (hi_served (live k) (is_hi k) entry.args.slow passes),
     )
 
 pub shape_of-grants-then-slow-rest : goal.shape_of-grants-then-slow-rest
@@ -66,8 +61,8 @@ serve_gathered-requires c =
     = λ k. eqb (get_or c.args.grades.now k 0) hi in
     let as_long : length c.serve_hi-rest.new.grants ≡ length c.args.grants.now
     = ap length c.serve_hi-rest.ensures.0 ∙ serve_length _ _ _ _ ∙ filled_length _ _ _ in
-    let not-slow : (c).args.slow ≡ false
-    = (neither (c).args.slow (eqb c.serve_hi-rest.result.0 0) c.if-slow-rest.false).0 in
+    let not-slow : c.args.slow ≡ false
+    = (neither c.args.slow (eqb c.serve_hi-rest.result.0 0) c.if-slow-rest.false).0 in
     let at_others = c in
     let served = c in
     let here = c in
@@ -91,8 +86,8 @@ returns c =
     = rank_in c.args.grades.now c.args.deadlines.now in
     let dues : ℕ → ℕ
     = due_in c.args.whole c.args.spans c.args.goals.now c.args.carried.now c.args.table.now in
-    let not-slow : (c).args.slow ≡ false
-    = (neither (c).args.slow (eqb c.serve_hi-rest.result.0 0) c.if-slow-rest.false).0 in
+    let not-slow : c.args.slow ≡ false
+    = (neither c.args.slow (eqb c.serve_hi-rest.result.0 0) c.if-slow-rest.false).0 in
     let at_others = c in
     let served = c in
     let rest = served.serve_hi-rest.result.0 in
@@ -100,9 +95,9 @@ returns c =
     let a = here.args in
     let waits = others_wait a.clock.0 a.grades.now a.releases.now a.deadlines.now (dues) a.v.0 a.jobs (blank) (none) in
     let told =
-    c.serve_gathered.ensures.1 (class here false) (rank) a.jobs at_others.gather-others.ensures.1
+    c.serve_gathered.ensures.1 (class_in false c.args.clock.0 c.args.grades.now c.args.releases.now c.args.deadlines.now) (rank) a.jobs at_others.gather-others.ensures.1
     (λ k h e. ap (λ row. get_or row k 0) served.serve_hi-rest.ensures.0 ∙ waits k h e) in
     told.0
-    ∙ ap (serve (dues) rest (queue (class here false) (rank) a.jobs)) served.serve_hi-rest.ensures.0
+    ∙ ap (serve (dues) rest (queue (class_in false c.args.clock.0 c.args.grades.now c.args.releases.now c.args.deadlines.now) (rank) a.jobs)) served.serve_hi-rest.ensures.0
     ∙ sym (then_others a.clock.0 a.grades.now a.releases.now a.deadlines.now (dues) a.v.0 a.jobs (blank) (none)
     a.slow served.serve_hi-rest.ensures.1 (not-slow))

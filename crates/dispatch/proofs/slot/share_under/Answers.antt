@@ -34,7 +34,7 @@ all_fit-requires c =
     let most : c.over-most.result.0 ≡ (v)
     = ap (λ (u : Units). u.0) c.over-most.ensures ∙ mul-one (v) in
     let at = c in
-    (omega (arith, jobs), omega (arith, most, (c).requires.2), refl)
+    (omega (arith, jobs), omega (arith, most, c.requires.2), refl)
 
 pub returns-then-all_fit : goal.returns-then-all_fit
 returns-then-all_fit c =
@@ -76,11 +76,11 @@ returns-then-all_fit c =
     let here = c in
     let n = min (o).count most_jobs in
     let shared = shared_claims (o) (grades) (releases) (sizes) (deadlines) (table) (run) (v) refl (goals) (right)
-    (c).args.grants.now (c).pre.0 ((told).sums at-if1.if-all_fit.true).1 in (
+    c.args.grants.now c.requires.0 ((told).sums at-if1.if-all_fit.true).1 in (
       shared.0,
       at-grant-claims.grant_claims.ensures
-          ∙ ap (λ m. filled (λ k. get_or fit.all_fit.new.claims k 0) m (c).args.grants.now) (jobs)
-          ∙ filled_ext (λ k. get_or fit.all_fit.new.claims k 0) (claim) n (c).args.grants.now
+          ∙ ap (λ m. filled (λ k. get_or fit.all_fit.new.claims k 0) m c.args.grants.now) (jobs)
+          ∙ filled_ext (λ k. get_or fit.all_fit.new.claims k 0) (claim) n c.args.grants.now
           (claims_all (claim) (v) n (omega arith) (told) at-if1.if-all_fit.true)
           ∙ shared.1,
     )
@@ -124,7 +124,7 @@ returns-then-slow-v c =
     let here = c in
     let test = slow_test (run).slow (v) (o).n.0 c.if-slow-v.true in
     shared_not (o) (grades) (releases) (sizes) (deadlines) (table) (run) (v) refl (goals) (right)
-    (c).args.grants.now test.0 test.1 ((told).over at-else.if-all_fit.false)
+    c.args.grants.now test.0 test.1 ((told).over at-else.if-all_fit.false)
 
 pub serve_in_turns-requires : goal.serve_in_turns-requires
 serve_in_turns-requires c =
@@ -160,8 +160,8 @@ serve_in_turns-requires c =
     let here = c in
     let n = min (o).count most_jobs in (
       omega (arith, jobs),
-      rw (jobs) (c).pre.0,
-      λ k l. (c).pre.1 k (omega (arith, jobs)),
+      rw (jobs) c.requires.0,
+      λ k l. c.requires.1 k (omega (arith, jobs)),
       λ k l. claims_known (claim) (due_in (run).slow (spans) (sizes) (carried) (table))
           (served_in (run).clock.0 (run).slow (grades) (releases) (deadlines)) (v) n (λ i. refl) (omega arith) (told) k
           (omega (arith, jobs)),
@@ -202,10 +202,10 @@ returns c =
     let fit = at-else in
     let here = c in
     let shared = shared_turns (o) (grades) (releases) (sizes) (deadlines) (table) (run) (v) refl (goals) (right)
-    (c).args.grants.now (c).pre.0 (normal_test (run).slow (v) (o).n.0 at-else.if-slow-v.false) in (
+    c.args.grants.now c.requires.0 (normal_test (run).slow (v) (o).n.0 at-else.if-slow-v.false) in (
       shared.0,
       at-serve-in-turns.serve_in_turns.ensures
           ∙ ap₂ (λ x m. in_turns (run).clock.0 (run).slow (grades) (releases) (deadlines)
-          (due_in (run).slow (spans) (sizes) (carried) (table)) x m (filled (λ k. 0) m (c).args.grants.now)) (most) (jobs)
+          (due_in (run).slow (spans) (sizes) (carried) (table)) x m (filled (λ k. 0) m c.args.grants.now)) (most) (jobs)
           ∙ shared.1,
     )

@@ -20,7 +20,7 @@ returns-then-not-rules c =
       (c.jobs_sound.ensures ∙ ap (every _) c.counted_within-jobs.ensures) in
     let at = c in
     sym (told_broken (c).args.o (c).args.grades.now (c).args.releases.now (c).args.sizes.now (c).args.deadlines.now (c).args.clock.0 (c).args.carried.now
-    (sym (rules) ∙ not-true _ (ap not (ap not c.if-not-rules.true))))
+    (sym (rules) ∙ not-true _ (ap not c.if-not-rules.true)))
 
 pub returns-then-clock-first : goal.returns-then-clock-first
 returns-then-clock-first c =
@@ -42,7 +42,7 @@ returns-then-clock-last c =
     = ap₂ ◌&&◌ (ap₂ ◌&&◌ c.rates_allowed.ensures c.count_allowed.ensures)
       (c.jobs_sound.ensures ∙ ap (every _) c.counted_within-jobs.ensures) in
     let rules-hold : rules_on (c).args.o (c).args.grades.now (c).args.releases.now (c).args.sizes.now (c).args.deadlines.now (c).args.clock.0 (c).args.carried.now ≡ true
-    = sym (rules) ∙ not-false _ (ap not (ap not c.if-not-rules.false)) in
+    = sym (rules) ∙ not-false _ (ap not c.if-not-rules.false) in
     let jobs : c.counted_within-jobs.result ≡ min (c).args.o.count most_jobs
     = c.counted_within-jobs.ensures in
     let last : c.last_of-last.result.0 ≡ greatest (λ i. get_or (c).args.deadlines.now i 0) (min (c).args.o.count most_jobs)
@@ -62,7 +62,7 @@ returns c =
     = ap₂ ◌&&◌ (ap₂ ◌&&◌ c.rates_allowed.ensures c.count_allowed.ensures)
       (c.jobs_sound.ensures ∙ ap (every _) c.counted_within-jobs.ensures) in
     let rules-hold : rules_on (c).args.o (c).args.grades.now (c).args.releases.now (c).args.sizes.now (c).args.deadlines.now (c).args.clock.0 (c).args.carried.now ≡ true
-    = sym (rules) ∙ not-false _ (ap not (ap not c.if-not-rules.false)) in
+    = sym (rules) ∙ not-false _ (ap not c.if-not-rules.false) in
     let jobs : c.counted_within-jobs.result ≡ min (c).args.o.count most_jobs
     = c.counted_within-jobs.ensures in
     let last : c.last_of-last.result.0 ≡ greatest (λ i. get_or (c).args.deadlines.now i 0) (min (c).args.o.count most_jobs)

@@ -60,7 +60,7 @@ returns-then-not-is_done c =
     = λ p cols. alike_slot p (table) (q) (table) (columns_alike (grades) (releases) (sizes) (deadlines) (o) p (table) cols) (run) (v) (grants) in
     λ p cols. let at = c in
     slot_refused (q) (table) (run) (v) (grants) (told)
-    (sym c.is_done.ensures ∙ not-true _ (ap not (ap not c.if-not-is_done.true)))
+    (sym c.is_done.ensures ∙ not-true _ (ap not c.if-not-is_done.true))
     ∙ sym (carried-over p cols)
 
 pub carry_slot-next-requires : goal.carry_slot-next-requires
@@ -90,7 +90,7 @@ carry_slot-next-requires c =
     = c.answer_to-answer.ensures
       ∙ ap₂ (λ s n. fault_by s (ltb (length (table)) places || ltb (length (grants)) n) (ltb (o).n.0 (v))) c.readiness_of-readiness.ensures c.counted_within-jobs.ensures in
     let none : is_none (answer_view c.answer_to-answer.result) ≡ true
-    = sym c.is_done.ensures ∙ not-false _ (ap not (ap not c.if-not-is_done.false)) in
+    = sym c.is_done.ensures ∙ not-false _ (ap not c.if-not-is_done.false) in
     let going : (sound_at (q) (run).clock.0 (run).carried ≡ true) × ((ltb (length (table)) places || ltb (length (grants)) (counted (q))) ≡ false) × (eqb (run).clock.0 (last_deadline (q)) ≡ false) × (ltb (o).n.0 (v) ≡ false)
     = readiness_clear (q) (run).clock.0 (run).carried (ltb (length (table)) places || ltb (length (grants)) (counted (q))) (ltb (o).n.0 (v))
       (ap is_none (sym (by-readiness)) ∙ (none)) in
@@ -132,7 +132,7 @@ returns c =
     let carried-over : (p : Plan) → Columns p (o) (grades) (releases) (sizes) (deadlines) → stepped p (table) (run) (v) (grants) ≡ stepped (q) (table) (run) (v) (grants)
     = λ p cols. alike_slot p (table) (q) (table) (columns_alike (grades) (releases) (sizes) (deadlines) (o) p (table) cols) (run) (v) (grants) in
     let none : is_none (answer_view c.answer_to-answer.result) ≡ true
-    = sym c.is_done.ensures ∙ not-false _ (ap not (ap not c.if-not-is_done.false)) in
+    = sym c.is_done.ensures ∙ not-false _ (ap not c.if-not-is_done.false) in
     λ p cols. let at-carry-slot = c in
     let was = at-carry-slot in
     let at = c in

@@ -1,0 +1,17 @@
+-- `hostmemory::jobs::jobs_in` meets its contract. Loop invariant: the first i jobs are decoded.
+use mathlib.Core.Path.{◌≡◌, refl, sym, ◌∙◌, ap}
+use Prim.Native.Nat.{◌-◌, ◌≤◌}
+use native.Mathlib.Numerals.{add-one}
+use native.Mathlib.Omega.{arith}
+use lib.ListN.{length, take, length-set}
+use lib.Seq.{take-suc-set, take_all}
+use Rattle.plan.specs.Edition.{most_jobs}
+use Rattle.hostmemory.specs.Memory.{jobs_to}
+use borrow.Author.Rules.{rules}
+use Rattle.hostmemory.proofs.jobs.jobs_in.Given as goal
+
+abbrev pub invariant-loop-i : goal.invariant-loop-i
+invariant-loop-i l = (l.i ≤ most_jobs) × (length l.jobs ≡ most_jobs) × (take l.i l.jobs ≡ jobs_to l.words l.from l.i)
+
+abbrev pub decreases-loop-i : goal.decreases-loop-i
+decreases-loop-i l = most_jobs - l.i

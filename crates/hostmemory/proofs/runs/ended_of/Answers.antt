@@ -1,0 +1,34 @@
+-- `hostmemory::runs::ended_of` meets its contract. Loop invariant: the first i marks are read.
+use mathlib.Core.Path.{◌≡◌, refl, sym, ◌∙◌, ap}
+use mathlib.Core.List.{[], ◌∷◌, map, map-append}
+use Prim.Native.Nat.{◌-◌, ◌≤◌}
+use native.Mathlib.Numerals.{add-one}
+use native.Mathlib.Omega.{arith}
+use lib.ListN.{length, get_or, take, length-set}
+use lib.Seq.{take-suc, take-suc-set, take_all}
+use Rattle.plan.specs.Edition.{most_jobs}
+use Rattle.hostmemory.specs.Memory.{is_set}
+use borrow.Author.Rules.{rules}
+use Rattle.hostmemory.proofs.runs.ended_of.Goals as goal
+
+pub loop-i-init : goal.loop-i-init
+loop-i-init c =
+    (omega arith, refl, refl)
+
+pub loop-i-preserved : goal.loop-i-preserved
+loop-i-preserved c =
+    let l = c.loop-i in
+    let w = c.args.words.now in
+    let inv = l.invariant in (
+      omega arith,
+      simp length-set inv.1,
+      rw (add-one, take-suc-set l.ended l.i _ (omega arith), inv.2, take-suc w l.i 0 (omega arith)) (sym (map-append is_set (take l.i w) (get_or w l.i 0 ∷ []))),
+    )
+
+pub returns : goal.returns
+returns c =
+    let l = c.loop-i in
+    let w = c.args.words.now in
+    let whole : l.i ≡ most_jobs = omega arith in
+    sym (take_all most_jobs l.ended (omega (arith, l.invariant.1))) ∙ ap (λ i. take i l.ended) (sym whole) ∙ l.invariant.2 ∙ ap (λ i. map is_set (take i w)) whole
+    ∙ ap (map is_set) (take_all most_jobs w (omega arith))

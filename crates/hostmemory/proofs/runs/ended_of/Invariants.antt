@@ -1,0 +1,18 @@
+-- `hostmemory::runs::ended_of` meets its contract. Loop invariant: the first i marks are read.
+use mathlib.Core.Path.{◌≡◌, refl, sym, ◌∙◌, ap}
+use mathlib.Core.List.{[], ◌∷◌, map, map-append}
+use Prim.Native.Nat.{◌-◌, ◌≤◌}
+use native.Mathlib.Numerals.{add-one}
+use native.Mathlib.Omega.{arith}
+use lib.ListN.{length, get_or, take, length-set}
+use lib.Seq.{take-suc, take-suc-set, take_all}
+use Rattle.plan.specs.Edition.{most_jobs}
+use Rattle.hostmemory.specs.Memory.{is_set}
+use borrow.Author.Rules.{rules}
+use Rattle.hostmemory.proofs.runs.ended_of.Given as goal
+
+abbrev pub invariant-loop-i : goal.invariant-loop-i
+invariant-loop-i l = (l.i ≤ most_jobs) × (length l.ended ≡ most_jobs) × (take l.i l.ended ≡ map is_set (take l.i l.words))
+
+abbrev pub decreases-loop-i : goal.decreases-loop-i
+decreases-loop-i l = most_jobs - l.i

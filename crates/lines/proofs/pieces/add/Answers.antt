@@ -1,0 +1,8 @@
+-- `lines::pieces::add` meets its contract: there is room for the text.
+use borrow.Author.Rules.{rules}
+use Rattle.text.proofs.Growth.{adds_grown}
+use Rattle.lines.proofs.pieces.add.Goals as goal
+
+pub returns : goal.returns
+returns c =
+    adds_grown c.requires c.add.ensures

@@ -1,0 +1,39 @@
+-- `lines::pieces::add_each_grant` meets its contract. Loop invariant: the
+-- grants of the first i jobs are appended.
+use mathlib.Core.Path.{◌≡◌, sym, ap}
+use Prim.Native.Nat.{◌+◌, ◌*◌, ◌-◌, ◌≤◌}
+use native.Mathlib.Omega.{arith}
+use borrow.Author.Rules.{rules}
+use Rattle.plan.specs.Rules.{name, counted}
+use Rattle.text.specs.Inner.Growth.{Grown}
+use Rattle.lines.specs.Lines.{grants_text, grant_text, grant_bytes}
+use Rattle.lines.proofs.Grants.{grants_start, grants_next}
+use Rattle.text.proofs.Growth.{grown_by_none, grown_twice, grown_same}
+use Rattle.lines.proofs.pieces.add_each_grant.Goals as goal
+
+pub loop-i-init : goal.loop-i-init
+loop-i-init c =
+    let a = c.args in
+    (omega arith, c.counted_of-jobs.ensures, grown_same (sym (grants_start a.p a.grants.now)) (grown_by_none a.line.now a.at), omega arith)
+
+pub loop-i-preserved : goal.loop-i-preserved
+loop-i-preserved c =
+    let at-add-grant = c in
+    let at-grant-of = at-add-grant in
+    let at-loop = at-grant-of in
+    let entry = at-loop in
+    let a = entry.args in
+    let i = at-loop.loop-i.i in
+    let h = at-add-grant.add_grant-next.ensures.0 in
+    let e = ap (grant_text (name a.p i)) at-grant-of.grant_of-units.ensures in
+    (omega arith, at-loop.loop-i.invariant.1, grown_same (grants_next a.p a.grants.now i) (grown_twice at-loop.loop-i.invariant.2 (grown_same e h)), omega arith)
+
+pub shape_of-line : goal.shape_of-line
+shape_of-line c =
+    c.loop-i.invariant.2.room
+
+pub returns : goal.returns
+returns c =
+    let a = c.args in
+    let e : c.loop-i.i ≡ counted a.p = omega arith in
+    (grown_same (ap (grants_text a.p a.grants.now) e) c.loop-i.invariant.2, omega arith)

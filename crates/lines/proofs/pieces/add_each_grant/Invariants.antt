@@ -1,0 +1,19 @@
+-- `lines::pieces::add_each_grant` meets its contract. Loop invariant: the
+-- grants of the first i jobs are appended.
+use mathlib.Core.Path.{◌≡◌, sym, ap}
+use Prim.Native.Nat.{◌+◌, ◌*◌, ◌-◌, ◌≤◌}
+use native.Mathlib.Omega.{arith}
+use borrow.Author.Rules.{rules}
+use Rattle.plan.specs.Rules.{name, counted}
+use Rattle.text.specs.Inner.Growth.{Grown}
+use Rattle.lines.specs.Lines.{grants_text, grant_text, grant_bytes}
+use Rattle.lines.proofs.Grants.{grants_start, grants_next}
+use Rattle.text.proofs.Growth.{grown_by_none, grown_twice, grown_same}
+use Rattle.lines.proofs.pieces.add_each_grant.Given as goal
+
+abbrev pub invariant-loop-i : goal.invariant-loop-i
+invariant-loop-i l =
+    (l.i ≤ l.jobs) × (l.jobs ≡ counted l.p) × Grown l.initial.line l.line l.at l.next (grants_text l.p l.grants l.i) × (l.next ≤ l.at + l.i * grant_bytes)
+
+abbrev pub decreases-loop-i : goal.decreases-loop-i
+decreases-loop-i l = l.jobs - l.i

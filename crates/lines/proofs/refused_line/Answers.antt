@@ -1,0 +1,26 @@
+-- `lines::refused_line` meets its contract, piece by piece.
+use mathlib.Core.Path.{◌∙◌, sym, ap}
+use native.Mathlib.Omega.{arith}
+use borrow.Author.Rules.{rules}
+use lib.Seq.{length-take-le}
+use Rattle.lines.specs.Answers.{printed}
+use Rattle.text.proofs.Growth.{grown_twice}
+use Rattle.lines.proofs.refused_line.Goals as goal
+
+pub slice_bounds-print-end : goal.slice_bounds-print-end
+slice_bounds-print-end c =
+    sym (length-take-le c.add-at-2.result _ (omega arith))
+
+pub returns : goal.returns
+returns c =
+    let at-print = c in
+    let at-add2 = at-print in
+    let at-add-number = at-add2 in
+    let at-add = at-add-number in
+    let entry = at-add in
+    let whole =
+    grown_twice (grown_twice at-add.add-at.ensures at-add-number.add_number-at.ensures.0) at-add2.add-at-2.ensures in
+    record {
+      prints = at-print.print.ensures ∙ ap (λ l. printed l entry.args.out.now) whole.bytes;
+      fits = omega (arith, whole.end);
+    }

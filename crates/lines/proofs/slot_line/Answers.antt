@@ -1,0 +1,30 @@
+-- `lines::slot_line` meets its contract, piece by piece.
+use mathlib.Core.Path.{◌∙◌, sym, ap}
+use native.Mathlib.Omega.{arith}
+use borrow.Author.Rules.{rules}
+use lib.Seq.{length-take-le}
+use Rattle.lines.specs.Answers.{printed}
+use Rattle.lines.specs.Lines.{slot_line}
+use Rattle.text.proofs.Growth.{grown_twice, grown_same}
+use Rattle.lines.proofs.slot_line.Goals as goal
+
+pub slice_bounds-print-end : goal.slice_bounds-print-end
+slice_bounds-print-end c =
+    sym (length-take-le c.add-at-2.result c.add-at-2.new.line (omega arith))
+
+pub returns : goal.returns
+unfolding slot_line
+returns c =
+    let at-print = c in
+    let at-add2 = at-print in
+    let at-add-grants = at-add2 in
+    let at-add = at-add-grants in
+    let at-mode-of = at-add in
+    let at-add-times = at-mode-of in
+    let entry = at-add-times in
+    let whole =
+    grown_twice (grown_twice (grown_twice at-add-times.add_times-at.ensures.0 (grown_same at-mode-of.mode_of-mode.ensures at-add.add-at.ensures)) at-add-grants.add_grants-at.ensures.0) at-add2.add-at-2.ensures in
+    record {
+      prints = at-print.print.ensures ∙ ap (λ l. printed l entry.args.out.now) whole.bytes;
+      fits = omega (arith, whole.end);
+    }
