@@ -8,8 +8,7 @@ use hostmemory::sizes::Sizes;
 use plan::refusal::BUFFER_TOO_SHORT;
 
 // Draws up the timetable of a plan's rates and jobs in the lent table: its number.
-#[unsafe(no_mangle)]
-pub extern "C" fn gateway_draw(plan: &[u64], table: &mut [u32]) -> u32
+pub fn gateway_draw(plan: &[u64], table: &mut [u32]) -> u32
     ensures { HostDraws plan.now table.old result table.new }
 {
     if plan.len() < Sizes::PLAN {
@@ -20,8 +19,7 @@ pub extern "C" fn gateway_draw(plan: &[u64], table: &mut [u32]) -> u32
 
 // Why no timetable can be drawn up: its number, and with 29 the first pair of times, what is asked by them and what the
 // link carries in `pair`.
-#[unsafe(no_mangle)]
-pub extern "C" fn gateway_shortage(plan: &[u64], pair: &mut [u64]) -> u32
+pub fn gateway_shortage(plan: &[u64], pair: &mut [u64]) -> u32
     ensures { HostExplains plan.now pair.old result pair.new }
 {
     if (plan.len() < Sizes::PLAN) | (pair.len() < Sizes::PAIR) {

@@ -12,8 +12,7 @@ use planwriter::writer::write;
 // Reads a plan file into the lent plan and table, and returns in `offset` where a refused file is wrong, or 0
 // if it was read or the table is too short;
 // 22 with nothing changed if the plan is too short.
-#[unsafe(no_mangle)]
-pub extern "C" fn gateway_read(
+pub fn gateway_read(
     file: &[u8],
     plan: &mut [u64],
     table: &mut [u32],
@@ -34,8 +33,7 @@ pub extern "C" fn gateway_read(
 
 // Writes the plan file of a sound plan and its table, and returns its length in `length`; a refusal
 // leaves the output as it was.
-#[unsafe(no_mangle)]
-pub extern "C" fn gateway_write(
+pub fn gateway_write(
     plan: &[u64],
     table: &[u32],
     out: &mut [u8],
@@ -52,8 +50,7 @@ pub extern "C" fn gateway_write(
 }
 
 // The offset in the file at which a job's name begins; 0 if no name is shown.
-#[unsafe(no_mangle)]
-pub extern "C" fn gateway_name(file: &[u8], position: usize) -> usize
+pub fn gateway_name(file: &[u8], position: usize) -> usize
     ensures { HostShows file.now position result }
 {
     name_at(file, position)

@@ -11,8 +11,7 @@ use judge::judge;
 use plan::refusal::BUFFER_TOO_SHORT;
 
 // The verdict on a plan and its table: its number, and its location in `location`.
-#[unsafe(no_mangle)]
-pub extern "C" fn gateway_judge(plan: &[u64], table: &[u32], location: &mut [u64]) -> u32
+pub fn gateway_judge(plan: &[u64], table: &[u32], location: &mut [u64]) -> u32
     ensures { HostJudges plan.now table.now location.old result location.new }
 {
     if (plan.len() < Sizes::PLAN) | (location.len() < Sizes::LOCATION) {
@@ -25,8 +24,7 @@ pub extern "C" fn gateway_judge(plan: &[u64], table: &[u32], location: &mut [u64
 }
 
 // The slack figure of a plan and its table: its number, the least slack, and its location.
-#[unsafe(no_mangle)]
-pub extern "C" fn gateway_slack(
+pub fn gateway_slack(
     plan: &[u64],
     table: &[u32],
     least: &mut i64,

@@ -3,9 +3,9 @@
 #![tactic(auto)]
 
 mod answers;
-mod drawing;
-mod files;
-mod judging;
-mod lists;
-mod metering;
-mod slots;
+pub mod drawing;
+pub mod files;
+pub mod judging;
+pub mod lists;
+pub mod metering;
+pub mod slots;

@@ -10,8 +10,7 @@ use plan::refusal::BUFFER_TOO_SHORT;
 
 // Reads a job list's text into the lent list, and returns in `offset` where a refused text is wrong, or 0 if
 // it was read; 22 with nothing changed if the list is too short.
-#[unsafe(no_mangle)]
-pub extern "C" fn gateway_import(text: &[u8], list: &mut [u64], offset: &mut usize) -> u32
+pub fn gateway_import(text: &[u8], list: &mut [u64], offset: &mut usize) -> u32
     ensures { HostImports text.now list.old offset.old result list.new offset.new }
 {
     if list.len() < Sizes::LIST {
@@ -27,8 +26,7 @@ pub extern "C" fn gateway_import(text: &[u8], list: &mut [u64], offset: &mut usi
 
 // Writes the text of the lent job list, and returns its length in `length`; a refusal leaves the output as it
 // was.
-#[unsafe(no_mangle)]
-pub extern "C" fn gateway_export(list: &[u64], out: &mut [u8], length: &mut usize) -> u32
+pub fn gateway_export(list: &[u64], out: &mut [u8], length: &mut usize) -> u32
     ensures { HostExports list.now out.old length.old result out.new length.new }
 {
     if list.len() < Sizes::LIST {

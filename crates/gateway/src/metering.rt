@@ -6,8 +6,7 @@ use meter::log::read_log;
 use meter::reading::{Reading, speed_of};
 
 // The speed of a reading on a link with the normal rate n: its number, and the speed in `speed`, 0 if the reading is refused.
-#[unsafe(no_mangle)]
-pub extern "C" fn gateway_meter(mean: f64, lowest: f64, n: u16, speed: &mut u16) -> u32
+pub fn gateway_meter(mean: f64, lowest: f64, n: u16, speed: &mut u16) -> u32
     ensures { HostMeters mean lowest n result speed.new }
 {
     let told = speed_of(Reading { mean, lowest }, n);
@@ -17,8 +16,7 @@ pub extern "C" fn gateway_meter(mean: f64, lowest: f64, n: u16, speed: &mut u16)
 
 // Reads a meter log into the lent list of speeds: its number, in `count` how many speeds were written, and in `offset` where a
 // refused log is wrong; 0 each if there is none. A refusal leaves the list as it was.
-#[unsafe(no_mangle)]
-pub extern "C" fn gateway_speeds(
+pub fn gateway_speeds(
     log: &[u8],
     n: u16,
     speeds: &mut [u16],

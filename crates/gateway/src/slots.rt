@@ -34,8 +34,7 @@ fn start_in(run: &mut [u32], p: Plan, table: &[u32]) -> Verdict
 }
 
 // Judges a plan, and starts its run in the lent words if it is accepted.
-#[unsafe(no_mangle)]
-pub extern "C" fn gateway_start(
+pub fn gateway_start(
     plan: &[u64],
     table: &[u32],
     run: &mut [u32],
@@ -54,8 +53,7 @@ pub extern "C" fn gateway_start(
 
 // Carries one slot at speed v: advances the lent run, and writes the grants to the lent row. Words that
 // have no room in a column break rule 8 or 9. A refused slot leaves the run, so nothing is put back then.
-#[unsafe(no_mangle)]
-pub extern "C" fn gateway_step(
+pub fn gateway_step(
     plan: &[u64],
     table: &[u32],
     run: &mut [u32],
@@ -106,8 +104,7 @@ pub extern "C" fn gateway_step(
 
 // Carries a slot at each of the speeds: advances the lent run, and writes a row of grants and a number for each. Words
 // that have no room in a column break rule 8 or 9. A refused shift leaves the run, so nothing is put back then.
-#[unsafe(no_mangle)]
-pub extern "C" fn gateway_shift(
+pub fn gateway_shift(
     plan: &[u64],
     table: &[u32],
     run: &mut [u32],
@@ -159,8 +156,7 @@ pub extern "C" fn gateway_shift(
 }
 
 // The number of the outcome of the job at a position, or of a refusal.
-#[unsafe(no_mangle)]
-pub extern "C" fn gateway_outcome(plan: &[u64], run: &[u32], position: usize) -> u32
+pub fn gateway_outcome(plan: &[u64], run: &[u32], position: usize) -> u32
     ensures { HostEnds plan.now run.now position result }
 {
     if (plan.len() < Sizes::PLAN) | (run.len() < Sizes::RUN) {
@@ -183,8 +179,7 @@ pub extern "C" fn gateway_outcome(plan: &[u64], run: &[u32], position: usize) ->
 
 // The word that the job at a position has ended: sets its mark in the lent run. A refused word puts back the run
 // as it was.
-#[unsafe(no_mangle)]
-pub extern "C" fn gateway_end(plan: &[u64], run: &mut [u32], position: usize) -> u32
+pub fn gateway_end(plan: &[u64], run: &mut [u32], position: usize) -> u32
     ensures { HostTells plan.now run.old position result run.new }
 {
     if (plan.len() < Sizes::PLAN) | (run.len() < Sizes::RUN) {
