@@ -14,7 +14,7 @@ returns-in-NoneEssential c =
 
 pub returns-in-Least : goal.returns-in-Least
 returns-in-Least c =
-    let fits : SFits w64 c.in-Least.slack = record { sfits = c.known_told-1.given.0.1 } in
+    let fits : SFits w64 c.in-Least.slack = search rules in
     to_z-of_z fits ∙ sym (ap (λ s. figure_slack (slack_view s)) c.in-Least.is)
 
 pub returns-in-Refused : goal.returns-in-Refused

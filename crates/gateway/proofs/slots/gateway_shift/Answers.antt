@@ -6,6 +6,7 @@ use Prim.Native.Nat.{ℕ}
 use borrow.Author.Rules.{rules}
 use borrow.Author.Tests.{not-true, not-false}
 use lib.ListN.{length, replicate, length-replicate}
+use Rattle.plan.specs.declared.kinds.Plan.{Plan}
 use Rattle.plan.specs.Edition.{most_jobs}
 use Rattle.dispatch.specs.Answers.{run_at, answer_view}
 use Rattle.dispatch.specs.declared.Moment.{Moment}
@@ -20,37 +21,10 @@ use Rattle.gateway.proofs.RefusedCalls.{refused_shift_words}
 use mathlib.Core.Bool.{not}
 use Rattle.gateway.proofs.slots.gateway_shift.Goals as goal
 
--- HELPER
-
-shift-effect : (c : tie.After-answer-number) → record {
-  answer = answer_view (at-shift-over c).shift-over.result.answer;
-  run = run_at (at-shift-over c).shift-over.result.next (at-shift-over c).shift-over.last.1.1.1.1.1.1.1.1.1.0 (run_of (at-start c).args.run.now).ended;
-  rows = (at-shift-over c).shift-over.last.1.1.1.1.1.1.1.1.1.1.0;
-  numbers = (at-shift-over c).shift-over.last.1.1.1.1.1.1.1.1.1.1.1.0;
-}
-    ≡ shifted (plan_of (at-start c).args.plan.now) (at-start c).args.table.now (run_of (at-start c).args.run.now) (at-start c).args.speeds.now (at-start c).args.rows.now (at-start c).args.numbers.now
-shift-effect c =
-    let a = (at-start c).args in
-    let at-ended-in = (at-carried-in c).before.before in
-    let at-moment-in = at-ended-in.before.before in
-    let p = plan_of a.plan.now in
-    let none : List ℕ = replicate most_jobs 0 in
-    let long : length none ≡ most_jobs = length-replicate {A = ℕ} most_jobs 0 in
-    ap (λ ended. record {
-      answer = answer_view (at-shift-over c).shift-over.result.answer;
-      run = run_at (at-shift-over c).shift-over.result.next (at-shift-over c).shift-over.last.1.1.1.1.1.1.1.1.1.0 ended;
-      rows = (at-shift-over c).shift-over.last.1.1.1.1.1.1.1.1.1.1.0;
-      numbers = (at-shift-over c).shift-over.last.1.1.1.1.1.1.1.1.1.1.1.0;
-    }) (sym at-ended-in.ended-in.ensures)
-    ∙ (at-shift-over c).shift-over.ensures p
-    (outlined p (at-outline-in c).outline-in.ensures
-    (columns_read a.plan.now none none none none _ _ _ _ _ (at-columns c).columns-in.ensures (not-false _ (at-outline-in c).before.if3.left) long long long long))
-    ∙ run-parts at-moment-in.moment-in.ensures (at-carried-in c).carried-in.ensures at-ended-in.ended-in.ensures
-  where
-    run-parts : {at next : Moment} {carried left : List ℕ} {ended marked : List Bool} → at ≡ next → carried ≡ left → ended ≡ marked
-        → shifted (plan_of (at-start c).args.plan.now) (at-start c).args.table.now (run_at at carried ended) (at-start c).args.speeds.now (at-start c).args.rows.now (at-start c).args.numbers.now
-        ≡ shifted (plan_of (at-start c).args.plan.now) (at-start c).args.table.now (run_at next left marked) (at-start c).args.speeds.now (at-start c).args.rows.now (at-start c).args.numbers.now
-    run-parts d e f = rw (d, e, f) refl
+-- A shift on equal moments, counts and marks.
+run-parts : (p : Plan) (table : List ℕ) (speeds rows numbers : List ℕ) {at next : Moment} {carried left : List ℕ} {ended marked : List Bool} → at ≡ next → carried ≡ left → ended ≡ marked
+    → shifted p table (run_at at carried ended) speeds rows numbers ≡ shifted p table (run_at next left marked) speeds rows numbers
+run-parts p table speeds rows numbers d e f = rw (d, e, f) refl
 
 pub returns-then-plan-run : goal.returns-then-plan-run
 unfolding shift_call
@@ -83,26 +57,60 @@ returns-then-number c =
     let marks : marks_hold c.args.run.now ≡ true
     = let at-if2 = c in
       sym at-if2.marks_hold.ensures ∙ not-false _ (ap not at-if2.if-not-marks_hold.false) in
-    let the-words : {left : List ℕ} → left ≡ run_put c.args.run.now (run_at c.shift_over-s.result.next c.shift_over-s.new.carried (run_of c.args.run.now).ended) → record { number = c.answer_number-number.result; run = left; rows = c.shift_over-s.new.rows; numbers = c.shift_over-s.new.numbers } ≡ shift_call c.args.plan.now c.args.table.now c.args.run.now c.args.speeds.now c.args.rows.now c.args.numbers.now
+    let shift-effect : record { answer = answer_view c.shift_over-s.result.answer; run = run_at c.shift_over-s.result.next c.shift_over-s.new.carried (run_of c.args.run.now).ended; rows = c.shift_over-s.new.rows; numbers = c.shift_over-s.new.numbers; } ≡ shifted (plan_of c.args.plan.now) c.args.table.now (run_of c.args.run.now) c.args.speeds.now c.args.rows.now c.args.numbers.now
     = let a = c.args in
+      let at-ended-in = c in
+      let at-moment-in = at-ended-in in
+      let p = plan_of a.plan.now in
+      let none : List ℕ = replicate most_jobs 0 in
+      let long : length none ≡ most_jobs = length-replicate {A = ℕ} most_jobs 0 in
+      ap (λ ended. record {
+      answer = answer_view c.shift_over-s.result.answer;
+      run = run_at c.shift_over-s.result.next c.shift_over-s.new.carried ended;
+      rows = c.shift_over-s.new.rows;
+      numbers = c.shift_over-s.new.numbers;
+      }) (sym at-ended-in.ended_in-ended.ensures)
+      ∙ c.shift_over-s.ensures p
+      (outlined p c.outline_in-o.ensures
+      (columns_read a.plan.now none none none none _ _ _ _ _ c.columns_in.ensures (not-false _ (ap not c.if-not-columns_in.false)) long long long long))
+      ∙ run-parts (plan_of a.plan.now) a.table.now a.speeds.now a.rows.now a.numbers.now at-moment-in.moment_in-at.ensures c.carried_in-carried.ensures at-ended-in.ended_in-ended.ensures in
+    let the-words : (left : List ℕ) → left ≡ run_put c.args.run.now (run_at c.shift_over-s.result.next c.shift_over-s.new.carried (run_of c.args.run.now).ended) → record { number = c.answer_number-number.result; run = left; rows = c.shift_over-s.new.rows; numbers = c.shift_over-s.new.numbers } ≡ shift_call c.args.plan.now c.args.table.now c.args.run.now c.args.speeds.now c.args.rows.now c.args.numbers.now
+    = λ left. let a = c.args in
       shift_words_lem a.plan.now a.table.now a.run.now a.speeds.now a.rows.now a.numbers.now c.if-plan-run.false
-      (marks) (shift-effect c) c.answer_number-number.ensures in
+      (marks) (shift-effect) c.answer_number-number.ensures in
     let a = c.args in
-    refused_shift_words a.plan.now a.table.now a.run.now a.speeds.now a.rows.now a.numbers.now (the-words refl) c.if-number.true
+    refused_shift_words a.plan.now a.table.now a.run.now a.speeds.now a.rows.now a.numbers.now (the-words _ refl) c.if-number.true
 
 pub returns : goal.returns
 returns c =
     let marks : marks_hold c.args.run.now ≡ true
     = let at-if2 = c in
       sym at-if2.marks_hold.ensures ∙ not-false _ (ap not at-if2.if-not-marks_hold.false) in
-    let the-words : {left : List ℕ} → left ≡ run_put c.args.run.now (run_at c.shift_over-s.result.next c.shift_over-s.new.carried (run_of c.args.run.now).ended) → record { number = c.answer_number-number.result; run = left; rows = c.shift_over-s.new.rows; numbers = c.shift_over-s.new.numbers } ≡ shift_call c.args.plan.now c.args.table.now c.args.run.now c.args.speeds.now c.args.rows.now c.args.numbers.now
+    let shift-effect : record { answer = answer_view c.shift_over-s.result.answer; run = run_at c.shift_over-s.result.next c.shift_over-s.new.carried (run_of c.args.run.now).ended; rows = c.shift_over-s.new.rows; numbers = c.shift_over-s.new.numbers; } ≡ shifted (plan_of c.args.plan.now) c.args.table.now (run_of c.args.run.now) c.args.speeds.now c.args.rows.now c.args.numbers.now
     = let a = c.args in
+      let at-ended-in = c in
+      let at-moment-in = at-ended-in in
+      let p = plan_of a.plan.now in
+      let none : List ℕ = replicate most_jobs 0 in
+      let long : length none ≡ most_jobs = length-replicate {A = ℕ} most_jobs 0 in
+      ap (λ ended. record {
+      answer = answer_view c.shift_over-s.result.answer;
+      run = run_at c.shift_over-s.result.next c.shift_over-s.new.carried ended;
+      rows = c.shift_over-s.new.rows;
+      numbers = c.shift_over-s.new.numbers;
+      }) (sym at-ended-in.ended_in-ended.ensures)
+      ∙ c.shift_over-s.ensures p
+      (outlined p c.outline_in-o.ensures
+      (columns_read a.plan.now none none none none _ _ _ _ _ c.columns_in.ensures (not-false _ (ap not c.if-not-columns_in.false)) long long long long))
+      ∙ run-parts (plan_of a.plan.now) a.table.now a.speeds.now a.rows.now a.numbers.now at-moment-in.moment_in-at.ensures c.carried_in-carried.ensures at-ended-in.ended_in-ended.ensures in
+    let the-words : (left : List ℕ) → left ≡ run_put c.args.run.now (run_at c.shift_over-s.result.next c.shift_over-s.new.carried (run_of c.args.run.now).ended) → record { number = c.answer_number-number.result; run = left; rows = c.shift_over-s.new.rows; numbers = c.shift_over-s.new.numbers } ≡ shift_call c.args.plan.now c.args.table.now c.args.run.now c.args.speeds.now c.args.rows.now c.args.numbers.now
+    = λ left. let a = c.args in
       shift_words_lem a.plan.now a.table.now a.run.now a.speeds.now a.rows.now a.numbers.now c.if-plan-run.false
-      (marks) (shift-effect c) c.answer_number-number.ensures in
+      (marks) (shift-effect) c.answer_number-number.ensures in
     let at-put-slot = c in
     let at-number = at-put-slot in
     let a = c.args in
-    the-words
+    the-words _
     (put_back a.run.now c.shift_over-s.result.next c.shift_over-s.new.carried (marks)
-    (ap (λ (s : ShiftEffect). length s.run.carried) (shift-effect at-number) ∙ shifted_long (plan_of a.plan.now) a.table.now (run_of a.run.now) a.speeds.now a.rows.now a.numbers.now)
+    (ap (λ (s : ShiftEffect). length s.run.carried) (shift-effect) ∙ shifted_long (plan_of a.plan.now) a.table.now (run_of a.run.now) a.speeds.now a.rows.now a.numbers.now)
     at-put-slot.put_slot.ensures)
