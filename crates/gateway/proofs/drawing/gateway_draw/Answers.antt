@@ -13,6 +13,4 @@ returns-then-plan-lt-PLAN c =
 pub returns : goal.returns
 unfolding draw_call
 returns c =
-    let at-draw = c in
-    let at-plan-of = at-draw in
-    rw (le-ltb _ _ at-plan-of.if-plan-lt-PLAN.false, ← at-plan-of.plan_of.ensures, ← at-draw.draw_up.ensures.0, ← at-draw.draw_up.ensures.1) refl
+    rw (le-ltb _ _ c.if-plan-lt-PLAN.false, ← c.plan_of.ensures, ← c.draw_up.ensures.0, ← c.draw_up.ensures.1) refl

@@ -13,7 +13,4 @@ returns-then-plan-lt-PLAN c =
 pub returns : goal.returns
 unfolding read_call
 returns c =
-    let at-read-offset = c in
-    let at-put-plan = at-read-offset in
-    let at_read = at-put-plan in
-    rw (le-ltb _ _ at_read.if-plan-lt-PLAN.false, ← at_read.read-reading.ensures, ← c.read_number.ensures, ← at-read-offset.read_offset.ensures, ← at-put-plan.put_plan.ensures) refl
+    rw (le-ltb _ _ c.if-plan-lt-PLAN.false, ← c.read-reading.ensures, ← c.read_number.ensures, ← c.read_offset.ensures, ← c.put_plan.ensures) refl

@@ -13,7 +13,4 @@ returns-then-list-lt-LIST c =
 pub returns : goal.returns
 unfolding import_call
 returns c =
-    let at_offset = c in
-    let at-put-list = at_offset in
-    let at-import = at-put-list in
-    rw (le-ltb _ _ at-import.if-list-lt-LIST.false, ← at-import.import-imported.ensures, ← c.imported_number.ensures, ← at_offset.imported_offset.ensures, ← at-put-list.put_list.ensures) refl
+    rw (le-ltb _ _ c.if-list-lt-LIST.false, ← c.import-imported.ensures, ← c.imported_number.ensures, ← c.imported_offset.ensures, ← c.put_list.ensures) refl

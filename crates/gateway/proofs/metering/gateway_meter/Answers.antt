@@ -7,6 +7,4 @@ use Rattle.gateway.proofs.metering.gateway_meter.Goals as goal
 pub returns : goal.returns
 unfolding speed_call
 returns c =
-    let at-speed = c in
-    let at_told = at-speed in
-    rw (← at_told.speed_of-told.ensures, ← at-speed.metered_speed.ensures, ← c.metered_number.ensures) refl
+    rw (← c.speed_of-told.ensures, ← c.metered_speed.ensures, ← c.metered_number.ensures) refl

@@ -7,7 +7,4 @@ use Rattle.gateway.proofs.metering.gateway_speeds.Goals as goal
 pub returns : goal.returns
 unfolding log_call
 returns c =
-    let at_offset = c in
-    let at_count = at_offset in
-    let at-read-log = at_count in
-    rw (← at-read-log.read_log-answer.ensures, ← at_count.log_count.ensures, ← at_offset.log_offset.ensures, ← c.log_number.ensures) refl
+    rw (← c.read_log-answer.ensures, ← c.log_count.ensures, ← c.log_offset.ensures, ← c.log_number.ensures) refl

@@ -28,36 +28,23 @@ returns-then-not-marks_hold c =
 
 pub returns-then-not-columns_in : goal.returns-then-not-columns_in
 returns-then-not-columns_in c =
-    let at-columns = c in
-    let at-if2 = at-columns in
-    let at-marks-hold = at-if2 in
-    let at-if1 = at-marks-hold in
-    let a = at-if1.args in
-    let marks = sym at-marks-hold.marks_hold.ensures ∙ not-false _ (ap not at-if2.if-not-marks_hold.false) in
-    end_words a.plan.now a.run.now a.position at-if1.if-plan-run.false marks
+    let a = c.args in
+    let marks = sym c.marks_hold.ensures ∙ not-false _ (ap not c.if-not-marks_hold.false) in
+    end_words a.plan.now a.run.now a.position c.if-plan-run.false marks
     (unsound_told (plan_of a.plan.now) (run_of a.run.now) a.position
-    (too_large_unsound a.plan.now (run_of a.run.now) (sym at-columns.columns_in.ensures.0 ∙ not-true _ (ap not c.if-not-columns_in.true))))
+    (too_large_unsound a.plan.now (run_of a.run.now) (sym c.columns_in.ensures.0 ∙ not-true _ (ap not c.if-not-columns_in.true))))
     refl (sym (run_again a.run.now marks))
 
 pub returns : goal.returns
 returns c =
-    let at-put-run = c in
-    let at-end-over = at-put-run in
-    let at-run-of = at-end-over in
-    let at-outline-in = at-run-of in
-    let at-if3 = at-outline-in in
-    let at-columns = at-if3 in
-    let at-if2 = at-columns in
-    let at-marks-hold = at-if2 in
-    let at-if1 = at-marks-hold in
-    let a = at-if1.args in
+    let a = c.args in
     let p = plan_of a.plan.now in
     let none : List ℕ = replicate most_jobs 0 in
     let long : length none ≡ most_jobs = length-replicate {A = ℕ} most_jobs 0 in
-    end_words a.plan.now a.run.now a.position at-if1.if-plan-run.false
-    (sym at-marks-hold.marks_hold.ensures ∙ not-false _ (ap not at-if2.if-not-marks_hold.false))
-    (at-end-over.end_over-told.ensures p
-    (outlined p at-outline-in.outline_in-o.ensures
-    (columns_read a.plan.now none none none none _ _ _ _ _ at-columns.columns_in.ensures (not-false _ (ap not at-if3.if-not-columns_in.false)) long long long long))
-    ∙ ap (λ run. told_ended p run a.position) at-run-of.run_of-at.ensures)
-    c.answer_number.ensures at-put-run.put_run.ensures
+    end_words a.plan.now a.run.now a.position c.if-plan-run.false
+    (sym c.marks_hold.ensures ∙ not-false _ (ap not c.if-not-marks_hold.false))
+    (c.end_over-told.ensures p
+    (outlined p c.outline_in-o.ensures
+    (columns_read a.plan.now none none none none _ _ _ _ _ c.columns_in.ensures (not-false _ (ap not c.if-not-columns_in.false)) long long long long))
+    ∙ ap (λ run. told_ended p run a.position) c.run_of-at.ensures)
+    c.answer_number.ensures c.put_run.ensures

@@ -27,33 +27,21 @@ returns-then-not-marks_hold c =
 pub returns-then-not-columns_in : goal.returns-then-not-columns_in
 unfolding outcome
 returns-then-not-columns_in c =
-    let at-columns = c in
-    let at-if2 = at-columns in
-    let at-marks-hold = at-if2 in
-    let at-if1 = at-marks-hold in
-    let a = at-if1.args in
-    outcome_words a.plan.now a.run.now a.position at-if1.if-plan-run.false
-    (sym at-marks-hold.marks_hold.ensures ∙ not-false _ (ap not at-if2.if-not-marks_hold.false))
-    (rw (too_large_unsound a.plan.now (run_of a.run.now) (sym at-columns.columns_in.ensures.0 ∙ not-true _ (ap not c.if-not-columns_in.true))) refl)
+    let a = c.args in
+    outcome_words a.plan.now a.run.now a.position c.if-plan-run.false
+    (sym c.marks_hold.ensures ∙ not-false _ (ap not c.if-not-marks_hold.false))
+    (rw (too_large_unsound a.plan.now (run_of a.run.now) (sym c.columns_in.ensures.0 ∙ not-true _ (ap not c.if-not-columns_in.true))) refl)
 
 pub returns : goal.returns
 returns c =
-    let at-outcome = c in
-    let at-run-of = at-outcome in
-    let at-outline-in = at-run-of in
-    let at-if3 = at-outline-in in
-    let at-columns = at-if3 in
-    let at-if2 = at-columns in
-    let at-marks-hold = at-if2 in
-    let at-if1 = at-marks-hold in
-    let a = at-if1.args in
+    let a = c.args in
     let p = plan_of a.plan.now in
     let none : List ℕ = replicate most_jobs 0 in
     let long : length none ≡ most_jobs = length-replicate {A = ℕ} most_jobs 0 in
-    outcome_words a.plan.now a.run.now a.position at-if1.if-plan-run.false
-    (sym at-marks-hold.marks_hold.ensures ∙ not-false _ (ap not at-if2.if-not-marks_hold.false))
+    outcome_words a.plan.now a.run.now a.position c.if-plan-run.false
+    (sym c.marks_hold.ensures ∙ not-false _ (ap not c.if-not-marks_hold.false))
     (c.outcome_number.ensures
-    ∙ ap ending_number (at-outcome.outcome_over.ensures p
-    (outlined p at-outline-in.outline_in-o.ensures
-    (columns_read a.plan.now none none none none _ _ _ _ _ at-columns.columns_in.ensures (not-false _ (ap not at-if3.if-not-columns_in.false)) long long long long))
-    ∙ ap (λ run. outcome p run a.position) at-run-of.run_of-at.ensures))
+    ∙ ap ending_number (c.outcome_over.ensures p
+    (outlined p c.outline_in-o.ensures
+    (columns_read a.plan.now none none none none _ _ _ _ _ c.columns_in.ensures (not-false _ (ap not c.if-not-columns_in.false)) long long long long))
+    ∙ ap (λ run. outcome p run a.position) c.run_of-at.ensures))

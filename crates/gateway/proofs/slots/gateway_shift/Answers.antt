@@ -39,28 +39,20 @@ returns-then-not-marks_hold c =
 pub returns-then-not-columns_in : goal.returns-then-not-columns_in
 returns-then-not-columns_in c =
     let marks : marks_hold c.args.run.now ≡ true
-    = let at-if2 = c in
-      sym at-if2.marks_hold.ensures ∙ not-false _ (ap not at-if2.if-not-marks_hold.false) in
-    let at-columns = c in
-    let at-if2 = at-columns in
-    let at-marks-hold = at-if2 in
-    let at-if1 = at-marks-hold in
-    let a = at-if1.args in
-    let marks = sym at-marks-hold.marks_hold.ensures ∙ not-false _ (ap not at-if2.if-not-marks_hold.false) in
-    shift_words_lem a.plan.now a.table.now a.run.now a.speeds.now a.rows.now a.numbers.now at-if1.if-plan-run.false marks
+    = sym c.marks_hold.ensures ∙ not-false _ (ap not c.if-not-marks_hold.false) in
+    let a = c.args in
+    let marks = sym c.marks_hold.ensures ∙ not-false _ (ap not c.if-not-marks_hold.false) in
+    shift_words_lem a.plan.now a.table.now a.run.now a.speeds.now a.rows.now a.numbers.now c.if-plan-run.false marks
     (unsound_shift (plan_of a.plan.now) a.table.now (run_of a.run.now) a.speeds.now a.rows.now a.numbers.now
-    (too_large_unsound a.plan.now (run_of a.run.now) (sym at-columns.columns_in.ensures.0 ∙ not-true _ (ap not c.if-not-columns_in.true))))
+    (too_large_unsound a.plan.now (run_of a.run.now) (sym c.columns_in.ensures.0 ∙ not-true _ (ap not c.if-not-columns_in.true))))
     refl (sym (run_again a.run.now marks))
 
 pub returns-then-number : goal.returns-then-number
 returns-then-number c =
     let marks : marks_hold c.args.run.now ≡ true
-    = let at-if2 = c in
-      sym at-if2.marks_hold.ensures ∙ not-false _ (ap not at-if2.if-not-marks_hold.false) in
+    = sym c.marks_hold.ensures ∙ not-false _ (ap not c.if-not-marks_hold.false) in
     let shift-effect : record { answer = answer_view c.shift_over-s.result.answer; run = run_at c.shift_over-s.result.next c.shift_over-s.new.carried (run_of c.args.run.now).ended; rows = c.shift_over-s.new.rows; numbers = c.shift_over-s.new.numbers; } ≡ shifted (plan_of c.args.plan.now) c.args.table.now (run_of c.args.run.now) c.args.speeds.now c.args.rows.now c.args.numbers.now
     = let a = c.args in
-      let at-ended-in = c in
-      let at-moment-in = at-ended-in in
       let p = plan_of a.plan.now in
       let none : List ℕ = replicate most_jobs 0 in
       let long : length none ≡ most_jobs = length-replicate {A = ℕ} most_jobs 0 in
@@ -69,27 +61,24 @@ returns-then-number c =
       run = run_at c.shift_over-s.result.next c.shift_over-s.new.carried ended;
       rows = c.shift_over-s.new.rows;
       numbers = c.shift_over-s.new.numbers;
-      }) (sym at-ended-in.ended_in-ended.ensures)
+      }) (sym c.ended_in-ended.ensures)
       ∙ c.shift_over-s.ensures p
       (outlined p c.outline_in-o.ensures
       (columns_read a.plan.now none none none none _ _ _ _ _ c.columns_in.ensures (not-false _ (ap not c.if-not-columns_in.false)) long long long long))
-      ∙ run-parts (plan_of a.plan.now) a.table.now a.speeds.now a.rows.now a.numbers.now at-moment-in.moment_in-at.ensures c.carried_in-carried.ensures at-ended-in.ended_in-ended.ensures in
+      ∙ run-parts (plan_of a.plan.now) a.table.now a.speeds.now a.rows.now a.numbers.now c.moment_in-at.ensures c.carried_in-carried.ensures c.ended_in-ended.ensures in
     let the-words : (left : List ℕ) → left ≡ run_put c.args.run.now (run_at c.shift_over-s.result.next c.shift_over-s.new.carried (run_of c.args.run.now).ended) → record { number = c.answer_number-number.result; run = left; rows = c.shift_over-s.new.rows; numbers = c.shift_over-s.new.numbers } ≡ shift_call c.args.plan.now c.args.table.now c.args.run.now c.args.speeds.now c.args.rows.now c.args.numbers.now
     = λ left. let a = c.args in
       shift_words_lem a.plan.now a.table.now a.run.now a.speeds.now a.rows.now a.numbers.now c.if-plan-run.false
-      (marks) (shift-effect) c.answer_number-number.ensures in
+      marks shift-effect c.answer_number-number.ensures in
     let a = c.args in
     refused_shift_words a.plan.now a.table.now a.run.now a.speeds.now a.rows.now a.numbers.now (the-words _ refl) c.if-number.true
 
 pub returns : goal.returns
 returns c =
     let marks : marks_hold c.args.run.now ≡ true
-    = let at-if2 = c in
-      sym at-if2.marks_hold.ensures ∙ not-false _ (ap not at-if2.if-not-marks_hold.false) in
+    = sym c.marks_hold.ensures ∙ not-false _ (ap not c.if-not-marks_hold.false) in
     let shift-effect : record { answer = answer_view c.shift_over-s.result.answer; run = run_at c.shift_over-s.result.next c.shift_over-s.new.carried (run_of c.args.run.now).ended; rows = c.shift_over-s.new.rows; numbers = c.shift_over-s.new.numbers; } ≡ shifted (plan_of c.args.plan.now) c.args.table.now (run_of c.args.run.now) c.args.speeds.now c.args.rows.now c.args.numbers.now
     = let a = c.args in
-      let at-ended-in = c in
-      let at-moment-in = at-ended-in in
       let p = plan_of a.plan.now in
       let none : List ℕ = replicate most_jobs 0 in
       let long : length none ≡ most_jobs = length-replicate {A = ℕ} most_jobs 0 in
@@ -98,19 +87,17 @@ returns c =
       run = run_at c.shift_over-s.result.next c.shift_over-s.new.carried ended;
       rows = c.shift_over-s.new.rows;
       numbers = c.shift_over-s.new.numbers;
-      }) (sym at-ended-in.ended_in-ended.ensures)
+      }) (sym c.ended_in-ended.ensures)
       ∙ c.shift_over-s.ensures p
       (outlined p c.outline_in-o.ensures
       (columns_read a.plan.now none none none none _ _ _ _ _ c.columns_in.ensures (not-false _ (ap not c.if-not-columns_in.false)) long long long long))
-      ∙ run-parts (plan_of a.plan.now) a.table.now a.speeds.now a.rows.now a.numbers.now at-moment-in.moment_in-at.ensures c.carried_in-carried.ensures at-ended-in.ended_in-ended.ensures in
+      ∙ run-parts (plan_of a.plan.now) a.table.now a.speeds.now a.rows.now a.numbers.now c.moment_in-at.ensures c.carried_in-carried.ensures c.ended_in-ended.ensures in
     let the-words : (left : List ℕ) → left ≡ run_put c.args.run.now (run_at c.shift_over-s.result.next c.shift_over-s.new.carried (run_of c.args.run.now).ended) → record { number = c.answer_number-number.result; run = left; rows = c.shift_over-s.new.rows; numbers = c.shift_over-s.new.numbers } ≡ shift_call c.args.plan.now c.args.table.now c.args.run.now c.args.speeds.now c.args.rows.now c.args.numbers.now
     = λ left. let a = c.args in
       shift_words_lem a.plan.now a.table.now a.run.now a.speeds.now a.rows.now a.numbers.now c.if-plan-run.false
-      (marks) (shift-effect) c.answer_number-number.ensures in
-    let at-put-slot = c in
-    let at-number = at-put-slot in
+      marks shift-effect c.answer_number-number.ensures in
     let a = c.args in
     the-words _
-    (put_back a.run.now c.shift_over-s.result.next c.shift_over-s.new.carried (marks)
-    (ap (λ (s : ShiftEffect). length s.run.carried) (shift-effect) ∙ shifted_long (plan_of a.plan.now) a.table.now (run_of a.run.now) a.speeds.now a.rows.now a.numbers.now)
-    at-put-slot.put_slot.ensures)
+    (put_back a.run.now c.shift_over-s.result.next c.shift_over-s.new.carried marks
+    (ap (λ (s : ShiftEffect). length s.run.carried) shift-effect ∙ shifted_long (plan_of a.plan.now) a.table.now (run_of a.run.now) a.speeds.now a.rows.now a.numbers.now)
+    c.put_slot.ensures)

@@ -12,17 +12,12 @@ use Rattle.gateway.proofs.slots.start_in.Goals as goal
 
 pub returns-then-is_accepted : goal.returns-then-is_accepted
 returns-then-is_accepted c =
-    let at-put-run = c in
-    let at-if1 = at-put-run in
-    let at-is-accepted = at-if1 in
-    let at-start = at-is-accepted in
-    let entry = at-start in
-    let a = entry.args in
-    let told = at-start.start-s.ensures in
-    let none = ap is_none (sym told.0) ∙ sym at-is-accepted.is_accepted.ensures ∙ at-if1.if-is_accepted.true in
+    let a = c.args in
+    let told = c.start-s.ensures in
+    let none = ap is_none (sym told.0) ∙ sym c.is_accepted.ensures ∙ c.if-is_accepted.true in
     let verdict = judged a.p a.table.now in (
       told.0,
-      at-put-run.put_run.ensures ∙ ap (run_put a.run.now) (told.1 ∙ fresh.starts verdict (started a.p) no_run none)
+      c.put_run.ensures ∙ ap (run_put a.run.now) (told.1 ∙ fresh.starts verdict (started a.p) no_run none)
           ∙ sym (starts verdict a.p a.run.now none),
     )
 
