@@ -1,9 +1,9 @@
 -- `runplan::read_file` meets its contract: both reads stay inside the file buffer, and the second
 -- leaves the opening as it is.
-use mathlib.Core.Path.{◌≡◌, sym}
+use mathlib.Core.Path.{sym}
 use Prim.Native.Nat.{◌≤◌}
 use native.Mathlib.Omega.{arith}
-use lib.ListN.{length, take}
+use lib.ListN.{length}
 use lib.Seq.{length-take-le}
 use Rattle.runplan.proofs.FileSize.{size_fits, size_known}
 use Rattle.runplan.proofs.read_file.Goals as goal
