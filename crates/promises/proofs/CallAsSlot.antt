@@ -73,6 +73,7 @@ added_at (suc n) i [] grants h k g = absurd (omega arith)
 added_at (suc n) i (x ∷ l) [] h k g = absurd (omega arith)
 added_at (suc n) zero (x ∷ l) (y ∷ grants) h k g = refl
 added_at (suc n) (suc i) (x ∷ l) (y ∷ grants) h k g = added_at n i l grants (omega arith) (omega arith) (omega arith)
+added_at zero i l grants h k g = elim h [ ]
 
 granted_long : (p : Plan) (table : List ℕ) (run : Run) (v : ℕ) (grants : List ℕ) (i : ℕ) → i < counted p → i < length (granted p table run v grants)
 unfolding granted

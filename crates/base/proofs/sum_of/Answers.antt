@@ -75,11 +75,8 @@ loop-k-preserved c =
 
 pub returns : goal.returns
 returns c =
-    let at-loop = c in
-    let at-count-inside = at-loop in
-    let entry = at-count-inside in
-    let a = entry.args in
-    let h = at-count-inside.count_inside-inside.ensures in
-    let end : at-loop.loop-k.k ≡ at-count-inside.count_inside-inside.result = omega arith in
-    at-loop.loop-k.invariant.1 ∙ ap (sum (strided a.s.now a.start a.stride)) end
-    ∙ inside-is-all a.s.now a.start a.stride at-count-inside.count_inside-inside.result a.count h.few h.outside
+    let a = c.args in
+    let h = c.count_inside-inside.ensures in
+    let end : c.loop-k.k ≡ c.count_inside-inside.result = omega arith in
+    c.loop-k.invariant.1 ∙ ap (sum (strided a.s.now a.start a.stride)) end
+    ∙ inside-is-all a.s.now a.start a.stride c.count_inside-inside.result a.count h.few h.outside

@@ -15,8 +15,7 @@ loop-i-init c =
 
 pub loop-i-preserved : goal.loop-i-preserved
 loop-i-preserved c =
-    let at-loop = c in
-    (omega arith, every_next _ at-loop.loop-i.i at-loop.loop-i.invariant.1 refl)
+    (omega arith, every_next _ c.loop-i.i c.loop-i.invariant.1 refl)
 
 pub returns : goal.returns
 returns c =

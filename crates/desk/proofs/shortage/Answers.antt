@@ -36,19 +36,13 @@ pub shortage_over-requires : goal.shortage_over-requires
 shortage_over-requires c =
     let rules : rules_hold c.args.p ≡ true
     = sym c.rules_hold.ensures ∙ not-false _ (ap not c.if-not-rules_hold.false) in
-    let at-boundaries-of = c in
-    let at-if1 = at-boundaries-of in
-    rw (in_their_room _ _ at-boundaries-of.boundaries_of-b.ensures).0 (boundaries_within at-if1.args.p (rules))
+    rw (in_their_room _ _ c.boundaries_of-b.ensures).0 (boundaries_within c.args.p rules)
 
 pub returns : goal.returns
 returns c =
     let rules : rules_hold c.args.p ≡ true
     = sym c.rules_hold.ensures ∙ not-false _ (ap not c.if-not-rules_hold.false) in
-    let at-first-release = c in
-    let at-boundaries-of = at-first-release in
-    let at-columns-of = at-boundaries-of in
-    let at-if1 = at-columns-of in
-    let p = at-if1.args.p in
-    c.shortage_over.ensures p (columns_told p (rules) at-columns-of.columns_of.ensures)
-    (in_their_room _ _ at-boundaries-of.boundaries_of-b.ensures).0 (ap (λ (s : Slots). s.0) at-first-release.first_release-begin.ensures)
-    ∙ grounds p (ap not (rules))
+    let p = c.args.p in
+    c.shortage_over.ensures p (columns_told p rules c.columns_of.ensures)
+    (in_their_room _ _ c.boundaries_of-b.ensures).0 (ap (λ (s : Slots). s.0) c.first_release-begin.ensures)
+    ∙ grounds p (ap not rules)

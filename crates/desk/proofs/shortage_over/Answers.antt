@@ -42,19 +42,11 @@ fill_ends-requires-2 c =
 
 pub short_pair-requires : goal.short_pair-requires
 short_pair-requires c =
-    let at-fill-ends2 = c in
-    let at-fill-ends = at-fill-ends2 in
-    (at-fill-ends.requires.1, at-fill-ends.fill_ends.ensures.1, at-fill-ends2.fill_ends-2.ensures.1)
+    (c.requires.1, c.fill_ends.ensures.1, c.fill_ends-2.ensures.1)
 
 pub returns : goal.returns
 returns c =
-    λ p cols at begin. let at-fill-ends2 = c in
-    let at-fill-ends = at-fill-ends2 in
-    let at-if1 = at-fill-ends in
-    let at-same-release = at-if1 in
-    let at-counted-within = at-same-release in
-    let entry = at-counted-within in
-    let count = at-counted-within.counted_within-jobs.ensures in
+    λ p cols at begin. let count = c.counted_within-jobs.ensures in
     c.short_pair.ensures
-    ∙ pairs_told p cols count at entry.requires.0 entry.requires.1 at-fill-ends.fill_ends.ensures.0 at-fill-ends2.fill_ends-2.ensures.0
-    ∙ agree p (at-same-release.same_release.ensures ∙ one_release_lem p cols count begin) (ap not at-if1.if-not-same_release.false)
+    ∙ pairs_told p cols count at c.requires.0 c.requires.1 c.fill_ends.ensures.0 c.fill_ends-2.ensures.0
+    ∙ agree p (c.same_release.ensures ∙ one_release_lem p cols count begin) (ap not c.if-not-same_release.false)

@@ -20,54 +20,41 @@ use Rattle.judge.proofs.judge_at.Goals as goal
 pub returns-then-not-is_accepted : goal.returns-then-not-is_accepted
 unfolding judged
 returns-then-not-is_accepted c =
-    let p : Plan
-    = c.args.p in
-    let table : List ℕ
-    = c.args.table.now in
-    let at-is-accepted = c in
-    let at-refusal-of = at-is-accepted in
-    let entry = at-refusal-of in
-    let p = entry.args.p in
-    let table = entry.args.table.now in
-    stops _ _ (floor_fault p table) _ at-refusal-of.refusal_of-refusal.ensures at-is-accepted.is_accepted.ensures (ap not c.if-not-is_accepted.true)
+    let p : Plan = c.args.p in
+    let table : List ℕ = c.args.table.now in
+    let p = c.args.p in
+    let table = c.args.table.now in
+    stops _ _ (floor_fault p table) _ c.refusal_of-refusal.ensures c.is_accepted.ensures (ap not c.if-not-is_accepted.true)
     ∙ or_assoc (hand_fault p table) (constraint_fault p table) (floor_fault p table)
 
 pub overflow_sub-times : goal.overflow_sub-times
 overflow_sub-times c =
-    let p : Plan
-    = c.args.p in
-    let table : List ℕ
-    = c.args.table.now in
-    let none : or_else (hand_fault (p) (table)) (constraint_fault (p) (table)) ≡ []
+    let p : Plan = c.args.p in
+    let table : List ℕ = c.args.table.now in
+    let none : or_else (hand_fault p table) (constraint_fault p table) ≡ []
     = passes _ _ _ c.refusal_of-refusal.ensures c.is_accepted.ensures (ap not c.if-not-is_accepted.false) in
-    let ready : (0 < length (boundaries (p))) × (places ≤ length (table)) × (rules_hold (p) ≡ true)
-    = refused_by_none (p) (table) (none) in
-    omega (arith, ap length c.requires, (ready).0)
+    let ready : (0 < length (boundaries p)) × (places ≤ length table) × (rules_hold p ≡ true)
+    = refused_by_none p table none in
+    omega (arith, ap length c.requires, ready.0)
 
 pub below_floor-requires : goal.below_floor-requires
 below_floor-requires c =
-    let p : Plan
-    = c.args.p in
-    let table : List ℕ
-    = c.args.table.now in
-    let none : or_else (hand_fault (p) (table)) (constraint_fault (p) (table)) ≡ []
+    let p : Plan = c.args.p in
+    let table : List ℕ = c.args.table.now in
+    let none : or_else (hand_fault p table) (constraint_fault p table) ≡ []
     = passes _ _ _ c.refusal_of-refusal.ensures c.is_accepted.ensures (ap not c.if-not-is_accepted.false) in
-    let ready : (0 < length (boundaries (p))) × (places ≤ length (table)) × (rules_hold (p) ≡ true)
-    = refused_by_none (p) (table) (none) in
+    let ready : (0 < length (boundaries p)) × (places ≤ length table) × (rules_hold p ≡ true)
+    = refused_by_none p table none in
     let times = c.requires in
-    (times, ap (λ t. length t - 1) times, omega (arith, ap length times, (ready).0), (ready).1, (ready).2)
+    (times, ap (λ t. length t - 1) times, omega (arith, ap length times, ready.0), ready.1, ready.2)
 
 pub returns : goal.returns
 unfolding judged
 returns c =
-    let p : Plan
-    = c.args.p in
-    let table : List ℕ
-    = c.args.table.now in
-    let none : or_else (hand_fault (p) (table)) (constraint_fault (p) (table)) ≡ []
+    let p : Plan = c.args.p in
+    let table : List ℕ = c.args.table.now in
+    let none : or_else (hand_fault p table) (constraint_fault p table) ≡ []
     = passes _ _ _ c.refusal_of-refusal.ensures c.is_accepted.ensures (ap not c.if-not-is_accepted.false) in
-    let c_1 = c in
-    let entry = c_1 in
-    let p = entry.args.p in
-    let table = entry.args.table.now in
-    c.below_floor.ensures ∙ sym (or_none _ _ (none)) ∙ or_assoc (hand_fault p table) (constraint_fault p table) (floor_fault p table)
+    let p = c.args.p in
+    let table = c.args.table.now in
+    c.below_floor.ensures ∙ sym (or_none _ _ none) ∙ or_assoc (hand_fault p table) (constraint_fault p table) (floor_fault p table)

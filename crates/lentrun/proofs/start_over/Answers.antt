@@ -10,22 +10,16 @@ use Rattle.lentrun.proofs.start_over.Goals as goal
 pub returns-then-is_accepted : goal.returns-then-is_accepted
 unfolding start_in
 returns-then-is_accepted c =
-    let at-is-accepted = c in
-    let at-start = at-is-accepted in
-    let entry = at-start in
-    let a = entry.args in
-    let none = ap is_none (sym at-start.start-s.ensures.0) ∙ sym at-is-accepted.is_accepted.ensures ∙ c.if-is_accepted.true in (
-      at-start.start-s.ensures.0,
-      at-start.start-s.ensures.1 ∙ starts (judged a.p a.table.now) (started a.p) no_run none
+    let a = c.args in
+    let none = ap is_none (sym c.start-s.ensures.0) ∙ sym c.is_accepted.ensures ∙ c.if-is_accepted.true in (
+      c.start-s.ensures.0,
+      c.start-s.ensures.1 ∙ starts (judged a.p a.table.now) (started a.p) no_run none
           ∙ sym (starts (judged a.p a.table.now) (started a.p) a.was none),
     )
 
 pub returns : goal.returns
 unfolding start_in
 returns c =
-    let at-is-accepted = c in
-    let at-start = at-is-accepted in
-    let entry = at-start in
-    let a = entry.args in
-    let some = ap is_none (sym at-start.start-s.ensures.0) ∙ sym at-is-accepted.is_accepted.ensures ∙ c.if-is_accepted.false in
-    (at-start.start-s.ensures.0, sym (stays (judged a.p a.table.now) (started a.p) a.was some))
+    let a = c.args in
+    let some = ap is_none (sym c.start-s.ensures.0) ∙ sym c.is_accepted.ensures ∙ c.if-is_accepted.false in
+    (c.start-s.ensures.0, sym (stays (judged a.p a.table.now) (started a.p) a.was some))

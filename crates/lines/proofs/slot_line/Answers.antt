@@ -15,16 +15,9 @@ slice_bounds-print-end c =
 pub returns : goal.returns
 unfolding slot_line
 returns c =
-    let at-print = c in
-    let at-add2 = at-print in
-    let at-add-grants = at-add2 in
-    let at-add = at-add-grants in
-    let at-mode-of = at-add in
-    let at-add-times = at-mode-of in
-    let entry = at-add-times in
     let whole =
-    grown_twice (grown_twice (grown_twice at-add-times.add_times-at.ensures.0 (grown_same at-mode-of.mode_of-mode.ensures at-add.add-at.ensures)) at-add-grants.add_grants-at.ensures.0) at-add2.add-at-2.ensures in
+    grown_twice (grown_twice (grown_twice c.add_times-at.ensures.0 (grown_same c.mode_of-mode.ensures c.add-at.ensures)) c.add_grants-at.ensures.0) c.add-at-2.ensures in
     record {
-      prints = at-print.print.ensures ∙ ap (λ l. printed l entry.args.out.now) whole.bytes;
+      prints = c.print.ensures ∙ ap (λ l. printed l c.args.out.now) whole.bytes;
       fits = omega (arith, whole.end);
     }

@@ -15,17 +15,9 @@ slice_bounds-print-end c =
 pub returns : goal.returns
 unfolding outcome_line
 returns c =
-    let at-print = c in
-    let at-add4 = at-print in
-    let at-add-number = at-add4 in
-    let at-add3 = at-add-number in
-    let at-add2 = at-add3 in
-    let at-add = at-add2 in
-    let at-add-name = at-add in
-    let entry = at-add-name in
     let whole =
-    grown_twice (grown_twice (grown_twice (grown_twice (grown_twice at-add-name.add_name-at.ensures at-add.add-at.ensures) at-add2.add-at-2.ensures) at-add3.add-at-3.ensures) at-add-number.add_number-at.ensures.0) at-add4.add-at-4.ensures in
+    grown_twice (grown_twice (grown_twice (grown_twice (grown_twice c.add_name-at.ensures c.add-at.ensures) c.add-at-2.ensures) c.add-at-3.ensures) c.add_number-at.ensures.0) c.add-at-4.ensures in
     record {
-      prints = at-print.print.ensures ∙ ap (λ l. printed l entry.args.out.now) whole.bytes;
+      prints = c.print.ensures ∙ ap (λ l. printed l c.args.out.now) whole.bytes;
       fits = omega (arith, whole.end);
     }

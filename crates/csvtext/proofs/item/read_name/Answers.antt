@@ -9,27 +9,18 @@ use Rattle.csvtext.proofs.item.read_name.Goals as goal
 
 pub returns-in_default : goal.returns-in_default
 returns-in_default c =
-    let at-enum-told = c in
-    let at-read-item = at-enum-told in
-    let entry = at-read-item in
-    let a = entry.args in
+    let a = c.args in
     name_refused a.from a.text.now a.at
-    (refused_item (item (comma ∷ []) a.from a.text.now a.at) at-read-item.read_item-read.ensures at-enum-told.in_default.is c.item_refusal.ensures)
+    (refused_item (item (comma ∷ []) a.from a.text.now a.at) c.read_item-read.ensures c.in_default.is c.item_refusal.ensures)
 
 pub returns-then-seen-ne-NAME_BYTES : goal.returns-then-seen-ne-NAME_BYTES
 returns-then-seen-ne-NAME_BYTES c =
-    let at_read = c in
-    let at-read-item = at_read in
-    let entry = at-read-item in
-    let a = entry.args in
+    let a = c.args in
     name_wrong a.from a.text.now a.at
-    (item_held (comma ∷ []) a.from a.text.now a.at (sym at-read-item.read_item-read.ensures ∙ at_read.in-Item.is)) c.if-seen-ne-NAME_BYTES.true
+    (item_held (comma ∷ []) a.from a.text.now a.at (sym c.read_item-read.ensures ∙ c.in-Item.is)) c.if-seen-ne-NAME_BYTES.true
 
 pub returns : goal.returns
 returns c =
-    let at_read = c in
-    let at-read-item = at_read in
-    let entry = at-read-item in
-    let a = entry.args in
+    let a = c.args in
     name_whole a.from a.text.now a.at
-    (item_held (comma ∷ []) a.from a.text.now a.at (sym at-read-item.read_item-read.ensures ∙ at_read.in-Item.is)) c.if-seen-ne-NAME_BYTES.false
+    (item_held (comma ∷ []) a.from a.text.now a.at (sym c.read_item-read.ensures ∙ c.in-Item.is)) c.if-seen-ne-NAME_BYTES.false

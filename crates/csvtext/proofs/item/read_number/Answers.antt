@@ -11,33 +11,24 @@ use Rattle.csvtext.proofs.item.read_number.Goals as goal
 
 pub returns-in_default : goal.returns-in_default
 returns-in_default c =
-    let at-enum-told = c in
-    let at-read-item = at-enum-told in
-    let entry = at-read-item in
-    let a = entry.args in (
+    let a = c.args in (
       number_refused a.ends.now a.from a.text.now a.at
-          (refused_item (item a.ends.now a.from a.text.now a.at) at-read-item.read_item-read.ensures at-enum-told.in_default.is c.item_refusal.ensures),
+          (refused_item (item a.ends.now a.from a.text.now a.at) c.read_item-read.ensures c.in_default.is c.item_refusal.ensures),
       lit< tt,
     )
 
 pub returns-then-not-seen : goal.returns-then-not-seen
 returns-then-not-seen c =
-    let at_read = c in
-    let at-read-item = at_read in
-    let entry = at-read-item in
-    let s = at_read.in-Item.seen in
-    let a = entry.args in (
+    let s = c.in-Item.seen in
+    let a = c.args in (
       number_wrong a.ends.now a.from a.text.now a.at
-          (item_held a.ends.now a.from a.text.now a.at (sym at-read-item.read_item-read.ensures ∙ at_read.in-Item.is)) (not-true (s.decimal && not (eqb s.length 0)) (ap not c.if-not-seen.true)),
+          (item_held a.ends.now a.from a.text.now a.at (sym c.read_item-read.ensures ∙ c.in-Item.is)) (not-true (s.decimal && not (eqb s.length 0)) (ap not c.if-not-seen.true)),
       lit< tt,
     )
 
 pub returns : goal.returns
 returns c =
-    let at_read = c in
-    let at-read-item = at_read in
-    let entry = at-read-item in
-    let a = entry.args in
-    let s = at_read.in-Item.seen in
-    let h = item_held a.ends.now a.from a.text.now a.at (sym at-read-item.read_item-read.ensures ∙ at_read.in-Item.is) in
+    let a = c.args in
+    let s = c.in-Item.seen in
+    let h = item_held a.ends.now a.from a.text.now a.at (sym c.read_item-read.ensures ∙ c.in-Item.is) in
     (number_whole a.ends.now a.from a.text.now a.at h (not-false (s.decimal && not (eqb s.length 0)) (ap not c.if-not-seen.false)), number_small h)

@@ -33,18 +33,15 @@ marked-requires c =
 
 pub loop-m-preserved : goal.loop-m-preserved
 loop-m-preserved c =
-    let at-none-due = c in
-    let at-sizes-due = at-none-due in
-    let at-loop = at-sizes-due in
-    let m = at-loop.loop-m.m in (
+    let m = c.loop-m.m in (
       omega arith,
-      filled_next _ m _ at-loop.loop-m.invariant.1
+      filled_next _ m _ c.loop-m.invariant.1
           (c.marked.ensures
-          ∙ ap₂ (λ b s. on (eqb m 0 || not b) s) at-none-due.none_due.ensures (add-one _ ∙ ap suc at-sizes-due.sizes_due-sum.ensures.0)),
-      set-within at-loop.loop-m.ends m c.marked.result most_sum at-loop.loop-m.invariant.2
+          ∙ ap₂ (λ b s. on (eqb m 0 || not b) s) c.none_due.ensures (add-one _ ∙ ap suc c.sizes_due-sum.ensures.0)),
+      set-within c.loop-m.ends m c.marked.result most_sum c.loop-m.invariant.2
           (rw c.marked.ensures
-          (on_at_most (eqb m 0 || not at-none-due.none_due.result) (at-sizes-due.sizes_due-sum.result.0 + 1) most_sum
-          (omega (arith, at-sizes-due.sizes_due-sum.ensures.1, at-loop.requires.0)))),
+          (on_at_most (eqb m 0 || not c.none_due.result) (c.sizes_due-sum.result.0 + 1) most_sum
+          (omega (arith, c.sizes_due-sum.ensures.1, c.requires.0)))),
     )
 
 pub returns : goal.returns

@@ -17,13 +17,11 @@ loop-i-init c =
 
 pub loop-i-preserved : goal.loop-i-preserved
 loop-i-preserved c =
-    let at-is-of = c in
-    let at-loop = at-is-of in
-    let a = at-loop.args in
-    let i = at-loop.loop-i.i in (
+    let a = c.args in
+    let i = c.loop-i.i in (
       omega arith,
-      every_next _ i at-loop.loop-i.invariant.1
-          (ap (λ b. not (b && eqb (get_or a.deadlines.now i 0) a.time)) at-is-of.is_of.ensures),
+      every_next _ i c.loop-i.invariant.1
+          (ap (λ b. not (b && eqb (get_or a.deadlines.now i 0) a.time)) c.is_of.ensures),
     )
 
 pub returns : goal.returns

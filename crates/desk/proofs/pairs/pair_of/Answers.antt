@@ -80,7 +80,6 @@ overflow_add-carried c =
     let floor : c.over-floor.result.0 ≡ c.args.d.0 * (c.args.due.0 - c.args.late.0)
     = ap (λ (u : Units). u.0) c.over-floor.ensures
       ∙ ap (λ (t : Slots). c.args.d.0 * t.0) c.elapsed-2.ensures in
-    let at-over2 = c in
     record { fits = omega (arith, normal, floor, most) }
 
 pub returns-then-asked-carried : goal.returns-then-asked-carried
@@ -91,9 +90,8 @@ returns-then-asked-carried c =
     let floor : c.over-floor.result.0 ≡ c.args.d.0 * (c.args.due.0 - c.args.late.0)
     = ap (λ (u : Units). u.0) c.over-floor.ensures
       ∙ ap (λ (t : Slots). c.args.d.0 * t.0) c.elapsed-2.ensures in
-    let at-over2 = c in
-    let a = (c).args in
-    pair-with a.n.0 a.d.0 a.start.0 a.due.0 a.late.0 a.high a.low at-over2.if-high-low.false
+    let a = c.args in
+    pair-with a.n.0 a.d.0 a.start.0 a.due.0 a.late.0 a.high a.low c.if-high-low.false
     (sym (le-ltb (carries a.n.0 a.d.0 a.start.0 a.due.0 a.late.0 a.high a.low) (a.high - 1 + (a.low - 1)) (omega (arith, c.if-asked-carried.true, normal, floor))))
 
 pub returns : goal.returns
@@ -104,8 +102,7 @@ returns c =
     let floor : c.over-floor.result.0 ≡ c.args.d.0 * (c.args.due.0 - c.args.late.0)
     = ap (λ (u : Units). u.0) c.over-floor.ensures
       ∙ ap (λ (t : Slots). c.args.d.0 * t.0) c.elapsed-2.ensures in
-    let at-over2 = c in
-    let a = (c).args in
-    ap₂ (λ x y. no_timetable ∷ a.due.0 ∷ a.late.0 ∷ (a.high - 1 + (a.low - 1)) ∷ (x + y) ∷ []) (normal) (floor)
-    ∙ pair-with a.n.0 a.d.0 a.start.0 a.due.0 a.late.0 a.high a.low at-over2.if-high-low.false
+    let a = c.args in
+    ap₂ (λ x y. no_timetable ∷ a.due.0 ∷ a.late.0 ∷ (a.high - 1 + (a.low - 1)) ∷ (x + y) ∷ []) normal floor
+    ∙ pair-with a.n.0 a.d.0 a.start.0 a.due.0 a.late.0 a.high a.low c.if-high-low.false
     (sym (lt-ltb (carries a.n.0 a.d.0 a.start.0 a.due.0 a.late.0 a.high a.low) (a.high - 1 + (a.low - 1)) (omega (arith, c.if-asked-carried.false, normal, floor))))

@@ -19,21 +19,15 @@ loop-k-init c =
 
 pub pair_of-pair-requires : goal.pair_of-pair-requires
 pair_of-pair-requires c =
-    let at-loop = c in
-    let entry = at-loop in
-    (entry.requires.1, entry.requires.2 at-loop.loop-k.k)
+    (c.requires.1, c.requires.2 c.loop-k.k)
 
 pub returns-then-not-is_nothing : goal.returns-then-not-is_nothing
 returns-then-not-is_nothing c =
-    let at-pair-of = c in
-    let at-loop-test = at-pair-of in
-    first_told _ _ _ at-loop-test.loop-k.invariant.1 at-loop-test.loop-k-test.true at-pair-of.pair_of-pair.ensures c.is_nothing.ensures (ap not c.if-not-is_nothing.true)
+    first_told _ _ _ c.loop-k.invariant.1 c.loop-k-test.true c.pair_of-pair.ensures c.is_nothing.ensures (ap not c.if-not-is_nothing.true)
 
 pub loop-k-preserved : goal.loop-k-preserved
 loop-k-preserved c =
-    let at-pair-of = c in
-    let at-loop = at-pair-of in
-    (omega arith, first_next _ at-loop.loop-k.k at-loop.loop-k.invariant.1 (passes _ _ _ at-pair-of.pair_of-pair.ensures c.is_nothing.ensures (ap not c.if-not-is_nothing.false)))
+    (omega arith, first_next _ c.loop-k.k c.loop-k.invariant.1 (passes _ _ _ c.pair_of-pair.ensures c.is_nothing.ensures (ap not c.if-not-is_nothing.false)))
 
 pub returns : goal.returns
 returns c =

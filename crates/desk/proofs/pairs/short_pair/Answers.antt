@@ -19,21 +19,15 @@ loop-m-init c =
 
 pub short_from-pair-requires : goal.short_from-pair-requires
 short_from-pair-requires c =
-    let at-loop = c in
-    let entry = at-loop in
-    (entry.requires.0, entry.requires.1 at-loop.loop-m.m, entry.requires.2)
+    (c.requires.0, c.requires.1 c.loop-m.m, c.requires.2)
 
 pub returns-then-not-is_nothing : goal.returns-then-not-is_nothing
 returns-then-not-is_nothing c =
-    let at-short-from = c in
-    let at-loop-test = at-short-from in
-    first_told _ _ _ at-loop-test.loop-m.invariant.1 at-loop-test.loop-m-test.true at-short-from.short_from-pair.ensures c.is_nothing.ensures (ap not c.if-not-is_nothing.true)
+    first_told _ _ _ c.loop-m.invariant.1 c.loop-m-test.true c.short_from-pair.ensures c.is_nothing.ensures (ap not c.if-not-is_nothing.true)
 
 pub loop-m-preserved : goal.loop-m-preserved
 loop-m-preserved c =
-    let at-short-from = c in
-    let at-loop = at-short-from in
-    (omega arith, first_next _ at-loop.loop-m.m at-loop.loop-m.invariant.1 (passes _ _ _ at-short-from.short_from-pair.ensures c.is_nothing.ensures (ap not c.if-not-is_nothing.false)))
+    (omega arith, first_next _ c.loop-m.m c.loop-m.invariant.1 (passes _ _ _ c.short_from-pair.ensures c.is_nothing.ensures (ap not c.if-not-is_nothing.false)))
 
 pub returns : goal.returns
 returns c =

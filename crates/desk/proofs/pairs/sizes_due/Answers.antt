@@ -18,22 +18,17 @@ loop-i-init c =
 
 pub overflow_add-total : goal.overflow_add-total
 overflow_add-total c =
-    let at-wanted-size = c in
-    let at-loop = at-wanted-size in
-    record { fits = omega (arith, at-wanted-size.wanted_size-size.ensures.1, at-loop.loop-i.invariant.2, at-loop.requires) }
+    record { fits = omega (arith, c.wanted_size-size.ensures.1, c.loop-i.invariant.2, c.requires) }
 
 pub loop-i-preserved : goal.loop-i-preserved
 loop-i-preserved c =
-    let at-wanted-size = c in
-    let at-is-of = at-wanted-size in
-    let at-loop = at-is-of in
-    let a = at-loop.args in
-    let i = at-loop.loop-i.i in (
+    let a = c.args in
+    let i = c.loop-i.i in (
       omega arith,
-      sum_next _ i at-loop.loop-i.invariant.1
-          (at-wanted-size.wanted_size-size.ensures.0
-          ∙ ap (λ b. on (b && leb (get_or a.deadlines.now i 0) a.time) (get_or a.sizes.now i 0)) at-is-of.is_of.ensures),
-      omega (arith, at-wanted-size.wanted_size-size.ensures.1, at-loop.loop-i.invariant.2),
+      sum_next _ i c.loop-i.invariant.1
+          (c.wanted_size-size.ensures.0
+          ∙ ap (λ b. on (b && leb (get_or a.deadlines.now i 0) a.time) (get_or a.sizes.now i 0)) c.is_of.ensures),
+      omega (arith, c.wanted_size-size.ensures.1, c.loop-i.invariant.2),
     )
 
 pub returns : goal.returns

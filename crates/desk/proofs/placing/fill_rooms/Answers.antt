@@ -17,14 +17,12 @@ loop-j-init c =
 
 pub loop-j-preserved : goal.loop-j-preserved
 loop-j-preserved c =
-    let at-elapsed = c in
-    let at-loop = at-elapsed in
-    let a = at-loop.args in
-    let j = at-loop.loop-j.j in (
+    let a = c.args in
+    let j = c.loop-j.j in (
       omega arith,
-      filled_next _ j _ at-loop.loop-j.invariant.1
+      filled_next _ j _ c.loop-j.invariant.1
           (ap (λ (u : Units). u.0) c.over-room.ensures
-          ∙ ap (λ (t : Slots). a.n.0 * t.0) at-elapsed.elapsed.ensures
+          ∙ ap (λ (t : Slots). a.n.0 * t.0) c.elapsed.ensures
           ∙ ap (λ k. a.n.0 * (get_or a.times.now k 0 - get_or a.times.now j 0)) (add-one j)),
     )
 

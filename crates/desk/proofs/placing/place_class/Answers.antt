@@ -20,20 +20,17 @@ loop-k-init c =
 
 pub loop-k-preserved : goal.loop-k-preserved
 loop-k-preserved c =
-    let at-place-due = c in
-    let at-loop = at-place-due in
-    let at-turn-of = at-place-due in
-    let a = at-loop.args in
-    let l = at-loop.loop-k in
+    let a = c.args in
+    let l = c.loop-k in
     let so_far : Draft = record { rooms = l.rooms; table = l.table } in
-    let j = at-turn-of.turn_of-m.result in
-    let placed = at-place-due.place_due.ensures in (
+    let j = c.turn_of-m.result in
+    let placed = c.place_due.ensures in (
       omega arith,
       placed.0 ∙ l.invariant.1,
       λ p cols at spans.
           through_next (λ k. turns_at p a.back (suc (turn a.back (intervals p) k))) l.k _ (l.invariant.2 p cols at spans)
           (placed.1 p cols (ap (λ t. get_or t (j + 1) 0) (sym at))
-          ∙ ap (λ m. turns_at p a.back m so_far) (add-one j ∙ ap suc (at-turn-of.turn_of-m.ensures.0 ∙ ap (λ n. turn a.back n l.k) spans))),
+          ∙ ap (λ m. turns_at p a.back m so_far) (add-one j ∙ ap suc (c.turn_of-m.ensures.0 ∙ ap (λ n. turn a.back n l.k) spans))),
     )
 
 pub shape_of-table : goal.shape_of-table
@@ -43,11 +40,10 @@ shape_of-table c =
 pub returns : goal.returns
 unfolding class_placed
 returns c =
-    let at-loop = c in
-    let a = at-loop.args in
-    let whole : at-loop.loop-k.k ≡ a.spans = omega arith in (
-      at-loop.loop-k.invariant.1,
+    let a = c.args in
+    let whole : c.loop-k.k ≡ a.spans = omega arith in (
+      c.loop-k.invariant.1,
       λ p cols at spans.
-          at-loop.loop-k.invariant.2 p cols at spans
+          c.loop-k.invariant.2 p cols at spans
           ∙ ap (λ n. through (λ k. turns_at p a.back (suc (turn a.back (intervals p) k))) n (record { rooms = a.rooms.now; table = a.table.now })) (whole ∙ spans),
     )

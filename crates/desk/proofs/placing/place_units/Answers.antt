@@ -16,11 +16,9 @@ loop-k-init c =
 
 pub loop-k-preserved : goal.loop-k-preserved
 loop-k-preserved c =
-    let at-turn-of = c in
-    let at-loop = at-turn-of in
-    let a = at-loop.args in
-    let l = at-loop.loop-k in
-    let turned = at-turn-of.turn_of-j.ensures.0 in (
+    let a = c.args in
+    let l = c.loop-k in
+    let turned = c.turn_of-j.ensures.0 in (
       omega arith,
       simp length-set l.invariant.1,
       through_next (λ k. placed_at a.i (turn a.back a.m k)) l.k _ l.invariant.2

@@ -26,200 +26,164 @@ loop-i-init c =
 pub offset_bounds-releases-i : goal.offset_bounds-releases-i
 offset_bounds-releases-i c =
     let going : (c.loop-i.i < c.args.jobs) × (c.loop-i.total.0 ≤ c.args.v.0)
-    = let at-loop = c in
-      let a = at-loop.args in
-      let tests = both (ltb at-loop.loop-i.i a.jobs) (leb at-loop.loop-i.total.0 a.v.0) c.loop-i-test.true in
+    = let a = c.args in
+      let tests = both (ltb c.loop-i.i a.jobs) (leb c.loop-i.total.0 a.v.0) c.loop-i-test.true in
       (ltb-true _ _ tests.0, leb-true _ _ tests.1) in
-    let below : c.loop-i.i < most_jobs
-    = omega (arith, (going).0, c.requires.0) in
+    let below : c.loop-i.i < most_jobs = omega (arith, going.0, c.requires.0) in
     record { fits = omega (arith, below) }
 
 pub bounds-releases-i : goal.bounds-releases-i
 bounds-releases-i c =
     let going : (c.loop-i.i < c.args.jobs) × (c.loop-i.total.0 ≤ c.args.v.0)
-    = let at-loop = c in
-      let a = at-loop.args in
-      let tests = both (ltb at-loop.loop-i.i a.jobs) (leb at-loop.loop-i.total.0 a.v.0) c.loop-i-test.true in
+    = let a = c.args in
+      let tests = both (ltb c.loop-i.i a.jobs) (leb c.loop-i.total.0 a.v.0) c.loop-i-test.true in
       (ltb-true _ _ tests.0, leb-true _ _ tests.1) in
-    let below : c.loop-i.i < most_jobs
-    = omega (arith, (going).0, c.requires.0) in
+    let below : c.loop-i.i < most_jobs = omega (arith, going.0, c.requires.0) in
     below
 
 pub offset_bounds-deadlines-i : goal.offset_bounds-deadlines-i
 offset_bounds-deadlines-i c =
     let going : (c.loop-i.i < c.args.jobs) × (c.loop-i.total.0 ≤ c.args.v.0)
-    = let at-loop = c in
-      let a = at-loop.args in
-      let tests = both (ltb at-loop.loop-i.i a.jobs) (leb at-loop.loop-i.total.0 a.v.0) c.loop-i-test.true in
+    = let a = c.args in
+      let tests = both (ltb c.loop-i.i a.jobs) (leb c.loop-i.total.0 a.v.0) c.loop-i-test.true in
       (ltb-true _ _ tests.0, leb-true _ _ tests.1) in
-    let below : c.loop-i.i < most_jobs
-    = omega (arith, (going).0, c.requires.0) in
+    let below : c.loop-i.i < most_jobs = omega (arith, going.0, c.requires.0) in
     record { fits = omega (arith, below) }
 
 pub bounds-deadlines-i : goal.bounds-deadlines-i
 bounds-deadlines-i c =
     let going : (c.loop-i.i < c.args.jobs) × (c.loop-i.total.0 ≤ c.args.v.0)
-    = let at-loop = c in
-      let a = at-loop.args in
-      let tests = both (ltb at-loop.loop-i.i a.jobs) (leb at-loop.loop-i.total.0 a.v.0) c.loop-i-test.true in
+    = let a = c.args in
+      let tests = both (ltb c.loop-i.i a.jobs) (leb c.loop-i.total.0 a.v.0) c.loop-i-test.true in
       (ltb-true _ _ tests.0, leb-true _ _ tests.1) in
-    let below : c.loop-i.i < most_jobs
-    = omega (arith, (going).0, c.requires.0) in
+    let below : c.loop-i.i < most_jobs = omega (arith, going.0, c.requires.0) in
     below
 
 pub offset_bounds-grades-i : goal.offset_bounds-grades-i
 offset_bounds-grades-i c =
     let going : (c.loop-i.i < c.args.jobs) × (c.loop-i.total.0 ≤ c.args.v.0)
-    = let at-loop = c in
-      let a = at-loop.args in
-      let tests = both (ltb at-loop.loop-i.i a.jobs) (leb at-loop.loop-i.total.0 a.v.0) c.loop-i-test.true in
+    = let a = c.args in
+      let tests = both (ltb c.loop-i.i a.jobs) (leb c.loop-i.total.0 a.v.0) c.loop-i-test.true in
       (ltb-true _ _ tests.0, leb-true _ _ tests.1) in
-    let below : c.loop-i.i < most_jobs
-    = omega (arith, (going).0, c.requires.0) in
+    let below : c.loop-i.i < most_jobs = omega (arith, going.0, c.requires.0) in
     record { fits = omega (arith, below) }
 
 pub bounds-grades-i : goal.bounds-grades-i
 bounds-grades-i c =
     let going : (c.loop-i.i < c.args.jobs) × (c.loop-i.total.0 ≤ c.args.v.0)
-    = let at-loop = c in
-      let a = at-loop.args in
-      let tests = both (ltb at-loop.loop-i.i a.jobs) (leb at-loop.loop-i.total.0 a.v.0) c.loop-i-test.true in
+    = let a = c.args in
+      let tests = both (ltb c.loop-i.i a.jobs) (leb c.loop-i.total.0 a.v.0) c.loop-i-test.true in
       (ltb-true _ _ tests.0, leb-true _ _ tests.1) in
-    let below : c.loop-i.i < most_jobs
-    = omega (arith, (going).0, c.requires.0) in
+    let below : c.loop-i.i < most_jobs = omega (arith, going.0, c.requires.0) in
     below
 
 pub due_at-claim-requires : goal.due_at-claim-requires
 due_at-claim-requires c =
     let going : (c.loop-i.i < c.args.jobs) × (c.loop-i.total.0 ≤ c.args.v.0)
-    = let at-loop = c in
-      let a = at-loop.args in
-      let tests = both (ltb at-loop.loop-i.i a.jobs) (leb at-loop.loop-i.total.0 a.v.0) c.loop-i-test.true in
+    = let a = c.args in
+      let tests = both (ltb c.loop-i.i a.jobs) (leb c.loop-i.total.0 a.v.0) c.loop-i-test.true in
       (ltb-true _ _ tests.0, leb-true _ _ tests.1) in
-    let below : c.loop-i.i < most_jobs
-    = omega (arith, (going).0, c.requires.0) in
+    let below : c.loop-i.i < most_jobs = omega (arith, going.0, c.requires.0) in
     below
 
 pub overflow_cast-claims : goal.overflow_cast-claims
 overflow_cast-claims c =
-    let due : ℕ
-    = let a = c.args in
+    let due : ℕ = let a = c.args in
       due_in a.slow a.spans a.sizes.now a.carried.now a.table.now c.loop-i.i in
-    let claims : ℕ → ℕ
-    = let a = c.args in
+    let claims : ℕ → ℕ = let a = c.args in
       claim_in a.clock.0 a.slow a.slow a.spans a.grades.now a.releases.now a.sizes.now a.deadlines.now a.carried.now a.table.now in
-    let claimed : (c.if-is_served.claim.0 ≡ (claims) c.loop-i.i) × (c.if-is_served.claim.0 ≤ unknown)
+    let claimed : (c.if-is_served.claim.0 ≡ claims c.loop-i.i) × (c.if-is_served.claim.0 ≤ unknown)
     = elim c.if-is_served.branch [ then-is_served w ↦ let is = ap (λ (u : Units). u.0) w.claim-is in
-      (is ∙ w.due_at-claim.ensures.0 ∙ ap (λ b. on b (due)) (sym w.if-is_served.true ∙ c.is_served.ensures), omega (arith, is, w.due_at-claim.ensures.1))
+      (is ∙ w.due_at-claim.ensures.0 ∙ ap (λ b. on b due) (sym w.if-is_served.true ∙ c.is_served.ensures), omega (arith, is, w.due_at-claim.ensures.1))
       | else-is_served w ↦ let is = ap (λ (u : Units). u.0) w.claim-is in
-      (is ∙ ap (λ b. on b (due)) (sym w.if-is_served.false ∙ c.is_served.ensures), omega (arith, is)) ] in
-    record { fits = omega (arith, (claimed).1) }
+      (is ∙ ap (λ b. on b due) (sym w.if-is_served.false ∙ c.is_served.ensures), omega (arith, is)) ] in
+    record { fits = omega (arith, claimed.1) }
 
 pub offset_bounds-claims-i : goal.offset_bounds-claims-i
 offset_bounds-claims-i c =
     let going : (c.loop-i.i < c.args.jobs) × (c.loop-i.total.0 ≤ c.args.v.0)
-    = let at-loop = c in
-      let a = at-loop.args in
-      let tests = both (ltb at-loop.loop-i.i a.jobs) (leb at-loop.loop-i.total.0 a.v.0) c.loop-i-test.true in
+    = let a = c.args in
+      let tests = both (ltb c.loop-i.i a.jobs) (leb c.loop-i.total.0 a.v.0) c.loop-i-test.true in
       (ltb-true _ _ tests.0, leb-true _ _ tests.1) in
-    let below : c.loop-i.i < most_jobs
-    = omega (arith, (going).0, c.requires.0) in
+    let below : c.loop-i.i < most_jobs = omega (arith, going.0, c.requires.0) in
     record { fits = omega (arith, below) }
 
 pub bounds-claims-i : goal.bounds-claims-i
 bounds-claims-i c =
     let going : (c.loop-i.i < c.args.jobs) × (c.loop-i.total.0 ≤ c.args.v.0)
-    = let at-loop = c in
-      let a = at-loop.args in
-      let tests = both (ltb at-loop.loop-i.i a.jobs) (leb at-loop.loop-i.total.0 a.v.0) c.loop-i-test.true in
+    = let a = c.args in
+      let tests = both (ltb c.loop-i.i a.jobs) (leb c.loop-i.total.0 a.v.0) c.loop-i-test.true in
       (ltb-true _ _ tests.0, leb-true _ _ tests.1) in
-    let below : c.loop-i.i < most_jobs
-    = omega (arith, (going).0, c.requires.0) in
+    let below : c.loop-i.i < most_jobs = omega (arith, going.0, c.requires.0) in
     below
 
 pub overflow_add-total : goal.overflow_add-total
 overflow_add-total c =
     let going : (c.loop-i.i < c.args.jobs) × (c.loop-i.total.0 ≤ c.args.v.0)
-    = let at-loop = c in
-      let a = at-loop.args in
-      let tests = both (ltb at-loop.loop-i.i a.jobs) (leb at-loop.loop-i.total.0 a.v.0) c.loop-i-test.true in
+    = let a = c.args in
+      let tests = both (ltb c.loop-i.i a.jobs) (leb c.loop-i.total.0 a.v.0) c.loop-i-test.true in
       (ltb-true _ _ tests.0, leb-true _ _ tests.1) in
-    let due : ℕ
-    = let a = c.args in
+    let due : ℕ = let a = c.args in
       due_in a.slow a.spans a.sizes.now a.carried.now a.table.now c.loop-i.i in
-    let claims : ℕ → ℕ
-    = let a = c.args in
+    let claims : ℕ → ℕ = let a = c.args in
       claim_in a.clock.0 a.slow a.slow a.spans a.grades.now a.releases.now a.sizes.now a.deadlines.now a.carried.now a.table.now in
-    let claimed : (c.if-is_served.claim.0 ≡ (claims) c.loop-i.i) × (c.if-is_served.claim.0 ≤ unknown)
+    let claimed : (c.if-is_served.claim.0 ≡ claims c.loop-i.i) × (c.if-is_served.claim.0 ≤ unknown)
     = elim c.if-is_served.branch [ then-is_served w ↦ let is = ap (λ (u : Units). u.0) w.claim-is in
-      (is ∙ w.due_at-claim.ensures.0 ∙ ap (λ b. on b (due)) (sym w.if-is_served.true ∙ c.is_served.ensures), omega (arith, is, w.due_at-claim.ensures.1))
+      (is ∙ w.due_at-claim.ensures.0 ∙ ap (λ b. on b due) (sym w.if-is_served.true ∙ c.is_served.ensures), omega (arith, is, w.due_at-claim.ensures.1))
       | else-is_served w ↦ let is = ap (λ (u : Units). u.0) w.claim-is in
-      (is ∙ ap (λ b. on b (due)) (sym w.if-is_served.false ∙ c.is_served.ensures), omega (arith, is)) ] in
-    let joined = c in
-    let turn = joined in
-    omega (arith, (claimed).1, (going).1, turn.requires.1)
+      (is ∙ ap (λ b. on b due) (sym w.if-is_served.false ∙ c.is_served.ensures), omega (arith, is)) ] in
+    omega (arith, claimed.1, going.1, c.requires.1)
 
 pub overflow_add-i : goal.overflow_add-i
 overflow_add-i c =
     let going : (c.loop-i.i < c.args.jobs) × (c.loop-i.total.0 ≤ c.args.v.0)
-    = let at-loop = c in
-      let a = at-loop.args in
-      let tests = both (ltb at-loop.loop-i.i a.jobs) (leb at-loop.loop-i.total.0 a.v.0) c.loop-i-test.true in
+    = let a = c.args in
+      let tests = both (ltb c.loop-i.i a.jobs) (leb c.loop-i.total.0 a.v.0) c.loop-i-test.true in
       (ltb-true _ _ tests.0, leb-true _ _ tests.1) in
-    let below : c.loop-i.i < most_jobs
-    = omega (arith, (going).0, c.requires.0) in
+    let below : c.loop-i.i < most_jobs = omega (arith, going.0, c.requires.0) in
     omega (arith, below)
 
 pub loop-i-smaller : goal.loop-i-smaller
 loop-i-smaller c =
     let going : (c.loop-i.i < c.args.jobs) × (c.loop-i.total.0 ≤ c.args.v.0)
-    = let at-loop = c in
-      let a = at-loop.args in
-      let tests = both (ltb at-loop.loop-i.i a.jobs) (leb at-loop.loop-i.total.0 a.v.0) c.loop-i-test.true in
+    = let a = c.args in
+      let tests = both (ltb c.loop-i.i a.jobs) (leb c.loop-i.total.0 a.v.0) c.loop-i-test.true in
       (ltb-true _ _ tests.0, leb-true _ _ tests.1) in
-    omega (arith, (going).0)
+    omega (arith, going.0)
 
 pub loop-i-preserved : goal.loop-i-preserved
 loop-i-preserved c =
     let going : (c.loop-i.i < c.args.jobs) × (c.loop-i.total.0 ≤ c.args.v.0)
-    = let at-loop = c in
-      let a = at-loop.args in
-      let tests = both (ltb at-loop.loop-i.i a.jobs) (leb at-loop.loop-i.total.0 a.v.0) c.loop-i-test.true in
+    = let a = c.args in
+      let tests = both (ltb c.loop-i.i a.jobs) (leb c.loop-i.total.0 a.v.0) c.loop-i-test.true in
       (ltb-true _ _ tests.0, leb-true _ _ tests.1) in
-    let claims : ℕ → ℕ
-    = let a = c.args in
+    let claims : ℕ → ℕ = let a = c.args in
       claim_in a.clock.0 a.slow a.slow a.spans a.grades.now a.releases.now a.sizes.now a.deadlines.now a.carried.now a.table.now in
-    let due : ℕ
-    = let a = c.args in
+    let due : ℕ = let a = c.args in
       due_in a.slow a.spans a.sizes.now a.carried.now a.table.now c.loop-i.i in
-    let claimed : (c.if-is_served.claim.0 ≡ (claims) c.loop-i.i) × (c.if-is_served.claim.0 ≤ unknown)
+    let claimed : (c.if-is_served.claim.0 ≡ claims c.loop-i.i) × (c.if-is_served.claim.0 ≤ unknown)
     = elim c.if-is_served.branch [ then-is_served w ↦ let is = ap (λ (u : Units). u.0) w.claim-is in
-      (is ∙ w.due_at-claim.ensures.0 ∙ ap (λ b. on b (due)) (sym w.if-is_served.true ∙ c.is_served.ensures), omega (arith, is, w.due_at-claim.ensures.1))
+      (is ∙ w.due_at-claim.ensures.0 ∙ ap (λ b. on b due) (sym w.if-is_served.true ∙ c.is_served.ensures), omega (arith, is, w.due_at-claim.ensures.1))
       | else-is_served w ↦ let is = ap (λ (u : Units). u.0) w.claim-is in
-      (is ∙ ap (λ b. on b (due)) (sym w.if-is_served.false ∙ c.is_served.ensures), omega (arith, is)) ] in
-    let joined = c in
-    let turn = joined in
+      (is ∙ ap (λ b. on b due) (sym w.if-is_served.false ∙ c.is_served.ensures), omega (arith, is)) ] in
     let loop = c.loop-i in (
-      omega (arith, (going).0),
-      filled_next _ loop.i _ loop.invariant.1 (claimed).0,
-      omega (arith, loop.invariant.2, (claimed).0, sum_step (claims) loop.i),
+      omega (arith, going.0),
+      filled_next _ loop.i _ loop.invariant.1 claimed.0,
+      omega (arith, loop.invariant.2, claimed.0, sum_step claims loop.i),
     )
 
 pub returns : goal.returns
 returns c =
-    let claims : ℕ → ℕ
-    = let a = c.args in
+    let claims : ℕ → ℕ = let a = c.args in
       claim_in a.clock.0 a.slow a.slow a.spans a.grades.now a.releases.now a.sizes.now a.deadlines.now a.carried.now a.table.now in
-    let stopped = c in
-    let here = stopped in
-    let a = here.args in
-    let loop = here.loop-i in
+    let a = c.args in
+    let loop = c.loop-i in
     record {
       reached = loop.i;
       within = loop.invariant.0;
       filled_to = loop.invariant.1;
       sums = λ fit.
-          let last : ltb loop.i a.jobs ≡ false = sym (and-true _) ∙ ap (λ b. ltb loop.i a.jobs && b) (sym fit) ∙ stopped.loop-i-test.false in
+          let last : ltb loop.i a.jobs ≡ false = sym (and-true _) ∙ ap (λ b. ltb loop.i a.jobs && b) (sym fit) ∙ c.loop-i-test.false in
           let whole : loop.i ≡ a.jobs = omega (arith, loop.invariant.0, ltb-false loop.i a.jobs last) in
           (whole, rw (← whole) (omega (arith, loop.invariant.2, leb-true loop.total.0 a.v.0 fit)));
       over = λ more.

@@ -6,5 +6,4 @@ use Rattle.dispatch.proofs.claims.claim_at.Goals as goal
 
 pub returns-then-known : goal.returns-then-known
 returns-then-known c =
-    let entry = c in
-    (ap (λ (u : Units). u.0) c.bounded.ensures.0 ∙ entry.requires.1 c.if-known.true, c.bounded.ensures.1)
+    (ap (λ (u : Units). u.0) c.bounded.ensures.0 ∙ c.requires.1 c.if-known.true, c.bounded.ensures.1)

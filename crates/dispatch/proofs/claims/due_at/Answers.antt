@@ -8,23 +8,16 @@ use Rattle.dispatch.proofs.claims.due_at.Goals as goal
 
 pub returns-then-whole : goal.returns-then-whole
 returns-then-whole c =
-    let had = c in
-    let most = had in
     let is = ap (λ (u : Units). u.0) c.left_of.ensures in
-    let by_most = ap (λ (u : Units). u.0) most.bounded-most.ensures.0 in
-    (rw (is, had.as_units-had.ensures, by_most, c.if-whole.true) refl, omega (arith, is, most.bounded-most.ensures.1))
+    let by_most = ap (λ (u : Units). u.0) c.bounded-most.ensures.0 in
+    (rw (is, c.as_units-had.ensures, by_most, c.if-whole.true) refl, omega (arith, is, c.bounded-most.ensures.1))
 
 pub returns : goal.returns
 returns c =
-    let at-lesser-of = c in
-    let at-sum-of = at-lesser-of in
-    let added = at-sum-of in
-    let had = added in
-    let most = had in
-    let entry = most.args in
+    let entry = c.args in
     let is = ap (λ (u : Units). u.0) c.left_of-2.ensures in
-    let least = ap (λ (u : Units). u.0) at-lesser-of.lesser_of.ensures in
-    let by_most = ap (λ (u : Units). u.0) most.bounded-most.ensures.0 in (
-      rw (is, least, had.as_units-had.ensures, by_most, added.if-whole.false, at-sum-of.sum_of.ensures, allotted entry.table.now entry.i entry.spans) refl,
-      omega (arith, is, least, most.bounded-most.ensures.1),
+    let least = ap (λ (u : Units). u.0) c.lesser_of.ensures in
+    let by_most = ap (λ (u : Units). u.0) c.bounded-most.ensures.0 in (
+      rw (is, least, c.as_units-had.ensures, by_most, c.if-whole.false, c.sum_of.ensures, allotted entry.table.now entry.i entry.spans) refl,
+      omega (arith, is, least, c.bounded-most.ensures.1),
     )

@@ -28,31 +28,25 @@ loop-i-init c =
 pub is_of-requires : goal.is_of-requires
 is_of-requires c =
     let going : (c.loop-i.i < c.args.jobs) × (c.loop-i.total.0 ≤ c.args.v.0)
-    = let at-loop = c in
-      let a = at-loop.args in
-      let tests = both (ltb at-loop.loop-i.i a.jobs) (leb at-loop.loop-i.total.0 a.v.0) c.loop-i-test.true in
+    = let a = c.args in
+      let tests = both (ltb c.loop-i.i a.jobs) (leb c.loop-i.total.0 a.v.0) c.loop-i-test.true in
       (ltb-true _ _ tests.0, leb-true _ _ tests.1) in
-    let below : c.loop-i.i < most_jobs
-    = omega (arith, (going).0, c.requires.0) in
+    let below : c.loop-i.i < most_jobs = omega (arith, going.0, c.requires.0) in
     below
 
 pub claim_at-due-requires : goal.claim_at-due-requires
 claim_at-due-requires c =
     let going : (c.loop-i.i < c.args.jobs) × (c.loop-i.total.0 ≤ c.args.v.0)
-    = let at-loop = c in
-      let a = at-loop.args in
-      let tests = both (ltb at-loop.loop-i.i a.jobs) (leb at-loop.loop-i.total.0 a.v.0) c.loop-i-test.true in
+    = let a = c.args in
+      let tests = both (ltb c.loop-i.i a.jobs) (leb c.loop-i.total.0 a.v.0) c.loop-i-test.true in
       (ltb-true _ _ tests.0, leb-true _ _ tests.1) in
-    let below : c.loop-i.i < most_jobs
-    = omega (arith, (going).0, c.requires.0) in
+    let below : c.loop-i.i < most_jobs = omega (arith, going.0, c.requires.0) in
     let class : ℕ → Bool
     = class_in true c.args.clock.0 c.args.grades.now c.args.releases.now c.args.deadlines.now in
-    let i : ℕ
-    = c.loop-i.i in
-    let tested = c in
+    let i : ℕ = c.loop-i.i in
     let i = c.loop-i.i in
-    let passes : class i ≡ true = sym tested.is_of.ensures ∙ c.if-is_of.true in
-    (below, c.loop-i.invariant.4 i (c.requires.2 i (going).0 passes))
+    let passes : class i ≡ true = sym c.is_of.ensures ∙ c.if-is_of.true in
+    (below, c.loop-i.invariant.4 i (c.requires.2 i going.0 passes))
 
 pub overflow_cast-claims : goal.overflow_cast-claims
 overflow_cast-claims c =
@@ -61,66 +55,57 @@ overflow_cast-claims c =
 pub offset_bounds-claims-i : goal.offset_bounds-claims-i
 offset_bounds-claims-i c =
     let going : (c.loop-i.i < c.args.jobs) × (c.loop-i.total.0 ≤ c.args.v.0)
-    = let at-loop = c in
-      let a = at-loop.args in
-      let tests = both (ltb at-loop.loop-i.i a.jobs) (leb at-loop.loop-i.total.0 a.v.0) c.loop-i-test.true in
+    = let a = c.args in
+      let tests = both (ltb c.loop-i.i a.jobs) (leb c.loop-i.total.0 a.v.0) c.loop-i-test.true in
       (ltb-true _ _ tests.0, leb-true _ _ tests.1) in
-    let below : c.loop-i.i < most_jobs
-    = omega (arith, (going).0, c.requires.0) in
+    let below : c.loop-i.i < most_jobs = omega (arith, going.0, c.requires.0) in
     record { fits = omega (arith, below) }
 
 pub bounds-claims-i : goal.bounds-claims-i
 bounds-claims-i c =
     let going : (c.loop-i.i < c.args.jobs) × (c.loop-i.total.0 ≤ c.args.v.0)
-    = let at-loop = c in
-      let a = at-loop.args in
-      let tests = both (ltb at-loop.loop-i.i a.jobs) (leb at-loop.loop-i.total.0 a.v.0) c.loop-i-test.true in
+    = let a = c.args in
+      let tests = both (ltb c.loop-i.i a.jobs) (leb c.loop-i.total.0 a.v.0) c.loop-i-test.true in
       (ltb-true _ _ tests.0, leb-true _ _ tests.1) in
-    let below : c.loop-i.i < most_jobs
-    = omega (arith, (going).0, c.requires.0) in
+    let below : c.loop-i.i < most_jobs = omega (arith, going.0, c.requires.0) in
     below
 
 pub overflow_cast-grants : goal.overflow_cast-grants
 overflow_cast-grants c =
     let dues : ℕ → ℕ
     = due_in c.args.whole c.args.spans c.args.goals.now c.args.carried.now c.args.table.now in
-    let i : ℕ
-    = c.loop-i.i in
+    let i : ℕ = c.loop-i.i in
     let class : ℕ → Bool
     = class_in true c.args.clock.0 c.args.grades.now c.args.releases.now c.args.deadlines.now in
-    let granted : (c.if-is_of.due.0 ≡ on (class (i)) (dues (i))) × (c.if-is_of.due.0 ≤ unknown)
+    let granted : (c.if-is_of.due.0 ≡ on (class i) (dues i)) × (c.if-is_of.due.0 ≤ unknown)
     = elim c.if-is_of.branch [ then-is_of w ↦ let is = ap (λ (u : Units). u.0) w.due-is in
-      (is ∙ w.claim_at-due.ensures.0 ∙ ap (λ b. on b (dues (i))) (sym w.if-is_of.true ∙ c.is_of.ensures), omega (arith, is, w.claim_at-due.ensures.1))
+      (is ∙ w.claim_at-due.ensures.0 ∙ ap (λ b. on b (dues i)) (sym w.if-is_of.true ∙ c.is_of.ensures), omega (arith, is, w.claim_at-due.ensures.1))
       | else-is_of w ↦ let is = ap (λ (u : Units). u.0) w.due-is in
-      (is ∙ ap (λ b. on b (dues (i))) (sym w.if-is_of.false ∙ c.is_of.ensures), omega (arith, is)) ] in
-    record { fits = omega (arith, (granted).1) }
+      (is ∙ ap (λ b. on b (dues i)) (sym w.if-is_of.false ∙ c.is_of.ensures), omega (arith, is)) ] in
+    record { fits = omega (arith, granted.1) }
 
 pub offset_bounds-grants-i : goal.offset_bounds-grants-i
 offset_bounds-grants-i c =
     let going : (c.loop-i.i < c.args.jobs) × (c.loop-i.total.0 ≤ c.args.v.0)
-    = let at-loop = c in
-      let a = at-loop.args in
-      let tests = both (ltb at-loop.loop-i.i a.jobs) (leb at-loop.loop-i.total.0 a.v.0) c.loop-i-test.true in
+    = let a = c.args in
+      let tests = both (ltb c.loop-i.i a.jobs) (leb c.loop-i.total.0 a.v.0) c.loop-i-test.true in
       (ltb-true _ _ tests.0, leb-true _ _ tests.1) in
-    let below : c.loop-i.i < most_jobs
-    = omega (arith, (going).0, c.requires.0) in
+    let below : c.loop-i.i < most_jobs = omega (arith, going.0, c.requires.0) in
     record { fits = omega (arith, below) }
 
 pub bounds-grants-i : goal.bounds-grants-i
 bounds-grants-i c =
     let going : (c.loop-i.i < c.args.jobs) × (c.loop-i.total.0 ≤ c.args.v.0)
-    = let at-loop = c in
-      let a = at-loop.args in
-      let tests = both (ltb at-loop.loop-i.i a.jobs) (leb at-loop.loop-i.total.0 a.v.0) c.loop-i-test.true in
+    = let a = c.args in
+      let tests = both (ltb c.loop-i.i a.jobs) (leb c.loop-i.total.0 a.v.0) c.loop-i-test.true in
       (ltb-true _ _ tests.0, leb-true _ _ tests.1) in
     let class : ℕ → Bool
     = class_in true c.args.clock.0 c.args.grades.now c.args.releases.now c.args.deadlines.now in
     let dues : ℕ → ℕ
     = due_in c.args.whole c.args.spans c.args.goals.now c.args.carried.now c.args.table.now in
-    let here = c in
     omega (
       arith,
-      (going).0,
+      going.0,
       c.requires.1,
       ap length c.loop-i.invariant.1,
       filled_length (λ k. on (class k) (dues k)) c.loop-i.i c.args.grants.now,
@@ -129,75 +114,64 @@ bounds-grants-i c =
 pub overflow_add-total : goal.overflow_add-total
 overflow_add-total c =
     let going : (c.loop-i.i < c.args.jobs) × (c.loop-i.total.0 ≤ c.args.v.0)
-    = let at-loop = c in
-      let a = at-loop.args in
-      let tests = both (ltb at-loop.loop-i.i a.jobs) (leb at-loop.loop-i.total.0 a.v.0) c.loop-i-test.true in
+    = let a = c.args in
+      let tests = both (ltb c.loop-i.i a.jobs) (leb c.loop-i.total.0 a.v.0) c.loop-i-test.true in
       (ltb-true _ _ tests.0, leb-true _ _ tests.1) in
-    let below : c.loop-i.i < most_jobs
-    = omega (arith, (going).0, c.requires.0) in
+    let below : c.loop-i.i < most_jobs = omega (arith, going.0, c.requires.0) in
     let dues : ℕ → ℕ
     = due_in c.args.whole c.args.spans c.args.goals.now c.args.carried.now c.args.table.now in
-    let i : ℕ
-    = c.loop-i.i in
+    let i : ℕ = c.loop-i.i in
     let class : ℕ → Bool
     = class_in true c.args.clock.0 c.args.grades.now c.args.releases.now c.args.deadlines.now in
-    let granted : (c.if-is_of.due.0 ≡ on (class (i)) (dues (i))) × (c.if-is_of.due.0 ≤ unknown)
+    let granted : (c.if-is_of.due.0 ≡ on (class i) (dues i)) × (c.if-is_of.due.0 ≤ unknown)
     = elim c.if-is_of.branch [ then-is_of w ↦ let is = ap (λ (u : Units). u.0) w.due-is in
-      (is ∙ w.claim_at-due.ensures.0 ∙ ap (λ b. on b (dues (i))) (sym w.if-is_of.true ∙ c.is_of.ensures), omega (arith, is, w.claim_at-due.ensures.1))
+      (is ∙ w.claim_at-due.ensures.0 ∙ ap (λ b. on b (dues i)) (sym w.if-is_of.true ∙ c.is_of.ensures), omega (arith, is, w.claim_at-due.ensures.1))
       | else-is_of w ↦ let is = ap (λ (u : Units). u.0) w.due-is in
-      (is ∙ ap (λ b. on b (dues (i))) (sym w.if-is_of.false ∙ c.is_of.ensures), omega (arith, is)) ] in
-    let joined = c in
-    omega (arith, (granted).1, c.loop-i.invariant.3, below)
+      (is ∙ ap (λ b. on b (dues i)) (sym w.if-is_of.false ∙ c.is_of.ensures), omega (arith, is)) ] in
+    omega (arith, granted.1, c.loop-i.invariant.3, below)
 
 pub overflow_add-i : goal.overflow_add-i
 overflow_add-i c =
     let going : (c.loop-i.i < c.args.jobs) × (c.loop-i.total.0 ≤ c.args.v.0)
-    = let at-loop = c in
-      let a = at-loop.args in
-      let tests = both (ltb at-loop.loop-i.i a.jobs) (leb at-loop.loop-i.total.0 a.v.0) c.loop-i-test.true in
+    = let a = c.args in
+      let tests = both (ltb c.loop-i.i a.jobs) (leb c.loop-i.total.0 a.v.0) c.loop-i-test.true in
       (ltb-true _ _ tests.0, leb-true _ _ tests.1) in
-    let below : c.loop-i.i < most_jobs
-    = omega (arith, (going).0, c.requires.0) in
+    let below : c.loop-i.i < most_jobs = omega (arith, going.0, c.requires.0) in
     omega (arith, below)
 
 pub loop-i-smaller : goal.loop-i-smaller
 loop-i-smaller c =
     let going : (c.loop-i.i < c.args.jobs) × (c.loop-i.total.0 ≤ c.args.v.0)
-    = let at-loop = c in
-      let a = at-loop.args in
-      let tests = both (ltb at-loop.loop-i.i a.jobs) (leb at-loop.loop-i.total.0 a.v.0) c.loop-i-test.true in
+    = let a = c.args in
+      let tests = both (ltb c.loop-i.i a.jobs) (leb c.loop-i.total.0 a.v.0) c.loop-i-test.true in
       (ltb-true _ _ tests.0, leb-true _ _ tests.1) in
-    omega (arith, (going).0)
+    omega (arith, going.0)
 
 pub loop-i-preserved : goal.loop-i-preserved
 loop-i-preserved c =
     let going : (c.loop-i.i < c.args.jobs) × (c.loop-i.total.0 ≤ c.args.v.0)
-    = let at-loop = c in
-      let a = at-loop.args in
-      let tests = both (ltb at-loop.loop-i.i a.jobs) (leb at-loop.loop-i.total.0 a.v.0) c.loop-i-test.true in
+    = let a = c.args in
+      let tests = both (ltb c.loop-i.i a.jobs) (leb c.loop-i.total.0 a.v.0) c.loop-i-test.true in
       (ltb-true _ _ tests.0, leb-true _ _ tests.1) in
     let class : ℕ → Bool
     = class_in true c.args.clock.0 c.args.grades.now c.args.releases.now c.args.deadlines.now in
     let dues : ℕ → ℕ
     = due_in c.args.whole c.args.spans c.args.goals.now c.args.carried.now c.args.table.now in
-    let i : ℕ
-    = c.loop-i.i in
-    let granted : (c.if-is_of.due.0 ≡ on (class (i)) (dues (i))) × (c.if-is_of.due.0 ≤ unknown)
+    let i : ℕ = c.loop-i.i in
+    let granted : (c.if-is_of.due.0 ≡ on (class i) (dues i)) × (c.if-is_of.due.0 ≤ unknown)
     = elim c.if-is_of.branch [ then-is_of w ↦ let is = ap (λ (u : Units). u.0) w.due-is in
-      (is ∙ w.claim_at-due.ensures.0 ∙ ap (λ b. on b (dues (i))) (sym w.if-is_of.true ∙ c.is_of.ensures), omega (arith, is, w.claim_at-due.ensures.1))
+      (is ∙ w.claim_at-due.ensures.0 ∙ ap (λ b. on b (dues i)) (sym w.if-is_of.true ∙ c.is_of.ensures), omega (arith, is, w.claim_at-due.ensures.1))
       | else-is_of w ↦ let is = ap (λ (u : Units). u.0) w.due-is in
-      (is ∙ ap (λ b. on b (dues (i))) (sym w.if-is_of.false ∙ c.is_of.ensures), omega (arith, is)) ] in
-    let right : (k : ℕ) → KnownDue c.args.claims.now (dues) k → KnownDue c.if-is_of.claims (dues) k
+      (is ∙ ap (λ b. on b (dues i)) (sym w.if-is_of.false ∙ c.is_of.ensures), omega (arith, is)) ] in
+    let right : (k : ℕ) → KnownDue c.args.claims.now dues k → KnownDue c.if-is_of.claims dues k
     = λ k was. let now = c.loop-i.invariant.4 k was in
-      elim c.if-is_of.branch [ then-is_of w ↦ same_known (dues) k w.claims-is (noted (dues) c.loop-i.claims (i) _ k w.claim_at-due.ensures.0 now)
-      | else-is_of w ↦ same_known (dues) k w.claims-is now ] in
-    let joined = c in
-    let here = c in
+      elim c.if-is_of.branch [ then-is_of w ↦ same_known dues k w.claims-is (noted dues c.loop-i.claims i _ k w.claim_at-due.ensures.0 now)
+      | else-is_of w ↦ same_known dues k w.claims-is now ] in
     let loop = c.loop-i in (
-      omega (arith, (going).0),
-      filled_next _ loop.i _ loop.invariant.1 (granted).0,
-      omega (arith, loop.invariant.2, (granted).0, sum_step (λ k. on (class k) (dues k)) loop.i),
-      omega (arith, loop.invariant.3, (granted).1),
+      omega (arith, going.0),
+      filled_next _ loop.i _ loop.invariant.1 granted.0,
+      omega (arith, loop.invariant.2, granted.0, sum_step (λ k. on (class k) (dues k)) loop.i),
+      omega (arith, loop.invariant.3, granted.1),
       right,
     )
 
@@ -207,9 +181,8 @@ shape_of-grants c =
 
 pub returns : goal.returns
 returns c =
-    let here = c in
-    let a = here.args in
-    let loop = here.loop-i in (
+    let a = c.args in
+    let loop = c.loop-i in (
       record {
         reached = loop.i;
         within = loop.invariant.0;

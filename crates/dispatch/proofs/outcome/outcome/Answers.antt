@@ -17,16 +17,13 @@ use Rattle.dispatch.proofs.outcome.outcome.Goals as goal
 pub returns-then-not-columns_of : goal.returns-then-not-columns_of
 unfolding Step.outcome
 returns-then-not-columns_of c =
-    let at-columns = c in
-    let a = at-columns.args in
-    rw (too_large_unsound a.p a.run (sizes_too_large a.p (sym at-columns.columns_of.ensures.0 ∙ not-true _ (ap not c.if-not-columns_of.true)))) refl
+    let a = c.args in
+    rw (too_large_unsound a.p a.run (sizes_too_large a.p (sym c.columns_of.ensures.0 ∙ not-true _ (ap not c.if-not-columns_of.true)))) refl
 
 pub returns : goal.returns
 returns c =
-    let at-if1 = c in
-    let at-columns = at-if1 in
-    let a = at-columns.args in
+    let a = c.args in
     let none : List ℕ = replicate most_jobs 0 in
     let long : length none ≡ most_jobs = length-replicate {A = ℕ} most_jobs 0 in
     c.outcome_over.ensures a.p
-    (columns_put a.p none none none none at-columns.columns_of.ensures (not-false _ (ap not at-if1.if-not-columns_of.false)) long long long long)
+    (columns_put a.p none none none none c.columns_of.ensures (not-false _ (ap not c.if-not-columns_of.false)) long long long long)

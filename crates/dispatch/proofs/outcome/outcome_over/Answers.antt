@@ -23,16 +23,15 @@ returns-then-not-is_sound c =
     = c.is_sound.ensures ∙ ap is_sound c.readiness_of.ensures
       ∙ readiness_sound (plan_on c.args.o c.args.grades.now c.args.releases.now c.args.sizes.now c.args.deadlines.now) c.args.run.clock.0 c.args.run.carried in
     let e = c.args in
-    columns.unsound_ends e.o e.grades.now e.releases.now e.sizes.now e.deadlines.now e.run e.position (sym (tested) ∙ not-true _ (ap not c.if-not-is_sound.true))
+    columns.unsound_ends e.o e.grades.now e.releases.now e.sizes.now e.deadlines.now e.run e.position (sym tested ∙ not-true _ (ap not c.if-not-is_sound.true))
 
 pub returns-then-o-position : goal.returns-then-o-position
 returns-then-o-position c =
     let tested : c.is_sound.result ≡ sound_at (plan_on c.args.o c.args.grades.now c.args.releases.now c.args.sizes.now c.args.deadlines.now) c.args.run.clock.0 c.args.run.carried
     = c.is_sound.ensures ∙ ap is_sound c.readiness_of.ensures
       ∙ readiness_sound (plan_on c.args.o c.args.grades.now c.args.releases.now c.args.sizes.now c.args.deadlines.now) c.args.run.clock.0 c.args.run.carried in
-    let at-if1 = c in
     let e = c.args in
-    columns.uncounted_ends e.o e.grades.now e.releases.now e.sizes.now e.deadlines.now e.run e.position (sym (tested) ∙ not-false _ (ap not at-if1.if-not-is_sound.false)) c.if-o-position.true
+    columns.uncounted_ends e.o e.grades.now e.releases.now e.sizes.now e.deadlines.now e.run e.position (sym tested ∙ not-false _ (ap not c.if-not-is_sound.false)) c.if-o-position.true
 
 pub offset_bounds-carried-position : goal.offset_bounds-carried-position
 offset_bounds-carried-position c =
@@ -40,9 +39,9 @@ offset_bounds-carried-position c =
     = c.is_sound.ensures ∙ ap is_sound c.readiness_of.ensures
       ∙ readiness_sound (plan_on c.args.o c.args.grades.now c.args.releases.now c.args.sizes.now c.args.deadlines.now) c.args.run.clock.0 c.args.run.carried in
     let sound : columns.Sound c.args.o c.args.grades.now c.args.releases.now c.args.sizes.now c.args.deadlines.now c.args.run c.args.position
-    = sym (tested) ∙ not-false _ (ap not c.if-not-is_sound.false) in
+    = sym tested ∙ not-false _ (ap not c.if-not-is_sound.false) in
     let has_entry : c.args.position < most_jobs
-    = columns.has_entry c.args.o c.args.grades.now c.args.releases.now c.args.sizes.now c.args.deadlines.now c.args.run c.args.position (sound) c.if-o-position.false in
+    = columns.has_entry c.args.o c.args.grades.now c.args.releases.now c.args.sizes.now c.args.deadlines.now c.args.run c.args.position sound c.if-o-position.false in
     omega (arith, has_entry)
 
 pub bounds-carried-position : goal.bounds-carried-position
@@ -51,9 +50,9 @@ bounds-carried-position c =
     = c.is_sound.ensures ∙ ap is_sound c.readiness_of.ensures
       ∙ readiness_sound (plan_on c.args.o c.args.grades.now c.args.releases.now c.args.sizes.now c.args.deadlines.now) c.args.run.clock.0 c.args.run.carried in
     let sound : columns.Sound c.args.o c.args.grades.now c.args.releases.now c.args.sizes.now c.args.deadlines.now c.args.run c.args.position
-    = sym (tested) ∙ not-false _ (ap not c.if-not-is_sound.false) in
+    = sym tested ∙ not-false _ (ap not c.if-not-is_sound.false) in
     let has_entry : c.args.position < most_jobs
-    = columns.has_entry c.args.o c.args.grades.now c.args.releases.now c.args.sizes.now c.args.deadlines.now c.args.run c.args.position (sound) c.if-o-position.false in
+    = columns.has_entry c.args.o c.args.grades.now c.args.releases.now c.args.sizes.now c.args.deadlines.now c.args.run c.args.position sound c.if-o-position.false in
     omega (arith, has_entry)
 
 pub offset_bounds-sizes-position : goal.offset_bounds-sizes-position
@@ -62,9 +61,9 @@ offset_bounds-sizes-position c =
     = c.is_sound.ensures ∙ ap is_sound c.readiness_of.ensures
       ∙ readiness_sound (plan_on c.args.o c.args.grades.now c.args.releases.now c.args.sizes.now c.args.deadlines.now) c.args.run.clock.0 c.args.run.carried in
     let sound : columns.Sound c.args.o c.args.grades.now c.args.releases.now c.args.sizes.now c.args.deadlines.now c.args.run c.args.position
-    = sym (tested) ∙ not-false _ (ap not c.if-not-is_sound.false) in
+    = sym tested ∙ not-false _ (ap not c.if-not-is_sound.false) in
     let has_entry : c.args.position < most_jobs
-    = columns.has_entry c.args.o c.args.grades.now c.args.releases.now c.args.sizes.now c.args.deadlines.now c.args.run c.args.position (sound) c.if-o-position.false in
+    = columns.has_entry c.args.o c.args.grades.now c.args.releases.now c.args.sizes.now c.args.deadlines.now c.args.run c.args.position sound c.if-o-position.false in
     omega (arith, has_entry)
 
 pub bounds-sizes-position : goal.bounds-sizes-position
@@ -73,9 +72,9 @@ bounds-sizes-position c =
     = c.is_sound.ensures ∙ ap is_sound c.readiness_of.ensures
       ∙ readiness_sound (plan_on c.args.o c.args.grades.now c.args.releases.now c.args.sizes.now c.args.deadlines.now) c.args.run.clock.0 c.args.run.carried in
     let sound : columns.Sound c.args.o c.args.grades.now c.args.releases.now c.args.sizes.now c.args.deadlines.now c.args.run c.args.position
-    = sym (tested) ∙ not-false _ (ap not c.if-not-is_sound.false) in
+    = sym tested ∙ not-false _ (ap not c.if-not-is_sound.false) in
     let has_entry : c.args.position < most_jobs
-    = columns.has_entry c.args.o c.args.grades.now c.args.releases.now c.args.sizes.now c.args.deadlines.now c.args.run c.args.position (sound) c.if-o-position.false in
+    = columns.has_entry c.args.o c.args.grades.now c.args.releases.now c.args.sizes.now c.args.deadlines.now c.args.run c.args.position sound c.if-o-position.false in
     omega (arith, has_entry)
 
 pub returns-then-had-size : goal.returns-then-had-size
@@ -84,15 +83,13 @@ returns-then-had-size c =
     = c.is_sound.ensures ∙ ap is_sound c.readiness_of.ensures
       ∙ readiness_sound (plan_on c.args.o c.args.grades.now c.args.releases.now c.args.sizes.now c.args.deadlines.now) c.args.run.clock.0 c.args.run.carried in
     let sound : columns.Sound c.args.o c.args.grades.now c.args.releases.now c.args.sizes.now c.args.deadlines.now c.args.run c.args.position
-    = sym (tested) ∙ not-false _ (ap not c.if-not-is_sound.false) in
+    = sym tested ∙ not-false _ (ap not c.if-not-is_sound.false) in
     let had : c.as_units-had.result.0 ≡ get_or c.args.run.carried c.args.position 0
     = ap (λ (u : Units). u.0) c.as_units-had.ensures in
     let size : c.as_units-size.result.0 ≡ get_or c.args.sizes.now c.args.position 0
     = ap (λ (u : Units). u.0) c.as_units-size.ensures in
-    let at-units = c in
-    let within = c in
     let e = c.args in
-    columns.met_ends e.o e.grades.now e.releases.now e.sizes.now e.deadlines.now e.run e.position (sound) within.if-o-position.false (sym (had) ∙ c.if-had-size.true ∙ size)
+    columns.met_ends e.o e.grades.now e.releases.now e.sizes.now e.deadlines.now e.run e.position sound c.if-o-position.false (sym had ∙ c.if-had-size.true ∙ size)
 
 pub bounds-ended-position : goal.bounds-ended-position
 bounds-ended-position c =
@@ -100,9 +97,9 @@ bounds-ended-position c =
     = c.is_sound.ensures ∙ ap is_sound c.readiness_of.ensures
       ∙ readiness_sound (plan_on c.args.o c.args.grades.now c.args.releases.now c.args.sizes.now c.args.deadlines.now) c.args.run.clock.0 c.args.run.carried in
     let sound : columns.Sound c.args.o c.args.grades.now c.args.releases.now c.args.sizes.now c.args.deadlines.now c.args.run c.args.position
-    = sym (tested) ∙ not-false _ (ap not c.if-not-is_sound.false) in
+    = sym tested ∙ not-false _ (ap not c.if-not-is_sound.false) in
     let has_entry : c.args.position < most_jobs
-    = columns.has_entry c.args.o c.args.grades.now c.args.releases.now c.args.sizes.now c.args.deadlines.now c.args.run c.args.position (sound) c.if-o-position.false in
+    = columns.has_entry c.args.o c.args.grades.now c.args.releases.now c.args.sizes.now c.args.deadlines.now c.args.run c.args.position sound c.if-o-position.false in
     omega (arith, has_entry)
 
 pub returns-then-ended-position : goal.returns-then-ended-position
@@ -111,17 +108,15 @@ returns-then-ended-position c =
     = c.is_sound.ensures ∙ ap is_sound c.readiness_of.ensures
       ∙ readiness_sound (plan_on c.args.o c.args.grades.now c.args.releases.now c.args.sizes.now c.args.deadlines.now) c.args.run.clock.0 c.args.run.carried in
     let sound : columns.Sound c.args.o c.args.grades.now c.args.releases.now c.args.sizes.now c.args.deadlines.now c.args.run c.args.position
-    = sym (tested) ∙ not-false _ (ap not c.if-not-is_sound.false) in
+    = sym tested ∙ not-false _ (ap not c.if-not-is_sound.false) in
     let had : c.as_units-had.result.0 ≡ get_or c.args.run.carried c.args.position 0
     = ap (λ (u : Units). u.0) c.as_units-had.ensures in
     let size : c.as_units-size.result.0 ≡ get_or c.args.sizes.now c.args.position 0
     = ap (λ (u : Units). u.0) c.as_units-size.ensures in
     let differ : get_or c.args.run.carried c.args.position 0 ≢ get_or c.args.sizes.now c.args.position 0
-    = λ e. c.if-had-size.false (had ∙ e ∙ sym (size)) in
-    let at-if3 = c in
-    let within = c in
+    = λ e. c.if-had-size.false (had ∙ e ∙ sym size) in
     let e = c.args in
-    columns.ended_ends e.o e.grades.now e.releases.now e.sizes.now e.deadlines.now e.run e.position (sound) within.if-o-position.false (differ) c.if-ended-position.true
+    columns.ended_ends e.o e.grades.now e.releases.now e.sizes.now e.deadlines.now e.run e.position sound c.if-o-position.false differ c.if-ended-position.true
 
 pub offset_bounds-grades-position : goal.offset_bounds-grades-position
 offset_bounds-grades-position c =
@@ -129,9 +124,9 @@ offset_bounds-grades-position c =
     = c.is_sound.ensures ∙ ap is_sound c.readiness_of.ensures
       ∙ readiness_sound (plan_on c.args.o c.args.grades.now c.args.releases.now c.args.sizes.now c.args.deadlines.now) c.args.run.clock.0 c.args.run.carried in
     let sound : columns.Sound c.args.o c.args.grades.now c.args.releases.now c.args.sizes.now c.args.deadlines.now c.args.run c.args.position
-    = sym (tested) ∙ not-false _ (ap not c.if-not-is_sound.false) in
+    = sym tested ∙ not-false _ (ap not c.if-not-is_sound.false) in
     let has_entry : c.args.position < most_jobs
-    = columns.has_entry c.args.o c.args.grades.now c.args.releases.now c.args.sizes.now c.args.deadlines.now c.args.run c.args.position (sound) c.if-o-position.false in
+    = columns.has_entry c.args.o c.args.grades.now c.args.releases.now c.args.sizes.now c.args.deadlines.now c.args.run c.args.position sound c.if-o-position.false in
     omega (arith, has_entry)
 
 pub bounds-grades-position : goal.bounds-grades-position
@@ -140,9 +135,9 @@ bounds-grades-position c =
     = c.is_sound.ensures ∙ ap is_sound c.readiness_of.ensures
       ∙ readiness_sound (plan_on c.args.o c.args.grades.now c.args.releases.now c.args.sizes.now c.args.deadlines.now) c.args.run.clock.0 c.args.run.carried in
     let sound : columns.Sound c.args.o c.args.grades.now c.args.releases.now c.args.sizes.now c.args.deadlines.now c.args.run c.args.position
-    = sym (tested) ∙ not-false _ (ap not c.if-not-is_sound.false) in
+    = sym tested ∙ not-false _ (ap not c.if-not-is_sound.false) in
     let has_entry : c.args.position < most_jobs
-    = columns.has_entry c.args.o c.args.grades.now c.args.releases.now c.args.sizes.now c.args.deadlines.now c.args.run c.args.position (sound) c.if-o-position.false in
+    = columns.has_entry c.args.o c.args.grades.now c.args.releases.now c.args.sizes.now c.args.deadlines.now c.args.run c.args.position sound c.if-o-position.false in
     omega (arith, has_entry)
 
 pub returns-then-grades-position : goal.returns-then-grades-position
@@ -151,18 +146,15 @@ returns-then-grades-position c =
     = c.is_sound.ensures ∙ ap is_sound c.readiness_of.ensures
       ∙ readiness_sound (plan_on c.args.o c.args.grades.now c.args.releases.now c.args.sizes.now c.args.deadlines.now) c.args.run.clock.0 c.args.run.carried in
     let sound : columns.Sound c.args.o c.args.grades.now c.args.releases.now c.args.sizes.now c.args.deadlines.now c.args.run c.args.position
-    = sym (tested) ∙ not-false _ (ap not c.if-not-is_sound.false) in
+    = sym tested ∙ not-false _ (ap not c.if-not-is_sound.false) in
     let had : c.as_units-had.result.0 ≡ get_or c.args.run.carried c.args.position 0
     = ap (λ (u : Units). u.0) c.as_units-had.ensures in
     let size : c.as_units-size.result.0 ≡ get_or c.args.sizes.now c.args.position 0
     = ap (λ (u : Units). u.0) c.as_units-size.ensures in
     let differ : get_or c.args.run.carried c.args.position 0 ≢ get_or c.args.sizes.now c.args.position 0
-    = λ e. c.if-had-size.false (had ∙ e ∙ sym (size)) in
-    let at-if4 = c in
-    let at-if3 = c in
-    let within = c in
+    = λ e. c.if-had-size.false (had ∙ e ∙ sym size) in
     let e = c.args in
-    columns.discarded_ends e.o e.grades.now e.releases.now e.sizes.now e.deadlines.now e.run e.position (sound) within.if-o-position.false (differ) at-if4.if-ended-position.false c.if-grades-position.true
+    columns.discarded_ends e.o e.grades.now e.releases.now e.sizes.now e.deadlines.now e.run e.position sound c.if-o-position.false differ c.if-ended-position.false c.if-grades-position.true
 
 pub offset_bounds-deadlines-position : goal.offset_bounds-deadlines-position
 offset_bounds-deadlines-position c =
@@ -170,9 +162,9 @@ offset_bounds-deadlines-position c =
     = c.is_sound.ensures ∙ ap is_sound c.readiness_of.ensures
       ∙ readiness_sound (plan_on c.args.o c.args.grades.now c.args.releases.now c.args.sizes.now c.args.deadlines.now) c.args.run.clock.0 c.args.run.carried in
     let sound : columns.Sound c.args.o c.args.grades.now c.args.releases.now c.args.sizes.now c.args.deadlines.now c.args.run c.args.position
-    = sym (tested) ∙ not-false _ (ap not c.if-not-is_sound.false) in
+    = sym tested ∙ not-false _ (ap not c.if-not-is_sound.false) in
     let has_entry : c.args.position < most_jobs
-    = columns.has_entry c.args.o c.args.grades.now c.args.releases.now c.args.sizes.now c.args.deadlines.now c.args.run c.args.position (sound) c.if-o-position.false in
+    = columns.has_entry c.args.o c.args.grades.now c.args.releases.now c.args.sizes.now c.args.deadlines.now c.args.run c.args.position sound c.if-o-position.false in
     omega (arith, has_entry)
 
 pub bounds-deadlines-position : goal.bounds-deadlines-position
@@ -181,9 +173,9 @@ bounds-deadlines-position c =
     = c.is_sound.ensures ∙ ap is_sound c.readiness_of.ensures
       ∙ readiness_sound (plan_on c.args.o c.args.grades.now c.args.releases.now c.args.sizes.now c.args.deadlines.now) c.args.run.clock.0 c.args.run.carried in
     let sound : columns.Sound c.args.o c.args.grades.now c.args.releases.now c.args.sizes.now c.args.deadlines.now c.args.run c.args.position
-    = sym (tested) ∙ not-false _ (ap not c.if-not-is_sound.false) in
+    = sym tested ∙ not-false _ (ap not c.if-not-is_sound.false) in
     let has_entry : c.args.position < most_jobs
-    = columns.has_entry c.args.o c.args.grades.now c.args.releases.now c.args.sizes.now c.args.deadlines.now c.args.run c.args.position (sound) c.if-o-position.false in
+    = columns.has_entry c.args.o c.args.grades.now c.args.releases.now c.args.sizes.now c.args.deadlines.now c.args.run c.args.position sound c.if-o-position.false in
     omega (arith, has_entry)
 
 pub returns-then-deadline-clock : goal.returns-then-deadline-clock
@@ -192,19 +184,15 @@ returns-then-deadline-clock c =
     = c.is_sound.ensures ∙ ap is_sound c.readiness_of.ensures
       ∙ readiness_sound (plan_on c.args.o c.args.grades.now c.args.releases.now c.args.sizes.now c.args.deadlines.now) c.args.run.clock.0 c.args.run.carried in
     let sound : columns.Sound c.args.o c.args.grades.now c.args.releases.now c.args.sizes.now c.args.deadlines.now c.args.run c.args.position
-    = sym (tested) ∙ not-false _ (ap not c.if-not-is_sound.false) in
+    = sym tested ∙ not-false _ (ap not c.if-not-is_sound.false) in
     let had : c.as_units-had.result.0 ≡ get_or c.args.run.carried c.args.position 0
     = ap (λ (u : Units). u.0) c.as_units-had.ensures in
     let size : c.as_units-size.result.0 ≡ get_or c.args.sizes.now c.args.position 0
     = ap (λ (u : Units). u.0) c.as_units-size.ensures in
     let differ : get_or c.args.run.carried c.args.position 0 ≢ get_or c.args.sizes.now c.args.position 0
-    = λ e. c.if-had-size.false (had ∙ e ∙ sym (size)) in
-    let at-if5 = c in
-    let at-if4 = at-if5 in
-    let at-if3 = c in
-    let within = c in
+    = λ e. c.if-had-size.false (had ∙ e ∙ sym size) in
     let e = c.args in
-    columns.missed_ends e.o e.grades.now e.releases.now e.sizes.now e.deadlines.now e.run e.position (sound) within.if-o-position.false (differ) at-if4.if-ended-position.false at-if5.if-grades-position.false c.if-deadline-clock.true
+    columns.missed_ends e.o e.grades.now e.releases.now e.sizes.now e.deadlines.now e.run e.position sound c.if-o-position.false differ c.if-ended-position.false c.if-grades-position.false c.if-deadline-clock.true
 
 pub returns : goal.returns
 returns c =
@@ -212,16 +200,12 @@ returns c =
     = c.is_sound.ensures ∙ ap is_sound c.readiness_of.ensures
       ∙ readiness_sound (plan_on c.args.o c.args.grades.now c.args.releases.now c.args.sizes.now c.args.deadlines.now) c.args.run.clock.0 c.args.run.carried in
     let sound : columns.Sound c.args.o c.args.grades.now c.args.releases.now c.args.sizes.now c.args.deadlines.now c.args.run c.args.position
-    = sym (tested) ∙ not-false _ (ap not c.if-not-is_sound.false) in
+    = sym tested ∙ not-false _ (ap not c.if-not-is_sound.false) in
     let had : c.as_units-had.result.0 ≡ get_or c.args.run.carried c.args.position 0
     = ap (λ (u : Units). u.0) c.as_units-had.ensures in
     let size : c.as_units-size.result.0 ≡ get_or c.args.sizes.now c.args.position 0
     = ap (λ (u : Units). u.0) c.as_units-size.ensures in
     let differ : get_or c.args.run.carried c.args.position 0 ≢ get_or c.args.sizes.now c.args.position 0
-    = λ e. c.if-had-size.false (had ∙ e ∙ sym (size)) in
-    let at-if5 = c in
-    let at-if4 = at-if5 in
-    let at-if3 = c in
-    let within = c in
+    = λ e. c.if-had-size.false (had ∙ e ∙ sym size) in
     let e = c.args in
-    columns.open_ends e.o e.grades.now e.releases.now e.sizes.now e.deadlines.now e.run e.position (sound) within.if-o-position.false (differ) at-if4.if-ended-position.false at-if5.if-grades-position.false c.if-deadline-clock.false
+    columns.open_ends e.o e.grades.now e.releases.now e.sizes.now e.deadlines.now e.run e.position sound c.if-o-position.false differ c.if-ended-position.false c.if-grades-position.false c.if-deadline-clock.false

@@ -13,8 +13,6 @@ returns-then-not-served c =
 
 pub returns : goal.returns
 returns c =
-    let had = c in
-    let most = had in
     let is = ap (λ (u : Units). u.0) c.left_of.ensures in
-    let by_most = ap (λ (u : Units). u.0) most.bounded.ensures.0 in
-    (rw (is, by_most, had.as_units.ensures, not-false most.args.served (ap not most.if-not-served.false)) refl, omega (arith, is, most.bounded.ensures.1))
+    let by_most = ap (λ (u : Units). u.0) c.bounded.ensures.0 in
+    (rw (is, by_most, c.as_units.ensures, not-false c.args.served (ap not c.if-not-served.false)) refl, omega (arith, is, c.bounded.ensures.1))

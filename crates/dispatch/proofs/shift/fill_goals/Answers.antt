@@ -18,9 +18,7 @@ overflow_cast-goals c =
 
 pub loop-i-preserved : goal.loop-i-preserved
 loop-i-preserved c =
-    let at-goal = c in
-    let at-loop = at-goal in
-    (omega arith, filled_next _ at-loop.loop-i.i _ at-loop.loop-i.invariant.1 at-goal.goal_at.ensures.0)
+    (omega arith, filled_next _ c.loop-i.i _ c.loop-i.invariant.1 c.goal_at.ensures.0)
 
 pub returns : goal.returns
 returns c =

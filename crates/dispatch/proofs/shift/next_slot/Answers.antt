@@ -22,140 +22,87 @@ same-jobs spans sizes table goals e kept = rw e kept
 
 pub returns-then-clock-last : goal.returns-then-clock-last
 returns-then-clock-last c =
-    let table : List ℕ
-    = c.args.table.now in
-    let v : ℕ
-    = c.args.v in
-    let grants : List ℕ
-    = c.args.grants.now in
-    let run : Run
-    = run_at c.args.at c.args.carried.now c.args.ended.now in
-    let o : Outline
-    = c.args.o in
-    let grades : List ℕ
-    = c.args.grades.now in
-    let releases : List ℕ
-    = c.args.releases.now in
-    let sizes : List ℕ
-    = c.args.sizes.now in
-    let deadlines : List ℕ
-    = c.args.deadlines.now in
-    let q : Plan
-    = plan_on (o) (grades) (releases) (sizes) (deadlines) in
-    let here = c in (
-      slot_refused (q) (table) (run) (v) (grants)
-          (sym (late_fault (q) (table) (run) (v) (grants) here.requires.0 here.requires.2 here.requires.3 (c.if-clock-last.true ∙ here.requires.1))) refl,
-      here.requires.4,
-      here.requires.5,
+    let table : List ℕ = c.args.table.now in
+    let v : ℕ = c.args.v in
+    let grants : List ℕ = c.args.grants.now in
+    let run : Run = run_at c.args.at c.args.carried.now c.args.ended.now in
+    let o : Outline = c.args.o in
+    let grades : List ℕ = c.args.grades.now in
+    let releases : List ℕ = c.args.releases.now in
+    let sizes : List ℕ = c.args.sizes.now in
+    let deadlines : List ℕ = c.args.deadlines.now in
+    let q : Plan = plan_on o grades releases sizes deadlines in
+    (
+      slot_refused q table run v grants
+          (sym (late_fault q table run v grants c.requires.0 c.requires.2 c.requires.3 (c.if-clock-last.true ∙ c.requires.1))) refl,
+      c.requires.4,
+      c.requires.5,
     )
 
 pub returns-then-o-v : goal.returns-then-o-v
 returns-then-o-v c =
-    let table : List ℕ
-    = c.args.table.now in
-    let v : ℕ
-    = c.args.v in
-    let grants : List ℕ
-    = c.args.grants.now in
-    let run : Run
-    = run_at c.args.at c.args.carried.now c.args.ended.now in
-    let o : Outline
-    = c.args.o in
-    let grades : List ℕ
-    = c.args.grades.now in
-    let releases : List ℕ
-    = c.args.releases.now in
-    let sizes : List ℕ
-    = c.args.sizes.now in
-    let deadlines : List ℕ
-    = c.args.deadlines.now in
-    let q : Plan
-    = plan_on (o) (grades) (releases) (sizes) (deadlines) in
-    let at-else = c in
-    let here = at-else in (
-      slot_refused (q) (table) (run) (v) (grants)
-          (sym (fast_fault (q) (table) (run) (v) (grants) here.requires.0 here.requires.2 here.requires.3
-          (λ e. at-else.if-clock-last.false (e ∙ sym here.requires.1)) c.if-o-v.true)) refl,
-      here.requires.4,
-      here.requires.5,
+    let table : List ℕ = c.args.table.now in
+    let v : ℕ = c.args.v in
+    let grants : List ℕ = c.args.grants.now in
+    let run : Run = run_at c.args.at c.args.carried.now c.args.ended.now in
+    let o : Outline = c.args.o in
+    let grades : List ℕ = c.args.grades.now in
+    let releases : List ℕ = c.args.releases.now in
+    let sizes : List ℕ = c.args.sizes.now in
+    let deadlines : List ℕ = c.args.deadlines.now in
+    let q : Plan = plan_on o grades releases sizes deadlines in
+    (
+      slot_refused q table run v grants
+          (sym (fast_fault q table run v grants c.requires.0 c.requires.2 c.requires.3
+          (λ e. c.if-clock-last.false (e ∙ sym c.requires.1)) c.if-o-v.true)) refl,
+      c.requires.4,
+      c.requires.5,
     )
 
 pub renew_goals-requires : goal.renew_goals-requires
 renew_goals-requires c =
-    let sizes : List ℕ
-    = c.args.sizes.now in
-    let table : List ℕ
-    = c.args.table.now in
-    let counting = c in
-    let here = counting in
-    (omega (arith, counting.counted_within-jobs.ensures), here.requires.4, same-jobs here.args.spans (sizes) (table) here.args.goals.now counting.counted_within-jobs.ensures here.requires.5)
+    let sizes : List ℕ = c.args.sizes.now in
+    let table : List ℕ = c.args.table.now in
+    (omega (arith, c.counted_within-jobs.ensures), c.requires.4, same-jobs c.args.spans sizes table c.args.goals.now c.counted_within-jobs.ensures c.requires.5)
 
 pub carry_kept-at-requires : goal.carry_kept-at-requires
 carry_kept-at-requires c =
-    let o : Outline
-    = c.args.o in
-    let grades : List ℕ
-    = c.args.grades.now in
-    let releases : List ℕ
-    = c.args.releases.now in
-    let sizes : List ℕ
-    = c.args.sizes.now in
-    let deadlines : List ℕ
-    = c.args.deadlines.now in
-    let table : List ℕ
-    = c.args.table.now in
-    let run : Run
-    = run_at c.args.at c.args.carried.now c.args.ended.now in
-    let q : Plan
-    = plan_on (o) (grades) (releases) (sizes) (deadlines) in
-    let at-renew = c in
-    let at-spans = at-renew in
-    let at_count = at-spans in
-    let at-else = at_count in
-    let here = at-else in (
-      here.requires.0,
-      here.requires.3,
-      at-else.if-o-v.false,
-      kept_are_goals (o) (grades) (releases) (sizes) (deadlines) (table) at-renew.renew_goals.new.goals (run).clock (run).slow at-spans.spans_of-begun.result
-          at-spans.spans_of-begun.ensures.0
-          (λ e. at-spans.spans_of-begun.ensures.1 (q) e refl
-          (λ i h. sym (release_on (o) (grades) (releases) (sizes) (deadlines) i h))
-          (λ i h. sym (deadline_on (o) (grades) (releases) (sizes) (deadlines) i h)))
-          (same-jobs at-spans.spans_of-begun.result (sizes) (table) at-renew.renew_goals.new.goals (sym at_count.counted_within-jobs.ensures) at-renew.renew_goals.ensures.1),
+    let o : Outline = c.args.o in
+    let grades : List ℕ = c.args.grades.now in
+    let releases : List ℕ = c.args.releases.now in
+    let sizes : List ℕ = c.args.sizes.now in
+    let deadlines : List ℕ = c.args.deadlines.now in
+    let table : List ℕ = c.args.table.now in
+    let run : Run = run_at c.args.at c.args.carried.now c.args.ended.now in
+    let q : Plan = plan_on o grades releases sizes deadlines in
+    (
+      c.requires.0,
+      c.requires.3,
+      c.if-o-v.false,
+      kept_are_goals o grades releases sizes deadlines table c.renew_goals.new.goals run.clock run.slow c.spans_of-begun.result
+          c.spans_of-begun.ensures.0
+          (λ e. c.spans_of-begun.ensures.1 q e refl
+          (λ i h. sym (release_on o grades releases sizes deadlines i h))
+          (λ i h. sym (deadline_on o grades releases sizes deadlines i h)))
+          (same-jobs c.spans_of-begun.result sizes table c.renew_goals.new.goals (sym c.counted_within-jobs.ensures) c.renew_goals.ensures.1),
     )
 
 pub returns : goal.returns
 returns c =
-    let sizes : List ℕ
-    = c.args.sizes.now in
-    let table : List ℕ
-    = c.args.table.now in
-    let v : ℕ
-    = c.args.v in
-    let grants : List ℕ
-    = c.args.grants.now in
-    let run : Run
-    = run_at c.args.at c.args.carried.now c.args.ended.now in
-    let o : Outline
-    = c.args.o in
-    let grades : List ℕ
-    = c.args.grades.now in
-    let releases : List ℕ
-    = c.args.releases.now in
-    let deadlines : List ℕ
-    = c.args.deadlines.now in
-    let q : Plan
-    = plan_on (o) (grades) (releases) (sizes) (deadlines) in
-    let at-carry = c in
-    let at-renew = at-carry in
-    let at-spans = at-renew in
-    let at_count = at-spans in
-    let at-else = at_count in
-    let at_first = at-else in
-    let here = at_first in (
-      slot_done (q) (table) (run) (v) (grants)
-          (sym (no_fault (q) (table) (run) (v) (grants) here.requires.0 here.requires.2 here.requires.3
-          (λ e. at_first.if-clock-last.false (e ∙ sym here.requires.1)) at-else.if-o-v.false)) refl at-carry.carry_kept-at.ensures.0 at-carry.carry_kept-at.ensures.1,
-      at-renew.renew_goals.ensures.0,
-      same-jobs at-spans.spans_of-begun.result (sizes) (table) at-renew.renew_goals.new.goals (sym at_count.counted_within-jobs.ensures) at-renew.renew_goals.ensures.1,
+    let sizes : List ℕ = c.args.sizes.now in
+    let table : List ℕ = c.args.table.now in
+    let v : ℕ = c.args.v in
+    let grants : List ℕ = c.args.grants.now in
+    let run : Run = run_at c.args.at c.args.carried.now c.args.ended.now in
+    let o : Outline = c.args.o in
+    let grades : List ℕ = c.args.grades.now in
+    let releases : List ℕ = c.args.releases.now in
+    let deadlines : List ℕ = c.args.deadlines.now in
+    let q : Plan = plan_on o grades releases sizes deadlines in
+    (
+      slot_done q table run v grants
+          (sym (no_fault q table run v grants c.requires.0 c.requires.2 c.requires.3
+          (λ e. c.if-clock-last.false (e ∙ sym c.requires.1)) c.if-o-v.false)) refl c.carry_kept-at.ensures.0 c.carry_kept-at.ensures.1,
+      c.renew_goals.ensures.0,
+      same-jobs c.spans_of-begun.result sizes table c.renew_goals.new.goals (sym c.counted_within-jobs.ensures) c.renew_goals.ensures.1,
     )

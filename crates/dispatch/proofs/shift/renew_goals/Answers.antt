@@ -9,14 +9,12 @@ use Rattle.dispatch.proofs.shift.renew_goals.Goals as goal
 
 pub returns-then-begun-spans : goal.returns-then-begun-spans
 returns-then-begun-spans c =
-    let entry = c in
-    (entry.requires.1, λ k l. entry.requires.2 k l ∙ ap (λ s. kept_goal s entry.args.sizes.now entry.args.table.now k) (sym c.if-begun-spans.true))
+    (c.requires.1, λ k l. c.requires.2 k l ∙ ap (λ s. kept_goal s c.args.sizes.now c.args.table.now k) (sym c.if-begun-spans.true))
 
 pub returns : goal.returns
 returns c =
-    let entry = c in
-    let f = kept_goal entry.args.begun entry.args.sizes.now entry.args.table.now in
-    let was = entry.args.goals.now in (
-      ap length c.fill_goals.ensures ∙ filled_length f entry.args.jobs was ∙ entry.requires.1,
-      λ k l. ap (λ g. get_or g k 0) c.fill_goals.ensures ∙ filled_at f entry.args.jobs was k (rw entry.requires.1 (omega (arith, entry.requires.0))) l,
+    let f = kept_goal c.args.begun c.args.sizes.now c.args.table.now in
+    let was = c.args.goals.now in (
+      ap length c.fill_goals.ensures ∙ filled_length f c.args.jobs was ∙ c.requires.1,
+      λ k l. ap (λ g. get_or g k 0) c.fill_goals.ensures ∙ filled_at f c.args.jobs was k (rw c.requires.1 (omega (arith, c.requires.0))) l,
     )

@@ -26,154 +26,99 @@ claim_kept-total-requires c =
 
 pub returns-then-total-most : goal.returns-then-total-most
 returns-then-total-most c =
-    let o : Outline
-    = c.args.o in
-    let grades : List ℕ
-    = c.args.grades.now in
-    let releases : List ℕ
-    = c.args.releases.now in
-    let goals : List ℕ
-    = c.args.goals.now in
-    let deadlines : List ℕ
-    = c.args.deadlines.now in
-    let table : List ℕ
-    = c.args.table.now in
-    let carried : List ℕ
-    = c.args.carried.now in
-    let run : Run
-    = settled_run c.args.clock c.args.slow (carried) in
-    let v : ℕ
-    = c.args.v.0 in
-    let n : ℕ
-    = min (o).count most_jobs in
-    let jobs : c.counted_within-jobs.result ≡ (n)
-    = c.counted_within-jobs.ensures in
-    let most : c.over-most.result.0 ≡ (v)
-    = ap (λ (u : Units). u.0) c.over-most.ensures ∙ mul-one (v) in
+    let o : Outline = c.args.o in
+    let grades : List ℕ = c.args.grades.now in
+    let releases : List ℕ = c.args.releases.now in
+    let goals : List ℕ = c.args.goals.now in
+    let deadlines : List ℕ = c.args.deadlines.now in
+    let table : List ℕ = c.args.table.now in
+    let carried : List ℕ = c.args.carried.now in
+    let run : Run = settled_run c.args.clock c.args.slow carried in
+    let v : ℕ = c.args.v.0 in
+    let n : ℕ = min o.count most_jobs in
+    let jobs : c.counted_within-jobs.result ≡ n = c.counted_within-jobs.ensures in
+    let most : c.over-most.result.0 ≡ v = ap (λ (u : Units). u.0) c.over-most.ensures ∙ mul-one v in
     let claim : ℕ → ℕ
-    = claim_in (run).clock.0 (run).slow true 0 (grades) (releases) (goals) (deadlines) (carried) [] in
-    let claimed : (k : ℕ) → k < (n) → get_or c.claim_kept-total.new.claims k 0 ≡ (claim) k
+    = claim_in run.clock.0 run.slow true 0 grades releases goals deadlines carried [] in
+    let claimed : (k : ℕ) → k < n → get_or c.claim_kept-total.new.claims k 0 ≡ claim k
     = λ k l. ap (λ r. get_or r k 0) c.claim_kept-total.ensures.0
-      ∙ filled_at (claim) c.counted_within-jobs.result (replicate most_jobs 0) k (rw (length-replicate {A = ℕ} most_jobs 0) (omega arith)) (omega (arith, (jobs))) in
-    let total : c.claim_kept-total.result.0 ≡ sum (claim) (n)
-    = c.claim_kept-total.ensures.1 ∙ ap (sum (claim)) (jobs) in
-    λ sizes right. let at-grant-claims = c in
-    let at-if1 = at-grant-claims in
-    let here = at-if1 in
-    let fits : sum (claim) (n) ≤ v = omega (arith, at-if1.if-total-most.true, total, most) in
-    let shared = shared_claims (o) (grades) (releases) sizes (deadlines) (table) (run) (v) refl
-    (λ k. get_or (goals) k 0) right c.args.grants.now c.requires.0 fits in (
+      ∙ filled_at claim c.counted_within-jobs.result (replicate most_jobs 0) k (rw (length-replicate {A = ℕ} most_jobs 0) (omega arith)) (omega (arith, jobs)) in
+    let total : c.claim_kept-total.result.0 ≡ sum claim n = c.claim_kept-total.ensures.1 ∙ ap (sum claim) jobs in
+    λ sizes right. let fits : sum claim n ≤ v = omega (arith, c.if-total-most.true, total, most) in
+    let shared = shared_claims o grades releases sizes deadlines table run v refl
+    (λ k. get_or goals k 0) right c.args.grants.now c.requires.0 fits in (
       shared.0,
-      at-grant-claims.grant_claims.ensures
-          ∙ ap (λ m. filled (λ k. get_or here.claim_kept-total.new.claims k 0) m c.args.grants.now) (jobs)
-          ∙ filled_ext (λ k. get_or here.claim_kept-total.new.claims k 0) (claim) (n) c.args.grants.now (claimed)
+      c.grant_claims.ensures
+          ∙ ap (λ m. filled (λ k. get_or c.claim_kept-total.new.claims k 0) m c.args.grants.now) jobs
+          ∙ filled_ext (λ k. get_or c.claim_kept-total.new.claims k 0) claim n c.args.grants.now claimed
           ∙ shared.1,
     )
 
 pub returns-then-slow-v : goal.returns-then-slow-v
 returns-then-slow-v c =
-    let o : Outline
-    = c.args.o in
-    let grades : List ℕ
-    = c.args.grades.now in
-    let releases : List ℕ
-    = c.args.releases.now in
-    let goals : List ℕ
-    = c.args.goals.now in
-    let deadlines : List ℕ
-    = c.args.deadlines.now in
-    let table : List ℕ
-    = c.args.table.now in
-    let carried : List ℕ
-    = c.args.carried.now in
-    let run : Run
-    = settled_run c.args.clock c.args.slow (carried) in
-    let v : ℕ
-    = c.args.v.0 in
-    let most : c.over-most.result.0 ≡ (v)
-    = ap (λ (u : Units). u.0) c.over-most.ensures ∙ mul-one (v) in
-    let n : ℕ
-    = min (o).count most_jobs in
-    let jobs : c.counted_within-jobs.result ≡ (n)
-    = c.counted_within-jobs.ensures in
+    let o : Outline = c.args.o in
+    let grades : List ℕ = c.args.grades.now in
+    let releases : List ℕ = c.args.releases.now in
+    let goals : List ℕ = c.args.goals.now in
+    let deadlines : List ℕ = c.args.deadlines.now in
+    let table : List ℕ = c.args.table.now in
+    let carried : List ℕ = c.args.carried.now in
+    let run : Run = settled_run c.args.clock c.args.slow carried in
+    let v : ℕ = c.args.v.0 in
+    let most : c.over-most.result.0 ≡ v = ap (λ (u : Units). u.0) c.over-most.ensures ∙ mul-one v in
+    let n : ℕ = min o.count most_jobs in
+    let jobs : c.counted_within-jobs.result ≡ n = c.counted_within-jobs.ensures in
     let claim : ℕ → ℕ
-    = claim_in (run).clock.0 (run).slow true 0 (grades) (releases) (goals) (deadlines) (carried) [] in
-    let total : c.claim_kept-total.result.0 ≡ sum (claim) (n)
-    = c.claim_kept-total.ensures.1 ∙ ap (sum (claim)) (jobs) in
-    λ sizes right. let at-else = c in
-    let here = at-else in
-    let test = slow_test (run).slow (v) (o).n.0 c.if-slow-v.true in
-    shared_not (o) (grades) (releases) sizes (deadlines) (table) (run) (v) refl
-    (λ k. get_or (goals) k 0) right c.args.grants.now test.0 test.1 (omega (arith, at-else.if-total-most.false, total, most))
+    = claim_in run.clock.0 run.slow true 0 grades releases goals deadlines carried [] in
+    let total : c.claim_kept-total.result.0 ≡ sum claim n = c.claim_kept-total.ensures.1 ∙ ap (sum claim) jobs in
+    λ sizes right. let test = slow_test run.slow v o.n.0 c.if-slow-v.true in
+    shared_not o grades releases sizes deadlines table run v refl
+    (λ k. get_or goals k 0) right c.args.grants.now test.0 test.1 (omega (arith, c.if-total-most.false, total, most))
 
 pub serve_in_turns-requires : goal.serve_in_turns-requires
 serve_in_turns-requires c =
-    let goals : List ℕ
-    = c.args.goals.now in
-    let carried : List ℕ
-    = c.args.carried.now in
-    let o : Outline
-    = c.args.o in
-    let n : ℕ
-    = min (o).count most_jobs in
-    let jobs : c.counted_within-jobs.result ≡ (n)
-    = c.counted_within-jobs.ensures in
-    let grades : List ℕ
-    = c.args.grades.now in
-    let releases : List ℕ
-    = c.args.releases.now in
-    let deadlines : List ℕ
-    = c.args.deadlines.now in
-    let run : Run
-    = settled_run c.args.clock c.args.slow (carried) in
+    let goals : List ℕ = c.args.goals.now in
+    let carried : List ℕ = c.args.carried.now in
+    let o : Outline = c.args.o in
+    let n : ℕ = min o.count most_jobs in
+    let jobs : c.counted_within-jobs.result ≡ n = c.counted_within-jobs.ensures in
+    let grades : List ℕ = c.args.grades.now in
+    let releases : List ℕ = c.args.releases.now in
+    let deadlines : List ℕ = c.args.deadlines.now in
+    let run : Run = settled_run c.args.clock c.args.slow carried in
     let claim : ℕ → ℕ
-    = claim_in (run).clock.0 (run).slow true 0 (grades) (releases) (goals) (deadlines) (carried) [] in
-    let claimed : (k : ℕ) → k < (n) → get_or c.claim_kept-total.new.claims k 0 ≡ (claim) k
+    = claim_in run.clock.0 run.slow true 0 grades releases goals deadlines carried [] in
+    let claimed : (k : ℕ) → k < n → get_or c.claim_kept-total.new.claims k 0 ≡ claim k
     = λ k l. ap (λ r. get_or r k 0) c.claim_kept-total.ensures.0
-      ∙ filled_at (claim) c.counted_within-jobs.result (replicate most_jobs 0) k (rw (length-replicate {A = ℕ} most_jobs 0) (omega arith)) (omega (arith, (jobs))) in
-    let here = c in (
+      ∙ filled_at claim c.counted_within-jobs.result (replicate most_jobs 0) k (rw (length-replicate {A = ℕ} most_jobs 0) (omega arith)) (omega (arith, jobs)) in
+    (
       omega (arith, jobs),
-      rw (jobs) c.requires.0,
+      rw jobs c.requires.0,
       λ k l. c.requires.1 k (omega (arith, jobs)),
       λ k l served known. claimed k (omega (arith, jobs))
-          ∙ ap (λ b. on b (due_in true 0 (goals) (carried) [] k)) served,
+          ∙ ap (λ b. on b (due_in true 0 goals carried [] k)) served,
     )
 
 pub returns : goal.returns
 returns c =
-    let o : Outline
-    = c.args.o in
-    let grades : List ℕ
-    = c.args.grades.now in
-    let releases : List ℕ
-    = c.args.releases.now in
-    let goals : List ℕ
-    = c.args.goals.now in
-    let deadlines : List ℕ
-    = c.args.deadlines.now in
-    let carried : List ℕ
-    = c.args.carried.now in
-    let table : List ℕ
-    = c.args.table.now in
-    let run : Run
-    = settled_run c.args.clock c.args.slow (carried) in
-    let v : ℕ
-    = c.args.v.0 in
-    let n : ℕ
-    = min (o).count most_jobs in
-    let jobs : c.counted_within-jobs.result ≡ (n)
-    = c.counted_within-jobs.ensures in
-    let most : c.over-most.result.0 ≡ (v)
-    = ap (λ (u : Units). u.0) c.over-most.ensures ∙ mul-one (v) in
-    λ sizes right. let at-serve-in-turns = c in
-    let at-else = at-serve-in-turns in
-    let here = at-else in
-    let shared = shared_turns (o) (grades) (releases) sizes (deadlines) (table) (run) (v) refl
-    (λ k. get_or (goals) k 0) right c.args.grants.now c.requires.0
-    (normal_test (run).slow (v) (o).n.0 at-else.if-slow-v.false) in (
+    let o : Outline = c.args.o in
+    let grades : List ℕ = c.args.grades.now in
+    let releases : List ℕ = c.args.releases.now in
+    let goals : List ℕ = c.args.goals.now in
+    let deadlines : List ℕ = c.args.deadlines.now in
+    let carried : List ℕ = c.args.carried.now in
+    let table : List ℕ = c.args.table.now in
+    let run : Run = settled_run c.args.clock c.args.slow carried in
+    let v : ℕ = c.args.v.0 in
+    let n : ℕ = min o.count most_jobs in
+    let jobs : c.counted_within-jobs.result ≡ n = c.counted_within-jobs.ensures in
+    let most : c.over-most.result.0 ≡ v = ap (λ (u : Units). u.0) c.over-most.ensures ∙ mul-one v in
+    λ sizes right. let shared = shared_turns o grades releases sizes deadlines table run v refl
+    (λ k. get_or goals k 0) right c.args.grants.now c.requires.0
+    (normal_test run.slow v o.n.0 c.if-slow-v.false) in (
       shared.0,
-      at-serve-in-turns.serve_in_turns.ensures
-          ∙ ap₂ (λ x m. in_turns (run).clock.0 (run).slow (grades) (releases) (deadlines)
-          (due_in true 0 (goals) (carried) []) x m (filled (λ k. 0) m c.args.grants.now)) (most) (jobs)
+      c.serve_in_turns.ensures
+          ∙ ap₂ (λ x m. in_turns run.clock.0 run.slow grades releases deadlines
+          (due_in true 0 goals carried []) x m (filled (λ k. 0) m c.args.grants.now)) most jobs
           ∙ shared.1,
     )

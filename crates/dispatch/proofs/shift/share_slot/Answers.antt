@@ -15,83 +15,46 @@ use Rattle.dispatch.proofs.shift.share_slot.Goals as goal
 
 pub returns-then-share_kept : goal.returns-then-share_kept
 returns-then-share_kept c =
-    let sizes : List ℕ
-    = c.args.sizes.now in
-    let o : Outline
-    = c.args.o in
-    let grades : List ℕ
-    = c.args.grades.now in
-    let releases : List ℕ
-    = c.args.releases.now in
-    let deadlines : List ℕ
-    = c.args.deadlines.now in
-    let q : Plan
-    = plan_on (o) (grades) (releases) (sizes) (deadlines) in
-    let table : List ℕ
-    = c.args.table.now in
-    let run : Run
-    = settled_run c.args.clock c.args.slow c.args.carried.now in
-    let v : ℕ
-    = c.args.v.0 in
-    let grants : List ℕ
-    = c.args.grants.now in
-    let at-share-kept = c in
-    let here = at-share-kept in
-    shared_under (q) (table) (run) (v) (grants) (at-share-kept.share_kept.ensures (sizes) here.requires.2) c.if-share_kept.true
+    let sizes : List ℕ = c.args.sizes.now in
+    let o : Outline = c.args.o in
+    let grades : List ℕ = c.args.grades.now in
+    let releases : List ℕ = c.args.releases.now in
+    let deadlines : List ℕ = c.args.deadlines.now in
+    let q : Plan = plan_on o grades releases sizes deadlines in
+    let table : List ℕ = c.args.table.now in
+    let run : Run = settled_run c.args.clock c.args.slow c.args.carried.now in
+    let v : ℕ = c.args.v.0 in
+    let grants : List ℕ = c.args.grants.now in
+    shared_under q table run v grants (c.share_kept.ensures sizes c.requires.2) c.if-share_kept.true
 
 pub share_kept-requires-2 : goal.share_kept-requires-2
 share_kept-requires-2 c =
-    let sizes : List ℕ
-    = c.args.sizes.now in
-    let o : Outline
-    = c.args.o in
-    let grades : List ℕ
-    = c.args.grades.now in
-    let releases : List ℕ
-    = c.args.releases.now in
-    let deadlines : List ℕ
-    = c.args.deadlines.now in
-    let q : Plan
-    = plan_on (o) (grades) (releases) (sizes) (deadlines) in
-    let table : List ℕ
-    = c.args.table.now in
-    let run : Run
-    = settled_run c.args.clock c.args.slow c.args.carried.now in
-    let v : ℕ
-    = c.args.v.0 in
-    let grants : List ℕ
-    = c.args.grants.now in
-    let at-else = c in
-    let at-share-kept = at-else in
-    let here = at-share-kept in (
-      shared_long (q) (table) (run) (v) (grants) (at-share-kept.share_kept.ensures (sizes) here.requires.2) at-else.if-share_kept.false here.requires.0,
-      here.requires.1,
+    let sizes : List ℕ = c.args.sizes.now in
+    let o : Outline = c.args.o in
+    let grades : List ℕ = c.args.grades.now in
+    let releases : List ℕ = c.args.releases.now in
+    let deadlines : List ℕ = c.args.deadlines.now in
+    let q : Plan = plan_on o grades releases sizes deadlines in
+    let table : List ℕ = c.args.table.now in
+    let run : Run = settled_run c.args.clock c.args.slow c.args.carried.now in
+    let v : ℕ = c.args.v.0 in
+    let grants : List ℕ = c.args.grants.now in
+    (
+      shared_long q table run v grants (c.share_kept.ensures sizes c.requires.2) c.if-share_kept.false c.requires.0,
+      c.requires.1,
     )
 
 pub returns : goal.returns
 returns c =
-    let o : Outline
-    = c.args.o in
-    let grades : List ℕ
-    = c.args.grades.now in
-    let releases : List ℕ
-    = c.args.releases.now in
-    let sizes : List ℕ
-    = c.args.sizes.now in
-    let deadlines : List ℕ
-    = c.args.deadlines.now in
-    let q : Plan
-    = plan_on (o) (grades) (releases) (sizes) (deadlines) in
-    let table : List ℕ
-    = c.args.table.now in
-    let v : ℕ
-    = c.args.v.0 in
-    let grants : List ℕ
-    = c.args.grants.now in
-    let at_second = c in
-    let at-else = at_second in
-    let at-share-kept = at-else in
-    let here = at-share-kept in
-    let slow-goals = sizes_are_goals (o) (grades) (releases) (sizes) (deadlines) (table) here.args.clock true 0 (λ e. absurd (true≢false e)) in
-    shared_slow (q) (table) here.args.clock here.args.slow here.args.carried.now (v) (grants)
-    (at-share-kept.share_kept.ensures (sizes) here.requires.2) at-else.if-share_kept.false (at_second.share_kept-2.ensures (sizes) slow-goals)
+    let o : Outline = c.args.o in
+    let grades : List ℕ = c.args.grades.now in
+    let releases : List ℕ = c.args.releases.now in
+    let sizes : List ℕ = c.args.sizes.now in
+    let deadlines : List ℕ = c.args.deadlines.now in
+    let q : Plan = plan_on o grades releases sizes deadlines in
+    let table : List ℕ = c.args.table.now in
+    let v : ℕ = c.args.v.0 in
+    let grants : List ℕ = c.args.grants.now in
+    let slow-goals = sizes_are_goals o grades releases sizes deadlines table c.args.clock true 0 (λ e. absurd (true≢false e)) in
+    shared_slow q table c.args.clock c.args.slow c.args.carried.now v grants
+    (c.share_kept.ensures sizes c.requires.2) c.if-share_kept.false (c.share_kept-2.ensures sizes slow-goals)

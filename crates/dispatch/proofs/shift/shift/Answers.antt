@@ -16,19 +16,15 @@ use Rattle.dispatch.proofs.shift.shift.Goals as goal
 
 pub returns-then-not-columns_of : goal.returns-then-not-columns_of
 returns-then-not-columns_of c =
-    let at-columns = c in
-    let a = at-columns.args in
+    let a = c.args in
     unsound_shift a.p a.table.now a.run a.speeds.now a.rows.now a.numbers.now
-    (too_large_unsound a.p a.run (sizes_too_large a.p (sym at-columns.columns_of.ensures.0 ∙ not-true _ (ap not c.if-not-columns_of.true))))
+    (too_large_unsound a.p a.run (sizes_too_large a.p (sym c.columns_of.ensures.0 ∙ not-true _ (ap not c.if-not-columns_of.true))))
 
 pub returns : goal.returns
 returns c =
-    let at-shift-over = c in
-    let at-if1 = at-shift-over in
-    let at-columns = at-if1 in
-    let a = at-columns.args in
+    let a = c.args in
     let none : List ℕ = replicate most_jobs 0 in
     let long : length none ≡ most_jobs = length-replicate {A = ℕ} most_jobs 0 in
     rw c.run_at-after.ensures
-    (at-shift-over.shift_over-s.ensures a.p
-    (columns_put a.p none none none none at-columns.columns_of.ensures (not-false _ (ap not at-if1.if-not-columns_of.false)) long long long long))
+    (c.shift_over-s.ensures a.p
+    (columns_put a.p none none none none c.columns_of.ensures (not-false _ (ap not c.if-not-columns_of.false)) long long long long))

@@ -16,17 +16,15 @@ pub overflow_add-carried : goal.overflow_add-carried
 overflow_add-carried c =
     let as_was : get_or c.loop-i.carried c.loop-i.i 0 ≡ get_or c.args.carried.now c.loop-i.i 0
     = ap (λ row. get_or row c.loop-i.i 0) c.loop-i.invariant.1 ∙ filled_rest _ c.loop-i.i _ c.loop-i.i (omega arith) in
-    let at-loop = c in
-    omega (arith, as_was, at-loop.requires.2 at-loop.loop-i.i (omega arith))
+    omega (arith, as_was, c.requires.2 c.loop-i.i (omega arith))
 
 pub loop-i-preserved : goal.loop-i-preserved
 loop-i-preserved c =
     let as_was : get_or c.loop-i.carried c.loop-i.i 0 ≡ get_or c.args.carried.now c.loop-i.i 0
     = ap (λ row. get_or row c.loop-i.i 0) c.loop-i.invariant.1 ∙ filled_rest _ c.loop-i.i _ c.loop-i.i (omega arith) in
-    let at-loop = c in
-    let a = at-loop.args in
-    let i = at-loop.loop-i.i in
-    (omega arith, filled_next _ i _ at-loop.loop-i.invariant.1 (ap (λ x. x + get_or a.grants.now i 0) (as_was)))
+    let a = c.args in
+    let i = c.loop-i.i in
+    (omega arith, filled_next _ i _ c.loop-i.invariant.1 (ap (λ x. x + get_or a.grants.now i 0) as_was))
 
 pub returns : goal.returns
 returns c =

@@ -14,14 +14,12 @@ loop-i-init c =
 
 pub bounds-grants-i : goal.bounds-grants-i
 bounds-grants-i c =
-    let at-loop = c in
-    let a = at-loop.args in
-    omega (arith, ap length at-loop.loop-i.invariant.1, filled_length (λ k. get_or a.claims.now k 0) at-loop.loop-i.i a.grants.now)
+    let a = c.args in
+    omega (arith, ap length c.loop-i.invariant.1, filled_length (λ k. get_or a.claims.now k 0) c.loop-i.i a.grants.now)
 
 pub loop-i-preserved : goal.loop-i-preserved
 loop-i-preserved c =
-    let at-loop = c in
-    (omega arith, filled_next _ at-loop.loop-i.i _ at-loop.loop-i.invariant.1 refl)
+    (omega arith, filled_next _ c.loop-i.i _ c.loop-i.invariant.1 refl)
 
 pub shape_of-grants : goal.shape_of-grants
 shape_of-grants c =

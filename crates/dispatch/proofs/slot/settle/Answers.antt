@@ -15,8 +15,7 @@ loop-i-init c =
 
 pub loop-i-preserved : goal.loop-i-preserved
 loop-i-preserved c =
-    let at-loop = c in
-    (omega arith, filled_next _ at-loop.loop-i.i _ at-loop.loop-i.invariant.1 c.settled_of.ensures)
+    (omega arith, filled_next _ c.loop-i.i _ c.loop-i.invariant.1 c.settled_of.ensures)
 
 pub returns : goal.returns
 returns c =

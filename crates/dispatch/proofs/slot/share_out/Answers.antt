@@ -16,108 +16,64 @@ use Rattle.dispatch.proofs.slot.share_out.Goals as goal
 
 pub share_under-requires : goal.share_under-requires
 share_under-requires c =
-    let o : Outline
-    = c.args.o in
-    let grades : List ℕ
-    = c.args.grades.now in
-    let releases : List ℕ
-    = c.args.releases.now in
-    let sizes : List ℕ
-    = c.args.sizes.now in
-    let deadlines : List ℕ
-    = c.args.deadlines.now in
-    let q : Plan
-    = plan_on (o) (grades) (releases) (sizes) (deadlines) in
-    let at-spans-of = c in
-    let here = at-spans-of in (
-      here.requires.0,
-      here.requires.1,
-      here.requires.2,
-      λ e. at-spans-of.spans_of-spans.ensures.1 (q) e refl
-          (λ i h. sym (release_on (o) (grades) (releases) (sizes) (deadlines) i h))
-          (λ i h. sym (deadline_on (o) (grades) (releases) (sizes) (deadlines) i h)),
+    let o : Outline = c.args.o in
+    let grades : List ℕ = c.args.grades.now in
+    let releases : List ℕ = c.args.releases.now in
+    let sizes : List ℕ = c.args.sizes.now in
+    let deadlines : List ℕ = c.args.deadlines.now in
+    let q : Plan = plan_on o grades releases sizes deadlines in
+    (
+      c.requires.0,
+      c.requires.1,
+      c.requires.2,
+      λ e. c.spans_of-spans.ensures.1 q e refl
+          (λ i h. sym (release_on o grades releases sizes deadlines i h))
+          (λ i h. sym (deadline_on o grades releases sizes deadlines i h)),
     )
 
 pub returns-then-share_under : goal.returns-then-share_under
 returns-then-share_under c =
-    let o : Outline
-    = c.args.o in
-    let grades : List ℕ
-    = c.args.grades.now in
-    let releases : List ℕ
-    = c.args.releases.now in
-    let sizes : List ℕ
-    = c.args.sizes.now in
-    let deadlines : List ℕ
-    = c.args.deadlines.now in
-    let q : Plan
-    = plan_on (o) (grades) (releases) (sizes) (deadlines) in
-    let table : List ℕ
-    = c.args.table.now in
-    let run : Run
-    = settled_run c.args.clock c.args.slow c.args.carried.now in
-    let v : ℕ
-    = c.args.v.0 in
-    let grants : List ℕ
-    = c.args.grants.now in
-    let at-share-under = c in
-    let here = at-share-under in
-    shared_under (q) (table) (run) (v) (grants) at-share-under.share_under.ensures c.if-share_under.true
+    let o : Outline = c.args.o in
+    let grades : List ℕ = c.args.grades.now in
+    let releases : List ℕ = c.args.releases.now in
+    let sizes : List ℕ = c.args.sizes.now in
+    let deadlines : List ℕ = c.args.deadlines.now in
+    let q : Plan = plan_on o grades releases sizes deadlines in
+    let table : List ℕ = c.args.table.now in
+    let run : Run = settled_run c.args.clock c.args.slow c.args.carried.now in
+    let v : ℕ = c.args.v.0 in
+    let grants : List ℕ = c.args.grants.now in
+    shared_under q table run v grants c.share_under.ensures c.if-share_under.true
 
 pub share_under-requires-2 : goal.share_under-requires-2
 share_under-requires-2 c =
-    let o : Outline
-    = c.args.o in
-    let grades : List ℕ
-    = c.args.grades.now in
-    let releases : List ℕ
-    = c.args.releases.now in
-    let sizes : List ℕ
-    = c.args.sizes.now in
-    let deadlines : List ℕ
-    = c.args.deadlines.now in
-    let q : Plan
-    = plan_on (o) (grades) (releases) (sizes) (deadlines) in
-    let table : List ℕ
-    = c.args.table.now in
-    let run : Run
-    = settled_run c.args.clock c.args.slow c.args.carried.now in
-    let v : ℕ
-    = c.args.v.0 in
-    let grants : List ℕ
-    = c.args.grants.now in
-    let at-else = c in
-    let at-share-under = at-else in
-    let here = at-share-under in (
-      shared_long (q) (table) (run) (v) (grants) at-share-under.share_under.ensures at-else.if-share_under.false here.requires.0,
-      here.requires.1,
-      here.requires.2,
+    let o : Outline = c.args.o in
+    let grades : List ℕ = c.args.grades.now in
+    let releases : List ℕ = c.args.releases.now in
+    let sizes : List ℕ = c.args.sizes.now in
+    let deadlines : List ℕ = c.args.deadlines.now in
+    let q : Plan = plan_on o grades releases sizes deadlines in
+    let table : List ℕ = c.args.table.now in
+    let run : Run = settled_run c.args.clock c.args.slow c.args.carried.now in
+    let v : ℕ = c.args.v.0 in
+    let grants : List ℕ = c.args.grants.now in
+    (
+      shared_long q table run v grants c.share_under.ensures c.if-share_under.false c.requires.0,
+      c.requires.1,
+      c.requires.2,
       λ e. absurd (true≢false e),
     )
 
 pub returns : goal.returns
 returns c =
-    let o : Outline
-    = c.args.o in
-    let grades : List ℕ
-    = c.args.grades.now in
-    let releases : List ℕ
-    = c.args.releases.now in
-    let sizes : List ℕ
-    = c.args.sizes.now in
-    let deadlines : List ℕ
-    = c.args.deadlines.now in
-    let q : Plan
-    = plan_on (o) (grades) (releases) (sizes) (deadlines) in
-    let table : List ℕ
-    = c.args.table.now in
-    let v : ℕ
-    = c.args.v.0 in
-    let grants : List ℕ
-    = c.args.grants.now in
-    let at_second = c in
-    let at-else = at_second in
-    let at-share-under = at-else in
-    let here = at-share-under in
-    shared_slow (q) (table) here.args.clock here.args.slow here.args.carried.now (v) (grants)
-    at-share-under.share_under.ensures at-else.if-share_under.false at_second.share_under-2.ensures
+    let o : Outline = c.args.o in
+    let grades : List ℕ = c.args.grades.now in
+    let releases : List ℕ = c.args.releases.now in
+    let sizes : List ℕ = c.args.sizes.now in
+    let deadlines : List ℕ = c.args.deadlines.now in
+    let q : Plan = plan_on o grades releases sizes deadlines in
+    let table : List ℕ = c.args.table.now in
+    let v : ℕ = c.args.v.0 in
+    let grants : List ℕ = c.args.grants.now in
+    shared_slow q table c.args.clock c.args.slow c.args.carried.now v grants
+    c.share_under.ensures c.if-share_under.false c.share_under-2.ensures

@@ -25,187 +25,118 @@ same-claims e q told = rw (← e, ← q) told
 
 pub all_fit-requires : goal.all_fit-requires
 all_fit-requires c =
-    let o : Outline
-    = c.args.o in
-    let jobs : c.counted_within-jobs.result ≡ min (o).count most_jobs
-    = c.counted_within-jobs.ensures in
-    let v : ℕ
-    = c.args.v.0 in
-    let most : c.over-most.result.0 ≡ (v)
-    = ap (λ (u : Units). u.0) c.over-most.ensures ∙ mul-one (v) in
-    let at = c in
+    let o : Outline = c.args.o in
+    let jobs : c.counted_within-jobs.result ≡ min o.count most_jobs = c.counted_within-jobs.ensures in
+    let v : ℕ = c.args.v.0 in
+    let most : c.over-most.result.0 ≡ v = ap (λ (u : Units). u.0) c.over-most.ensures ∙ mul-one v in
     (omega (arith, jobs), omega (arith, most, c.requires.2), refl)
 
 pub returns-then-all_fit : goal.returns-then-all_fit
 returns-then-all_fit c =
-    let o : Outline
-    = c.args.o in
-    let grades : List ℕ
-    = c.args.grades.now in
-    let releases : List ℕ
-    = c.args.releases.now in
-    let sizes : List ℕ
-    = c.args.sizes.now in
-    let deadlines : List ℕ
-    = c.args.deadlines.now in
-    let table : List ℕ
-    = c.args.table.now in
-    let carried : List ℕ
-    = c.args.carried.now in
-    let run : Run
-    = settled_run c.args.clock c.args.slow (carried) in
-    let v : ℕ
-    = c.args.v.0 in
-    let jobs : c.counted_within-jobs.result ≡ min (o).count most_jobs
-    = c.counted_within-jobs.ensures in
-    let spans : ℕ
-    = c.args.spans in
-    let goals : ℕ → ℕ
-    = goal_in (run).slow (spans) (sizes) (table) in
-    let right : Goals (o) (grades) (releases) (sizes) (deadlines) (table) (run).clock (run).slow (goals)
-    = sizes_are_goals (o) (grades) (releases) (sizes) (deadlines) (table) (run).clock (run).slow (spans) c.requires.3 in
+    let o : Outline = c.args.o in
+    let grades : List ℕ = c.args.grades.now in
+    let releases : List ℕ = c.args.releases.now in
+    let sizes : List ℕ = c.args.sizes.now in
+    let deadlines : List ℕ = c.args.deadlines.now in
+    let table : List ℕ = c.args.table.now in
+    let carried : List ℕ = c.args.carried.now in
+    let run : Run = settled_run c.args.clock c.args.slow carried in
+    let v : ℕ = c.args.v.0 in
+    let jobs : c.counted_within-jobs.result ≡ min o.count most_jobs = c.counted_within-jobs.ensures in
+    let spans : ℕ = c.args.spans in
+    let goals : ℕ → ℕ = goal_in run.slow spans sizes table in
+    let right : Goals o grades releases sizes deadlines table run.clock run.slow goals
+    = sizes_are_goals o grades releases sizes deadlines table run.clock run.slow spans c.requires.3 in
     let claim : ℕ → ℕ
-    = claim_in (run).clock.0 (run).slow (run).slow (spans) (grades) (releases) (sizes) (deadlines) (carried) (table) in
-    let most : c.over-most.result.0 ≡ (v)
-    = ap (λ (u : Units). u.0) c.over-most.ensures ∙ mul-one (v) in
-    let told : Claimed (claim) (v) (min (o).count most_jobs) c.all_fit.new.claims c.all_fit.result
-    = same-claims (most) (jobs) c.all_fit.ensures in
-    let at-grant-claims = c in
-    let at-if1 = at-grant-claims in
-    let fit = at-if1 in
-    let here = c in
-    let n = min (o).count most_jobs in
-    let shared = shared_claims (o) (grades) (releases) (sizes) (deadlines) (table) (run) (v) refl (goals) (right)
-    c.args.grants.now c.requires.0 ((told).sums at-if1.if-all_fit.true).1 in (
+    = claim_in run.clock.0 run.slow run.slow spans grades releases sizes deadlines carried table in
+    let most : c.over-most.result.0 ≡ v = ap (λ (u : Units). u.0) c.over-most.ensures ∙ mul-one v in
+    let told : Claimed claim v (min o.count most_jobs) c.all_fit.new.claims c.all_fit.result
+    = same-claims most jobs c.all_fit.ensures in
+    let n = min o.count most_jobs in
+    let shared = shared_claims o grades releases sizes deadlines table run v refl goals right
+    c.args.grants.now c.requires.0 (told.sums c.if-all_fit.true).1 in (
       shared.0,
-      at-grant-claims.grant_claims.ensures
-          ∙ ap (λ m. filled (λ k. get_or fit.all_fit.new.claims k 0) m c.args.grants.now) (jobs)
-          ∙ filled_ext (λ k. get_or fit.all_fit.new.claims k 0) (claim) n c.args.grants.now
-          (claims_all (claim) (v) n (omega arith) (told) at-if1.if-all_fit.true)
+      c.grant_claims.ensures
+          ∙ ap (λ m. filled (λ k. get_or c.all_fit.new.claims k 0) m c.args.grants.now) jobs
+          ∙ filled_ext (λ k. get_or c.all_fit.new.claims k 0) claim n c.args.grants.now
+          (claims_all claim v n (omega arith) told c.if-all_fit.true)
           ∙ shared.1,
     )
 
 pub returns-then-slow-v : goal.returns-then-slow-v
 returns-then-slow-v c =
-    let o : Outline
-    = c.args.o in
-    let grades : List ℕ
-    = c.args.grades.now in
-    let releases : List ℕ
-    = c.args.releases.now in
-    let sizes : List ℕ
-    = c.args.sizes.now in
-    let deadlines : List ℕ
-    = c.args.deadlines.now in
-    let table : List ℕ
-    = c.args.table.now in
-    let carried : List ℕ
-    = c.args.carried.now in
-    let run : Run
-    = settled_run c.args.clock c.args.slow (carried) in
-    let v : ℕ
-    = c.args.v.0 in
-    let spans : ℕ
-    = c.args.spans in
-    let goals : ℕ → ℕ
-    = goal_in (run).slow (spans) (sizes) (table) in
-    let right : Goals (o) (grades) (releases) (sizes) (deadlines) (table) (run).clock (run).slow (goals)
-    = sizes_are_goals (o) (grades) (releases) (sizes) (deadlines) (table) (run).clock (run).slow (spans) c.requires.3 in
-    let jobs : c.counted_within-jobs.result ≡ min (o).count most_jobs
-    = c.counted_within-jobs.ensures in
-    let most : c.over-most.result.0 ≡ (v)
-    = ap (λ (u : Units). u.0) c.over-most.ensures ∙ mul-one (v) in
+    let o : Outline = c.args.o in
+    let grades : List ℕ = c.args.grades.now in
+    let releases : List ℕ = c.args.releases.now in
+    let sizes : List ℕ = c.args.sizes.now in
+    let deadlines : List ℕ = c.args.deadlines.now in
+    let table : List ℕ = c.args.table.now in
+    let carried : List ℕ = c.args.carried.now in
+    let run : Run = settled_run c.args.clock c.args.slow carried in
+    let v : ℕ = c.args.v.0 in
+    let spans : ℕ = c.args.spans in
+    let goals : ℕ → ℕ = goal_in run.slow spans sizes table in
+    let right : Goals o grades releases sizes deadlines table run.clock run.slow goals
+    = sizes_are_goals o grades releases sizes deadlines table run.clock run.slow spans c.requires.3 in
+    let jobs : c.counted_within-jobs.result ≡ min o.count most_jobs = c.counted_within-jobs.ensures in
+    let most : c.over-most.result.0 ≡ v = ap (λ (u : Units). u.0) c.over-most.ensures ∙ mul-one v in
     let claim : ℕ → ℕ
-    = claim_in (run).clock.0 (run).slow (run).slow (spans) (grades) (releases) (sizes) (deadlines) (carried) (table) in
-    let told : Claimed (claim) (v) (min (o).count most_jobs) c.all_fit.new.claims c.all_fit.result
-    = same-claims (most) (jobs) c.all_fit.ensures in
-    let at-else = c in
-    let fit = at-else in
-    let here = c in
-    let test = slow_test (run).slow (v) (o).n.0 c.if-slow-v.true in
-    shared_not (o) (grades) (releases) (sizes) (deadlines) (table) (run) (v) refl (goals) (right)
-    c.args.grants.now test.0 test.1 ((told).over at-else.if-all_fit.false)
+    = claim_in run.clock.0 run.slow run.slow spans grades releases sizes deadlines carried table in
+    let told : Claimed claim v (min o.count most_jobs) c.all_fit.new.claims c.all_fit.result
+    = same-claims most jobs c.all_fit.ensures in
+    let test = slow_test run.slow v o.n.0 c.if-slow-v.true in
+    shared_not o grades releases sizes deadlines table run v refl goals right
+    c.args.grants.now test.0 test.1 (told.over c.if-all_fit.false)
 
 pub serve_in_turns-requires : goal.serve_in_turns-requires
 serve_in_turns-requires c =
-    let o : Outline
-    = c.args.o in
-    let grades : List ℕ
-    = c.args.grades.now in
-    let releases : List ℕ
-    = c.args.releases.now in
-    let sizes : List ℕ
-    = c.args.sizes.now in
-    let deadlines : List ℕ
-    = c.args.deadlines.now in
-    let carried : List ℕ
-    = c.args.carried.now in
-    let table : List ℕ
-    = c.args.table.now in
-    let run : Run
-    = settled_run c.args.clock c.args.slow (carried) in
-    let v : ℕ
-    = c.args.v.0 in
-    let spans : ℕ
-    = c.args.spans in
-    let jobs : c.counted_within-jobs.result ≡ min (o).count most_jobs
-    = c.counted_within-jobs.ensures in
+    let o : Outline = c.args.o in
+    let grades : List ℕ = c.args.grades.now in
+    let releases : List ℕ = c.args.releases.now in
+    let sizes : List ℕ = c.args.sizes.now in
+    let deadlines : List ℕ = c.args.deadlines.now in
+    let carried : List ℕ = c.args.carried.now in
+    let table : List ℕ = c.args.table.now in
+    let run : Run = settled_run c.args.clock c.args.slow carried in
+    let v : ℕ = c.args.v.0 in
+    let spans : ℕ = c.args.spans in
+    let jobs : c.counted_within-jobs.result ≡ min o.count most_jobs = c.counted_within-jobs.ensures in
     let claim : ℕ → ℕ
-    = claim_in (run).clock.0 (run).slow (run).slow (spans) (grades) (releases) (sizes) (deadlines) (carried) (table) in
-    let most : c.over-most.result.0 ≡ (v)
-    = ap (λ (u : Units). u.0) c.over-most.ensures ∙ mul-one (v) in
-    let told : Claimed (claim) (v) (min (o).count most_jobs) c.all_fit.new.claims c.all_fit.result
-    = same-claims (most) (jobs) c.all_fit.ensures in
-    let fit = c in
-    let here = c in
-    let n = min (o).count most_jobs in (
+    = claim_in run.clock.0 run.slow run.slow spans grades releases sizes deadlines carried table in
+    let most : c.over-most.result.0 ≡ v = ap (λ (u : Units). u.0) c.over-most.ensures ∙ mul-one v in
+    let told : Claimed claim v (min o.count most_jobs) c.all_fit.new.claims c.all_fit.result
+    = same-claims most jobs c.all_fit.ensures in
+    let n = min o.count most_jobs in (
       omega (arith, jobs),
-      rw (jobs) c.requires.0,
+      rw jobs c.requires.0,
       λ k l. c.requires.1 k (omega (arith, jobs)),
-      λ k l. claims_known (claim) (due_in (run).slow (spans) (sizes) (carried) (table))
-          (served_in (run).clock.0 (run).slow (grades) (releases) (deadlines)) (v) n (λ i. refl) (omega arith) (told) k
+      λ k l. claims_known claim (due_in run.slow spans sizes carried table)
+          (served_in run.clock.0 run.slow grades releases deadlines) v n (λ i. refl) (omega arith) told k
           (omega (arith, jobs)),
     )
 
 pub returns : goal.returns
 returns c =
-    let o : Outline
-    = c.args.o in
-    let grades : List ℕ
-    = c.args.grades.now in
-    let releases : List ℕ
-    = c.args.releases.now in
-    let sizes : List ℕ
-    = c.args.sizes.now in
-    let deadlines : List ℕ
-    = c.args.deadlines.now in
-    let carried : List ℕ
-    = c.args.carried.now in
-    let table : List ℕ
-    = c.args.table.now in
-    let run : Run
-    = settled_run c.args.clock c.args.slow (carried) in
-    let v : ℕ
-    = c.args.v.0 in
-    let spans : ℕ
-    = c.args.spans in
-    let jobs : c.counted_within-jobs.result ≡ min (o).count most_jobs
-    = c.counted_within-jobs.ensures in
-    let most : c.over-most.result.0 ≡ (v)
-    = ap (λ (u : Units). u.0) c.over-most.ensures ∙ mul-one (v) in
-    let goals : ℕ → ℕ
-    = goal_in (run).slow (spans) (sizes) (table) in
-    let right : Goals (o) (grades) (releases) (sizes) (deadlines) (table) (run).clock (run).slow (goals)
-    = sizes_are_goals (o) (grades) (releases) (sizes) (deadlines) (table) (run).clock (run).slow (spans) c.requires.3 in
-    let at-serve-in-turns = c in
-    let at-else = at-serve-in-turns in
-    let fit = at-else in
-    let here = c in
-    let shared = shared_turns (o) (grades) (releases) (sizes) (deadlines) (table) (run) (v) refl (goals) (right)
-    c.args.grants.now c.requires.0 (normal_test (run).slow (v) (o).n.0 at-else.if-slow-v.false) in (
+    let o : Outline = c.args.o in
+    let grades : List ℕ = c.args.grades.now in
+    let releases : List ℕ = c.args.releases.now in
+    let sizes : List ℕ = c.args.sizes.now in
+    let deadlines : List ℕ = c.args.deadlines.now in
+    let carried : List ℕ = c.args.carried.now in
+    let table : List ℕ = c.args.table.now in
+    let run : Run = settled_run c.args.clock c.args.slow carried in
+    let v : ℕ = c.args.v.0 in
+    let spans : ℕ = c.args.spans in
+    let jobs : c.counted_within-jobs.result ≡ min o.count most_jobs = c.counted_within-jobs.ensures in
+    let most : c.over-most.result.0 ≡ v = ap (λ (u : Units). u.0) c.over-most.ensures ∙ mul-one v in
+    let goals : ℕ → ℕ = goal_in run.slow spans sizes table in
+    let right : Goals o grades releases sizes deadlines table run.clock run.slow goals
+    = sizes_are_goals o grades releases sizes deadlines table run.clock run.slow spans c.requires.3 in
+    let shared = shared_turns o grades releases sizes deadlines table run v refl goals right
+    c.args.grants.now c.requires.0 (normal_test run.slow v o.n.0 c.if-slow-v.false) in (
       shared.0,
-      at-serve-in-turns.serve_in_turns.ensures
-          ∙ ap₂ (λ x m. in_turns (run).clock.0 (run).slow (grades) (releases) (deadlines)
-          (due_in (run).slow (spans) (sizes) (carried) (table)) x m (filled (λ k. 0) m c.args.grants.now)) (most) (jobs)
+      c.serve_in_turns.ensures
+          ∙ ap₂ (λ x m. in_turns run.clock.0 run.slow grades releases deadlines
+          (due_in run.slow spans sizes carried table) x m (filled (λ k. 0) m c.args.grants.now)) most jobs
           ∙ shared.1,
     )

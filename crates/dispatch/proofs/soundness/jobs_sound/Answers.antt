@@ -15,13 +15,8 @@ loop-i-init c =
 
 pub loop-i-preserved : goal.loop-i-preserved
 loop-i-preserved c =
-    let at-is-grade = c in
-    let at-size-allowed = at-is-grade in
-    let at-window-allowed = at-size-allowed in
-    let at-had = at-window-allowed in
-    let at_size = at-had in
-    let l = at_size.loop-i in
-    (omega arith, every_next _ l.i l.invariant.1 (rw (at-is-grade.is_grade.ensures, at-size-allowed.size_allowed.ensures, at-window-allowed.window_allowed.ensures, at-had.as_units-had.ensures, at_size.as_units-size.ensures) refl))
+    let l = c.loop-i in
+    (omega arith, every_next _ l.i l.invariant.1 (rw (c.is_grade.ensures, c.size_allowed.ensures, c.window_allowed.ensures, c.as_units-had.ensures, c.as_units-size.ensures) refl))
 
 pub returns : goal.returns
 returns c =

@@ -22,24 +22,15 @@ fresh clock = record { clock = clock; slow = false; below = false; carried = rep
 
 pub returns-then-not-is_accepted : goal.returns-then-not-is_accepted
 returns-then-not-is_accepted c =
-    let at-if1 = c in
-    let at-is-accepted = at-if1 in
-    let at-judge = at-is-accepted in
-    let entry = at-judge in
-    let a = entry.args in
-    let refused = ap is_none (sym at-judge.judge-verdict.ensures) ∙ sym at-is-accepted.is_accepted.ensures ∙ not-true at-is-accepted.is_accepted.result (ap not at-if1.if-not-is_accepted.true) in
-    (at-judge.judge-verdict.ensures, c.no_run-run.ensures ∙ sym (stays (judged a.p a.table.now) (started a.p) no_run refused))
+    let a = c.args in
+    let refused = ap is_none (sym c.judge-verdict.ensures) ∙ sym c.is_accepted.ensures ∙ not-true c.is_accepted.result (ap not c.if-not-is_accepted.true) in
+    (c.judge-verdict.ensures, c.no_run-run.ensures ∙ sym (stays (judged a.p a.table.now) (started a.p) no_run refused))
 
 pub returns : goal.returns
 unfolding started
 returns c =
-    let at-first-release = c in
-    let at-if1 = at-first-release in
-    let at-is-accepted = at-if1 in
-    let at-judge = at-is-accepted in
-    let entry = at-judge in
-    let a = entry.args in
-    let none = passes (verdict_view at-judge.judge-verdict.result) (judged a.p a.table.now) at-is-accepted.is_accepted.result at-judge.judge-verdict.ensures at-is-accepted.is_accepted.ensures (ap not at-if1.if-not-is_accepted.false) in (
-      at-judge.judge-verdict.ensures,
-      c.fresh-run.ensures ∙ ap fresh at-first-release.first_release.ensures ∙ ap (λ r. start_from r (started a.p) no_run) (sym none),
+    let a = c.args in
+    let none = passes (verdict_view c.judge-verdict.result) (judged a.p a.table.now) c.is_accepted.result c.judge-verdict.ensures c.is_accepted.ensures (ap not c.if-not-is_accepted.false) in (
+      c.judge-verdict.ensures,
+      c.fresh-run.ensures ∙ ap fresh c.first_release.ensures ∙ ap (λ r. start_from r (started a.p) no_run) (sym none),
     )

@@ -28,20 +28,12 @@ pub returns-then-n-v : goal.returns-then-n-v
 returns-then-n-v c =
     let sound : is_sound c.args.readiness ≡ true
     = sym c.is_sound.ensures ∙ not-false c.is_sound.result (ap not c.if-not-is_sound.false) in
-    let running : is_over c.args.readiness ≡ false
-    = sym c.is_over.ensures ∙ c.if-is_over.false in
-    let c_2 = c in
-    let at-if2 = c_2 in
-    let c_5 = at-if2 in
-    rw (sound, at-if2.if-short.false, running, lt-ltb _ _ c.if-n-v.true) refl
+    let running : is_over c.args.readiness ≡ false = sym c.is_over.ensures ∙ c.if-is_over.false in
+    rw (sound, c.if-short.false, running, lt-ltb _ _ c.if-n-v.true) refl
 
 pub returns : goal.returns
 returns c =
     let sound : is_sound c.args.readiness ≡ true
     = sym c.is_sound.ensures ∙ not-false c.is_sound.result (ap not c.if-not-is_sound.false) in
-    let running : is_over c.args.readiness ≡ false
-    = sym c.is_over.ensures ∙ c.if-is_over.false in
-    let c_2 = c in
-    let at-if2 = c_2 in
-    let c_5 = at-if2 in
-    rw (sound, at-if2.if-short.false, running, le-ltb _ _ c.if-n-v.false) refl
+    let running : is_over c.args.readiness ≡ false = sym c.is_over.ensures ∙ c.if-is_over.false in
+    rw (sound, c.if-short.false, running, le-ltb _ _ c.if-n-v.false) refl

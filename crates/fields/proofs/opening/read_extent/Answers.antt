@@ -13,40 +13,34 @@ use Rattle.fields.proofs.opening.read_extent.Goals as goal
 
 pub returns-in_default : goal.returns-in_default
 returns-in_default c =
-    let at-read-four = c in
-    let a = at-read-four.args in
+    let a = c.args in
     extent_cut (is_compared a.lengths) a.file.now a.at
-    (refused field_view field_refusal at-read-four.read_four-four.ensures.0 c.in_default.is refl refl c.field_refusal.ensures)
+    (refused field_view field_refusal c.read_four-four.ensures.0 c.in_default.is refl refl c.field_refusal.ensures)
 
 pub overflow_sub-follows : goal.overflow_sub-follows
 overflow_sub-follows c =
-    let at-read-four = c in
-    let a = at-read-four.args in
-    let x = field_extent 4 a.file.now a.at (so field_view at-read-four.read_four-four.ensures.0 c.in-Value.is) in
+    let a = c.args in
+    let x = field_extent 4 a.file.now a.at (so field_view c.read_four-four.ensures.0 c.in-Value.is) in
     omega (arith, x.0, x.1)
 
 pub returns-then-is_compared-says : goal.returns-then-is_compared-says
 returns-then-is_compared-says c =
-    let at-four = c in
-    let at-read-four = at-four in
-    let a = at-read-four.args in
-    let read = so field_view at-read-four.read_four-four.ensures.0 at-four.in-Value.is in
+    let a = c.args in
+    let read = so field_view c.read_four-four.ensures.0 c.in-Value.is in
     let x = field_extent 4 a.file.now a.at read in
-    let says = at-four.in-Value.says in
-    let next = at-four.in-Value.next in
+    let says = c.in-Value.says in
+    let next = c.in-Value.next in
     extent_wrong (is_compared a.lengths) a.file.now a.at read
     (extent_failed (is_compared a.lengths) next says (length a.file.now) (omega (arith, x.0, x.1))
     (ap (λ b. b && not (eqb says (length a.file.now - next))) (sym c.is_compared.ensures) ∙ c.if-is_compared-says.true))
 
 pub returns : goal.returns
 returns c =
-    let at-four = c in
-    let at-read-four = at-four in
-    let a = at-read-four.args in
-    let read = so field_view at-read-four.read_four-four.ensures.0 at-four.in-Value.is in
+    let a = c.args in
+    let read = so field_view c.read_four-four.ensures.0 c.in-Value.is in
     let x = field_extent 4 a.file.now a.at read in
-    let says = at-four.in-Value.says in
-    let next = at-four.in-Value.next in
+    let says = c.in-Value.says in
+    let next = c.in-Value.next in
     extent_right (is_compared a.lengths) a.file.now a.at read
     (extent_held (is_compared a.lengths) next says (length a.file.now) (omega (arith, x.0, x.1))
     (ap (λ b. b && not (eqb says (length a.file.now - next))) (sym c.is_compared.ensures) ∙ c.if-is_compared-says.false))

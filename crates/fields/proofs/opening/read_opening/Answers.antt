@@ -9,29 +9,21 @@ use Rattle.fields.proofs.opening.read_opening.Goals as goal
 
 pub returns-in_default : goal.returns-in_default
 returns-in_default c =
-    let at-read-version = c in
-    let a = at-read-version.args in
-    (rw c.in_default.is (opening_unversioned a.newest (is_compared a.lengths) a.file.now (so field_view at-read-version.read_version-byte.ensures.0 c.in_default.is)), at-read-version.read_version-byte.ensures.1)
+    let a = c.args in
+    (rw c.in_default.is (opening_unversioned a.newest (is_compared a.lengths) a.file.now (so field_view c.read_version-byte.ensures.0 c.in_default.is)), c.read_version-byte.ensures.1)
 
 pub returns-in_default-extent : goal.returns-in_default-extent
 returns-in_default-extent c =
-    let at-read-extent = c in
-    let at_byte = at-read-extent in
-    let at-read-version = at_byte in
-    let a = at-read-version.args in (
-      opening_unmeasured a.newest (is_compared a.lengths) a.file.now (so field_view at-read-version.read_version-byte.ensures.0 at_byte.in-Value.is)
-          (refused passed_view passed_refusal at-read-extent.read_extent-extent.ensures c.in_default-extent.is refl refl c.passed_refusal.ensures),
+    let a = c.args in (
+      opening_unmeasured a.newest (is_compared a.lengths) a.file.now (so field_view c.read_version-byte.ensures.0 c.in-Value.is)
+          (refused passed_view passed_refusal c.read_extent-extent.ensures c.in_default-extent.is refl refl c.passed_refusal.ensures),
       lit< tt,
     )
 
 pub returns : goal.returns
 returns c =
-    let at-extent = c in
-    let at-read-extent = at-extent in
-    let at_byte = at-read-extent in
-    let at-read-version = at_byte in
-    let a = at-read-version.args in (
-      opening_right a.newest (is_compared a.lengths) a.file.now (so field_view at-read-version.read_version-byte.ensures.0 at_byte.in-Value.is)
-          (so passed_view at-read-extent.read_extent-extent.ensures at-extent.in-Next.is),
-      small at-read-version.read_version-byte.ensures.1 at_byte.in-Value.is,
+    let a = c.args in (
+      opening_right a.newest (is_compared a.lengths) a.file.now (so field_view c.read_version-byte.ensures.0 c.in-Value.is)
+          (so passed_view c.read_extent-extent.ensures c.in-Next.is),
+      small c.read_version-byte.ensures.1 c.in-Value.is,
     )

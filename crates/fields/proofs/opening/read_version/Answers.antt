@@ -10,28 +10,21 @@ use Rattle.fields.proofs.opening.read_version.Goals as goal
 
 pub returns-in_default : goal.returns-in_default
 returns-in_default c =
-    let at-read-byte = c in
-    let a = at-read-byte.args in
-    (version_none a.newest a.file.now 0 (so field_view at-read-byte.read_byte-byte.ensures.0 c.in_default.is), lit< tt)
+    let a = c.args in
+    (version_none a.newest a.file.now 0 (so field_view c.read_byte-byte.ensures.0 c.in_default.is), lit< tt)
 
 pub returns-then-not-is_version : goal.returns-then-not-is_version
 returns-then-not-is_version c =
-    let at-is-version = c in
-    let at_byte = at-is-version in
-    let at-read-byte = at_byte in
-    let a = at-read-byte.args in (
-      version_other a.newest a.file.now 0 (so field_view at-read-byte.read_byte-byte.ensures.0 at_byte.in-Value.is)
-          (failed at-is-version.is_version.ensures (ap not c.if-not-is_version.true)),
+    let a = c.args in (
+      version_other a.newest a.file.now 0 (so field_view c.read_byte-byte.ensures.0 c.in-Value.is)
+          (failed c.is_version.ensures (ap not c.if-not-is_version.true)),
       lit< tt,
     )
 
 pub returns : goal.returns
 returns c =
-    let at-is-version = c in
-    let at_byte = at-is-version in
-    let at-read-byte = at_byte in
-    let a = at-read-byte.args in (
-      version_right a.newest a.file.now 0 (so field_view at-read-byte.read_byte-byte.ensures.0 at_byte.in-Value.is)
-          (held at-is-version.is_version.ensures (ap not c.if-not-is_version.false)),
-      small at-read-byte.read_byte-byte.ensures.1 at_byte.in-Value.is,
+    let a = c.args in (
+      version_right a.newest a.file.now 0 (so field_view c.read_byte-byte.ensures.0 c.in-Value.is)
+          (held c.is_version.ensures (ap not c.if-not-is_version.false)),
+      small c.read_byte-byte.ensures.1 c.in-Value.is,
     )

@@ -9,23 +9,18 @@ use Rattle.fields.proofs.record.read_length.Goals as goal
 
 pub returns-in_default : goal.returns-in_default
 returns-in_default c =
-    let at-read-byte = c in
-    let a = at-read-byte.args in
+    let a = c.args in
     length_cut a.length a.file.now a.at
-    (refused field_view field_refusal at-read-byte.read_byte-byte.ensures.0 c.in_default.is refl refl c.field_refusal.ensures)
+    (refused field_view field_refusal c.read_byte-byte.ensures.0 c.in_default.is refl refl c.field_refusal.ensures)
 
 pub returns-then-says-length : goal.returns-then-says-length
 returns-then-says-length c =
-    let at_byte = c in
-    let at-read-byte = at_byte in
-    let a = at-read-byte.args in
-    length_other a.length a.file.now a.at (so field_view at-read-byte.read_byte-byte.ensures.0 at_byte.in-Value.is)
+    let a = c.args in
+    length_other a.length a.file.now a.at (so field_view c.read_byte-byte.ensures.0 c.in-Value.is)
     (ne_eqb _ _ c.if-says-length.true)
 
 pub returns : goal.returns
 returns c =
-    let at_byte = c in
-    let at-read-byte = at_byte in
-    let a = at-read-byte.args in
-    length_right a.length a.file.now a.at (so field_view at-read-byte.read_byte-byte.ensures.0 at_byte.in-Value.is)
+    let a = c.args in
+    length_right a.length a.file.now a.at (so field_view c.read_byte-byte.ensures.0 c.in-Value.is)
     (eq-eqb _ _ c.if-says-length.false)

@@ -19,24 +19,19 @@ loop-i-init c =
 
 pub put_job-requires : goal.put_job-requires
 put_job-requires c =
-    let long : length c.loop-i.words ≡ length c.args.words.now
-    = let a = c.args in
+    let long : length c.loop-i.words ≡ length c.args.words.now = let a = c.args in
       ap length c.loop-i.invariant.1 ∙ length-sets a.words.now a.from (jobs_out a.jobs c.loop-i.i) in
     omega (arith, long)
 
 pub loop-i-preserved : goal.loop-i-preserved
 loop-i-preserved c =
-    let at-put-job = c in
-    let at-loop = at-put-job in
-    let entry = at-loop in
-    let l = at-loop.loop-i in
-    let a = entry.args in
-    (omega arith, rw (add-one, ← (jobs_next a.jobs a.words.now a.from l.i), ← l.invariant.1) at-put-job.put_job.ensures)
+    let l = c.loop-i in
+    let a = c.args in
+    (omega arith, rw (add-one, ← (jobs_next a.jobs a.words.now a.from l.i), ← l.invariant.1) c.put_job.ensures)
 
 pub shape_of-words : goal.shape_of-words
 shape_of-words c =
-    let long : length c.loop-i.words ≡ length c.args.words.now
-    = let a = c.args in
+    let long : length c.loop-i.words ≡ length c.args.words.now = let a = c.args in
       ap length c.loop-i.invariant.1 ∙ length-sets a.words.now a.from (jobs_out a.jobs c.loop-i.i) in
     long
 

@@ -27,9 +27,8 @@ loop-i-init c =
 
 pub loop-i-preserved : goal.loop-i-preserved
 loop-i-preserved c =
-    let at-loop = c in
-    let l = at-loop.loop-i in
-    let a = at-loop.args in
+    let l = c.loop-i in
+    let a = c.args in
     let w = a.words.now in (
       omega arith,
       fits_next w l.i l.grade_bits l.bits l.invariant.1,
@@ -41,9 +40,7 @@ loop-i-preserved c =
 
 pub returns : goal.returns
 returns c =
-    let at-loop = c in
-    let l = at-loop.loop-i in
-    let entry = at-loop in
-    let w = entry.args.words.now in
-    let whole : l.i ≡ counted (plan_of w) = omega (arith, at-loop.counted_within-jobs.ensures, counted_words w at-loop.if-words-lt-PLAN.false) in
+    let l = c.loop-i in
+    let w = c.args.words.now in
+    let whole : l.i ≡ counted (plan_of w) = omega (arith, c.counted_within-jobs.ensures, counted_words w c.if-words-lt-PLAN.false) in
     rw (← whole) (l.invariant.1, l.invariant.2, l.invariant.3, l.invariant.4, l.invariant.5)

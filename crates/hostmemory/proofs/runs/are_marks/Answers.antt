@@ -19,9 +19,8 @@ loop-i-init c =
 pub loop-i-preserved : goal.loop-i-preserved
 unfolding are_marks
 loop-i-preserved c =
-    let at-loop = c in
-    let l = at-loop.loop-i in
-    let w = at-loop.args.words.now in
+    let l = c.loop-i in
+    let w = c.args.words.now in
     let next = drop-cons w l.i 0 (omega arith) in
     (omega arith, rw add-one (and_assoc l.so_far (leb (get_or w l.i 0) 1) (are_marks (drop (suc l.i) w)) ∙ sym (ap (λ m. l.so_far && are_marks m) next) ∙ l.invariant.1))
 

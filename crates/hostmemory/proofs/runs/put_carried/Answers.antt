@@ -24,9 +24,8 @@ bounds-words-i c =
 
 pub loop-i-preserved : goal.loop-i-preserved
 loop-i-preserved c =
-    let at-loop = c in
-    let l = at-loop.loop-i in
-    let a = at-loop.args in
+    let l = c.loop-i in
+    let a = c.args in
     let there : length (take l.i a.carried.now) ≡ l.i = length-take-le l.i a.carried.now (omega arith) in (
       omega arith,
       rw (l.invariant.1, add-one, take-suc a.carried.now l.i 0 (omega arith)) (rw there at (sets_snoc (take l.i a.carried.now) a.words.now mark_words (get_or a.carried.now l.i 0))),

@@ -25,9 +25,8 @@ bounds-words-i c =
 
 pub loop-i-preserved : goal.loop-i-preserved
 loop-i-preserved c =
-    let at-loop = c in
-    let l = at-loop.loop-i in
-    let a = at-loop.args in
+    let l = c.loop-i in
+    let a = c.args in
     let part = map mark_out (take l.i a.ended.now) in
     let there : length part ≡ l.i = length-map (take l.i a.ended.now) mark_out ∙ length-take-le l.i a.ended.now (omega arith) in (
       omega arith,

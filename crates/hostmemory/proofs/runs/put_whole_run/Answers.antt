@@ -8,7 +8,5 @@ use Rattle.hostmemory.proofs.runs.put_whole_run.Goals as goal
 
 pub returns : goal.returns
 returns c =
-    let at_ended = c in
-    let at_slot = at_ended in
-    let a = at_slot.args in
-    at_ended.put_ended.ensures ∙ ap (λ w. sets w ended_start (map mark_out a.ended.now)) at_slot.put_whole_slot.ensures
+    let a = c.args in
+    c.put_ended.ensures ∙ ap (λ w. sets w ended_start (map mark_out a.ended.now)) c.put_whole_slot.ensures

@@ -12,15 +12,13 @@ pub returns-then-byte-ne34 : goal.returns-then-byte-ne34
 returns-then-byte-ne34 c =
     let once : Grown c.args.text.now c.add-next.new.line c.args.at c.add-next.result (c.args.byte ∷ [])
     = adds_grown (omega arith) c.add-next.ensures in
-    let entry = c in
     let g = once in
-    (grown_same (sym (doubled_other entry.args.byte c.if-byte-ne34.true)) g, omega (arith, g.end))
+    (grown_same (sym (doubled_other c.args.byte c.if-byte-ne34.true)) g, omega (arith, g.end))
 
 pub returns : goal.returns
 returns c =
     let once : Grown c.args.text.now c.add-next.new.line c.args.at c.add-next.result (c.args.byte ∷ [])
     = adds_grown (omega arith) c.add-next.ensures in
-    let entry = c in
     let g = once in
     let h = adds_grown (omega (arith, g.end, g.room)) c.add.ensures in
-    (grown_same (sym (doubled_quote entry.args.byte c.if-byte-ne34.false)) (grown_twice g h), omega (arith, g.end, h.end))
+    (grown_same (sym (doubled_quote c.args.byte c.if-byte-ne34.false)) (grown_twice g h), omega (arith, g.end, h.end))

@@ -26,35 +26,29 @@ returns-then-not-is_accepted c =
 
 pub overflow_sub-times : goal.overflow_sub-times
 overflow_sub-times c =
-    let p : Plan
-    = c.args.p in
-    let table : List ℕ
-    = c.args.table.now in
-    let none : hand_fault (p) (table) ≡ []
+    let p : Plan = c.args.p in
+    let table : List ℕ = c.args.table.now in
+    let none : hand_fault p table ≡ []
     = passes _ _ _ c.in_hand-hand.ensures c.is_accepted.ensures (ap not c.if-not-is_accepted.false) in
-    let ready : (0 < length (boundaries (p))) × (places ≤ length (table)) × (rules_hold (p) ≡ true)
-    = hand_ready (p) (table) (none) in
-    omega (arith, ap length c.requires, (ready).0)
+    let ready : (0 < length (boundaries p)) × (places ≤ length table) × (rules_hold p ≡ true)
+    = hand_ready p table none in
+    omega (arith, ap length c.requires, ready.0)
 
 pub constraints-requires : goal.constraints-requires
 constraints-requires c =
-    let p : Plan
-    = c.args.p in
-    let table : List ℕ
-    = c.args.table.now in
-    let none : hand_fault (p) (table) ≡ []
+    let p : Plan = c.args.p in
+    let table : List ℕ = c.args.table.now in
+    let none : hand_fault p table ≡ []
     = passes _ _ _ c.in_hand-hand.ensures c.is_accepted.ensures (ap not c.if-not-is_accepted.false) in
-    let ready : (0 < length (boundaries (p))) × (places ≤ length (table)) × (rules_hold (p) ≡ true)
-    = hand_ready (p) (table) (none) in
+    let ready : (0 < length (boundaries p)) × (places ≤ length table) × (rules_hold p ≡ true)
+    = hand_ready p table none in
     let times = c.requires in
-    (times, ap (λ t. length t - 1) times, omega (arith, ap length times, (ready).0), (ready).1)
+    (times, ap (λ t. length t - 1) times, omega (arith, ap length times, ready.0), ready.1)
 
 pub returns : goal.returns
 returns c =
-    let p : Plan
-    = c.args.p in
-    let table : List ℕ
-    = c.args.table.now in
-    let none : hand_fault (p) (table) ≡ []
+    let p : Plan = c.args.p in
+    let table : List ℕ = c.args.table.now in
+    let none : hand_fault p table ≡ []
     = passes _ _ _ c.in_hand-hand.ensures c.is_accepted.ensures (ap not c.if-not-is_accepted.false) in
-    c.constraints.ensures ∙ sym (or_none _ _ (none))
+    c.constraints.ensures ∙ sym (or_none _ _ none)

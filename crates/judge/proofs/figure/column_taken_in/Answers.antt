@@ -49,9 +49,7 @@ bounds-sums-l c =
 pub overflow_add-asked : goal.overflow_add-asked
 overflow_add-asked c =
     let small : c.loop-l.asked.0 + get_or c.args.sums.now (c.loop-l.l - 1) 0 < most_side
-    = let at-loop = c in
-      let entry = at-loop in
-      omega (arith, entry.requires.3 (at-loop.loop-l.l - 1) (omega (arith, c.loop-l-test.true, at-loop.loop-l.invariant.0)), mul-le-mul_right {m = entry.args.m - at-loop.loop-l.l} {n = most_intervals} (most_jobs * most_at_place) (omega (arith, entry.requires.2)), at-loop.loop-l.invariant.2) in
+    = omega (arith, c.requires.3 (c.loop-l.l - 1) (omega (arith, c.loop-l-test.true, c.loop-l.invariant.0)), mul-le-mul_right {m = c.args.m - c.loop-l.l} {n = most_intervals} (most_jobs * most_at_place) (omega (arith, c.requires.2)), c.loop-l.invariant.2) in
     omega (arith, small)
 
 pub offset_bounds-times-l : goal.offset_bounds-times-l
@@ -65,9 +63,7 @@ bounds-times-l c =
 pub slack_from-slack-requires : goal.slack_from-slack-requires
 slack_from-slack-requires c =
     let small : c.loop-l.asked.0 + get_or c.args.sums.now (c.loop-l.l - 1) 0 < most_side
-    = let at-loop = c in
-      let entry = at-loop in
-      omega (arith, entry.requires.3 (at-loop.loop-l.l - 1) (omega (arith, c.loop-l-test.true, at-loop.loop-l.invariant.0)), mul-le-mul_right {m = entry.args.m - at-loop.loop-l.l} {n = most_intervals} (most_jobs * most_at_place) (omega (arith, entry.requires.2)), at-loop.loop-l.invariant.2) in
+    = omega (arith, c.requires.3 (c.loop-l.l - 1) (omega (arith, c.loop-l-test.true, c.loop-l.invariant.0)), mul-le-mul_right {m = c.args.m - c.loop-l.l} {n = most_intervals} (most_jobs * most_at_place) (omega (arith, c.requires.2)), c.loop-l.invariant.2) in
     (c.capacity-carries.ensures.1, small)
 
 pub loop-l-smaller : goal.loop-l-smaller
@@ -77,49 +73,36 @@ loop-l-smaller c =
 pub loop-l-preserved : goal.loop-l-preserved
 loop-l-preserved c =
     let small : c.loop-l.asked.0 + get_or c.args.sums.now (c.loop-l.l - 1) 0 < most_side
-    = let at-loop = c in
-      let entry = at-loop in
-      omega (arith, entry.requires.3 (at-loop.loop-l.l - 1) (omega (arith, c.loop-l-test.true, at-loop.loop-l.invariant.0)), mul-le-mul_right {m = entry.args.m - at-loop.loop-l.l} {n = most_intervals} (most_jobs * most_at_place) (omega (arith, entry.requires.2)), at-loop.loop-l.invariant.2) in
-    let at-pick = c in
-    let at-slack-from = at-pick in
-    let at-capacity = at-slack-from in
-    let at-loop-test = at-capacity in
-    let at-loop = at-loop-test in
-    let c-13 = at-loop in
-    let start = c-13 in
-    let a = start.args in
-    let here = at-loop.loop-l in
-    let some = at-loop-test.loop-l-test.true in
+    = omega (arith, c.requires.3 (c.loop-l.l - 1) (omega (arith, c.loop-l-test.true, c.loop-l.invariant.0)), mul-le-mul_right {m = c.args.m - c.loop-l.l} {n = most_intervals} (most_jobs * most_at_place) (omega (arith, c.requires.2)), c.loop-l.invariant.2) in
+    let a = c.args in
+    let here = c.loop-l in
+    let some = c.loop-l-test.true in
     let l = here.l in
     let asked = here.asked.0 in
     let best = to_z w64 here.best-bits in
-    let slack = to_z w64 (of_z w64 at-slack-from.slack_from-slack.result) in
+    let slack = to_z w64 (of_z w64 c.slack_from-slack.result) in
     let time = get_or a.times.now a.m 0 in
-    let carries = at-capacity.capacity-carries in
+    let carries = c.capacity-carries in
     let more = small in
-    let is : slack ≡ sub_ℕ carries.result.0 (asked + get_or a.sums.now (l - 1) 0) = kept_difference _ _ _ carries.ensures.1 more at-slack-from.slack_from-slack.ensures in
+    let is : slack ≡ sub_ℕ carries.result.0 (asked + get_or a.sums.now (l - 1) 0) = kept_difference _ _ _ carries.ensures.1 more c.slack_from-slack.ensures in
     let fits : SFits w64 slack = rw is (difference_fits _ _ carries.ensures.1 more) in
     let kept = kept_choice (le_z slack best) slack best c.lesser_of-best.result fits here.invariant.5 c.lesser_of-best.ensures in
-    let turn = taken_next a.d.0 a.sums.now a.times.now a.m l asked slack (sooner (slack_view a.known) best here.at time) (sooner (slack_view a.known) (to_z w64 (of_z w64 c.lesser_of-best.result)) at-pick.pick-at.result time) some here.invariant.0 here.invariant.1
+    let turn = taken_next a.d.0 a.sums.now a.times.now a.m l asked slack (sooner (slack_view a.known) best here.at time) (sooner (slack_view a.known) (to_z w64 (of_z w64 c.lesser_of-best.result)) c.pick-at.result time) some here.invariant.0 here.invariant.1
     (is ∙ ap (λ n. sub_ℕ n (asked + get_or a.sums.now (l - 1) 0)) carries.ensures.0)
-    (ap₂ (λ s n. sooner (slack_view a.known) s n time) kept.0 at-pick.pick-at.ensures ∙ sym (sooner_two (slack_view a.known) best slack here.at (l - 1) time (omega (arith, some, here.invariant.4)))) in
+    (ap₂ (λ s n. sooner (slack_view a.known) s n time) kept.0 c.pick-at.ensures ∙ sym (sooner_two (slack_view a.known) best slack here.at (l - 1) time (omega (arith, some, here.invariant.4)))) in
     let one_more : a.m - (l - 1) ≡ a.m - l + 1 = omega (arith, some, here.invariant.0) in (
       omega (arith, here.invariant.0),
       turn.0,
-      omega (arith, start.requires.3 (l - 1) (omega (arith, some, here.invariant.0)), ap (λ n. n * (most_jobs * most_at_place)) one_more, here.invariant.2),
+      omega (arith, c.requires.3 (l - 1) (omega (arith, some, here.invariant.0)), ap (λ n. n * (most_jobs * most_at_place)) one_more, here.invariant.2),
       turn.1 ∙ here.invariant.3,
-      rw at-pick.pick-at.ensures (choice_from (le_z slack best) (l - 1) here.at (l - 1) (omega arith) (omega (arith, here.invariant.4))),
+      rw c.pick-at.ensures (choice_from (le_z slack best) (l - 1) here.at (l - 1) (omega arith) (omega (arith, here.invariant.4))),
       kept.1,
     )
 
 pub returns : goal.returns
 unfolding column_taken
 returns c =
-    let at-loop-test = c in
-    let at-loop = at-loop-test in
-    let at-if1 = at-loop in
-    let entry = at-if1 in
-    let a = entry.args in
-    let end : at-loop.loop-l.l ≡ 0 = omega (arith, at-loop-test.loop-l-test.false) in
-    c.sooner_of.ensures ∙ (rw end at at-loop.loop-l.invariant.3)
-    ∙ sym (ap (λ b. cond b (column_taken a.d.0 a.sums.now a.times.now a.m a.m (slack_view a.known)) (slack_view a.known)) (taken_some a.due a.m at-if1.if-due-m.false).0)
+    let a = c.args in
+    let end : c.loop-l.l ≡ 0 = omega (arith, c.loop-l-test.false) in
+    c.sooner_of.ensures ∙ (rw end at c.loop-l.invariant.3)
+    ∙ sym (ap (λ b. cond b (column_taken a.d.0 a.sums.now a.times.now a.m a.m (slack_view a.known)) (slack_view a.known)) (taken_some a.due a.m c.if-due-m.false).0)

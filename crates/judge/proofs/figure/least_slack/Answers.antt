@@ -41,53 +41,32 @@ add_rows-due-requires c =
     let ready : ReadyFor c.args.p c.args.table.now c.args.times.now c.hi_deadlines_of-deadlines.result c.args.spans
     = let a = c.args in
       ready_from a.p a.table.now a.times.now c.hi_deadlines_of-deadlines.result a.spans c.requires c.hi_deadlines_of-deadlines.ensures in
-    let most : (q : ℕ) → get_or c.args.table.now q 0 ≤ most_at_place
-    = λ q. omega (arith, c.shared_slice_known-1.given q) in
-    let at-loop-test = c in
-    let at-loop = at-loop-test in
-    let c_5 = at-loop in
-    let c-7 = c_5 in
-    rows_fit (ready) (most) at-loop-test.loop-m-test.true at-loop.loop-m.invariant.1
+    let most : (q : ℕ) → get_or c.args.table.now q 0 ≤ most_at_place = λ q. omega (arith, c.shared_slice_known-1.given q) in
+    rows_fit ready most c.loop-m-test.true c.loop-m.invariant.1
 
 pub slice_bounds-column_taken_in-end : goal.slice_bounds-column_taken_in-end
 slice_bounds-column_taken_in-end c =
     let ready : ReadyFor c.args.p c.args.table.now c.args.times.now c.hi_deadlines_of-deadlines.result c.args.spans
     = let a = c.args in
       ready_from a.p a.table.now a.times.now c.hi_deadlines_of-deadlines.result a.spans c.requires c.hi_deadlines_of-deadlines.ensures in
-    let most : (q : ℕ) → get_or c.args.table.now q 0 ≤ most_at_place
-    = λ q. omega (arith, c.shared_slice_known-1.given q) in
+    let most : (q : ℕ) → get_or c.args.table.now q 0 ≤ most_at_place = λ q. omega (arith, c.shared_slice_known-1.given q) in
     let summed : Summed c.args.p c.args.table.now (suc c.loop-m.m) c.add_rows-due.new.sums
-    = let at-loop-test = c in
-      let at-loop = at-loop-test in
-      let c_6 = at-loop in
-      let c-8 = c_6 in
-      summed_next (ready) (most) at-loop-test.loop-m-test.true c.add_rows-due.new.sums at-loop.loop-m.invariant.1 c.add_rows-due.ensures.1 c.add_rows-due.ensures.2 in
-    sym (summed).room
+    = summed_next ready most c.loop-m-test.true c.add_rows-due.new.sums c.loop-m.invariant.1 c.add_rows-due.ensures.1 c.add_rows-due.ensures.2 in
+    sym summed.room
 
 pub column_taken_in-best-requires : goal.column_taken_in-best-requires
 column_taken_in-best-requires c =
     let ready : ReadyFor c.args.p c.args.table.now c.args.times.now c.hi_deadlines_of-deadlines.result c.args.spans
     = let a = c.args in
       ready_from a.p a.table.now a.times.now c.hi_deadlines_of-deadlines.result a.spans c.requires c.hi_deadlines_of-deadlines.ensures in
-    let most : (q : ℕ) → get_or c.args.table.now q 0 ≤ most_at_place
-    = λ q. omega (arith, c.shared_slice_known-1.given q) in
+    let most : (q : ℕ) → get_or c.args.table.now q 0 ≤ most_at_place = λ q. omega (arith, c.shared_slice_known-1.given q) in
     let summed : Summed c.args.p c.args.table.now (suc c.loop-m.m) c.add_rows-due.new.sums
-    = let at-loop-test = c in
-      let at-loop = at-loop-test in
-      let c_6 = at-loop in
-      let c-8 = c_6 in
-      summed_next (ready) (most) at-loop-test.loop-m-test.true c.add_rows-due.new.sums at-loop.loop-m.invariant.1 c.add_rows-due.ensures.1 c.add_rows-due.ensures.2 in
-    let c_3 = c in
-    let at-loop-test = c_3 in
-    let c-9 = at-loop-test in
-    let c-11 = c-9 in
-    column_fits (ready) (most) at-loop-test.loop-m-test.true (summed)
+    = summed_next ready most c.loop-m-test.true c.add_rows-due.new.sums c.loop-m.invariant.1 c.add_rows-due.ensures.1 c.add_rows-due.ensures.2 in
+    column_fits ready most c.loop-m-test.true summed
 
 pub overflow_add-m : goal.overflow_add-m
 overflow_add-m c =
-    let at-loop-test = c in
-    let entry = at-loop-test in
-    omega (arith, entry.requires.1, few_intervals entry.args.p, at-loop-test.loop-m-test.true)
+    omega (arith, c.requires.1, few_intervals c.args.p, c.loop-m-test.true)
 
 pub loop-m-smaller : goal.loop-m-smaller
 loop-m-smaller c =
@@ -98,34 +77,20 @@ loop-m-preserved c =
     let ready : ReadyFor c.args.p c.args.table.now c.args.times.now c.hi_deadlines_of-deadlines.result c.args.spans
     = let a = c.args in
       ready_from a.p a.table.now a.times.now c.hi_deadlines_of-deadlines.result a.spans c.requires c.hi_deadlines_of-deadlines.ensures in
-    let most : (q : ℕ) → get_or c.args.table.now q 0 ≤ most_at_place
-    = λ q. omega (arith, c.shared_slice_known-1.given q) in
+    let most : (q : ℕ) → get_or c.args.table.now q 0 ≤ most_at_place = λ q. omega (arith, c.shared_slice_known-1.given q) in
     let summed : Summed c.args.p c.args.table.now (suc c.loop-m.m) c.add_rows-due.new.sums
-    = let at-loop-test = c in
-      let at-loop = at-loop-test in
-      let c_6 = at-loop in
-      let c-8 = c_6 in
-      summed_next (ready) (most) at-loop-test.loop-m-test.true c.add_rows-due.new.sums at-loop.loop-m.invariant.1 c.add_rows-due.ensures.1 c.add_rows-due.ensures.2 in
+    = summed_next ready most c.loop-m-test.true c.add_rows-due.new.sums c.loop-m.invariant.1 c.add_rows-due.ensures.1 c.add_rows-due.ensures.2 in
     let due : c.add_rows-due.result ≡ is_hi_deadline c.args.p (boundary c.args.p c.loop-m.m)
-    = let at-loop-test = c in
-      let c_6 = at-loop-test in
-      let c-8 = c_6 in
-      due_is (ready) (most) at-loop-test.loop-m-test.true c.add_rows-due.ensures.0 in
-    let at-add-rows = c in
-    let at-loop-test = at-add-rows in
-    let at-loop = at-loop-test in
-    let entry = at-loop in
-    let a = entry.args in
-    let m = at-loop.loop-m.m in
-    let in_time : m ≤ intervals a.p = omega (arith, at-loop-test.loop-m-test.true, entry.requires.1) in (
-      omega (arith, at-loop-test.loop-m-test.true),
-      rw (add-one m) (summed),
-      tightest_next a.p a.table.now at-add-rows.add_rows-due.new.sums a.times.now m entry.requires.0 in_time (summed) at-add-rows.add_rows-due.result (slack_view at-loop.loop-m.best) (slack_view c.column_taken_in-best.result) (due) c.column_taken_in-best.ensures at-loop.loop-m.invariant.2,
+    = due_is ready most c.loop-m-test.true c.add_rows-due.ensures.0 in
+    let a = c.args in
+    let m = c.loop-m.m in
+    let in_time : m ≤ intervals a.p = omega (arith, c.loop-m-test.true, c.requires.1) in (
+      omega (arith, c.loop-m-test.true),
+      rw (add-one m) summed,
+      tightest_next a.p a.table.now c.add_rows-due.new.sums a.times.now m c.requires.0 in_time summed c.add_rows-due.result (slack_view c.loop-m.best) (slack_view c.column_taken_in-best.result) due c.column_taken_in-best.ensures c.loop-m.invariant.2,
     )
 
 pub returns : goal.returns
 returns c =
-    let at-loop = c in
-    let entry = at-loop in
-    let a = entry.args in
-    tightest_end a.p a.table.now at-loop.loop-m.m (slack_view at-loop.loop-m.best) (omega (arith, entry.requires.1, c.loop-m-test.false, at-loop.loop-m.invariant.0)) at-loop.loop-m.invariant.2
+    let a = c.args in
+    tightest_end a.p a.table.now c.loop-m.m (slack_view c.loop-m.best) (omega (arith, c.requires.1, c.loop-m-test.false, c.loop-m.invariant.0)) c.loop-m.invariant.2

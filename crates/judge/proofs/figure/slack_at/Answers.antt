@@ -26,36 +26,30 @@ returns-then-not-is_accepted c =
 
 pub overflow_sub-times : goal.overflow_sub-times
 overflow_sub-times c =
-    let p : Plan
-    = c.args.p in
-    let table : List ℕ
-    = c.args.table.now in
-    let none : or_else (hand_fault (p) (table)) (constraint_fault (p) (table)) ≡ []
+    let p : Plan = c.args.p in
+    let table : List ℕ = c.args.table.now in
+    let none : or_else (hand_fault p table) (constraint_fault p table) ≡ []
     = passes _ _ _ c.refusal_of-refusal.ensures c.is_accepted.ensures (ap not c.if-not-is_accepted.false) in
-    let ready : (0 < length (boundaries (p))) × (places ≤ length (table)) × (rules_hold (p) ≡ true)
-    = refused_by_none (p) (table) (none) in
-    omega (arith, ap length c.requires, (ready).0)
+    let ready : (0 < length (boundaries p)) × (places ≤ length table) × (rules_hold p ≡ true)
+    = refused_by_none p table none in
+    omega (arith, ap length c.requires, ready.0)
 
 pub least_slack-requires : goal.least_slack-requires
 least_slack-requires c =
-    let p : Plan
-    = c.args.p in
-    let table : List ℕ
-    = c.args.table.now in
-    let none : or_else (hand_fault (p) (table)) (constraint_fault (p) (table)) ≡ []
+    let p : Plan = c.args.p in
+    let table : List ℕ = c.args.table.now in
+    let none : or_else (hand_fault p table) (constraint_fault p table) ≡ []
     = passes _ _ _ c.refusal_of-refusal.ensures c.is_accepted.ensures (ap not c.if-not-is_accepted.false) in
-    let ready : (0 < length (boundaries (p))) × (places ≤ length (table)) × (rules_hold (p) ≡ true)
-    = refused_by_none (p) (table) (none) in
+    let ready : (0 < length (boundaries p)) × (places ≤ length table) × (rules_hold p ≡ true)
+    = refused_by_none p table none in
     let times = c.requires in
-    (times, ap (λ t. length t - 1) times, omega (arith, ap length times, (ready).0), (ready).1, (ready).2)
+    (times, ap (λ t. length t - 1) times, omega (arith, ap length times, ready.0), ready.1, ready.2)
 
 pub returns : goal.returns
 unfolding slack_figure
 returns c =
-    let p : Plan
-    = c.args.p in
-    let table : List ℕ
-    = c.args.table.now in
-    let none : or_else (hand_fault (p) (table)) (constraint_fault (p) (table)) ≡ []
+    let p : Plan = c.args.p in
+    let table : List ℕ = c.args.table.now in
+    let none : or_else (hand_fault p table) (constraint_fault p table) ≡ []
     = passes _ _ _ c.refusal_of-refusal.ensures c.is_accepted.ensures (ap not c.if-not-is_accepted.false) in
-    c.least_slack.ensures ∙ unless_none _ _ (none)
+    c.least_slack.ensures ∙ unless_none _ _ none

@@ -19,24 +19,18 @@ returns-in-NoneEssential c =
 
 pub returns-then-slack-best : goal.returns-then-slack-best
 returns-then-slack-best c =
-    let at-known-told = c in
-    let at-known = at-known-told in
-    let entry = at-known in
-    let a = entry.args in
-    let best = at-known.in-Least.best in
+    let a = c.args in
+    let best = c.in-Least.best in
     let fits : SFits w64 best = search rules in
-    let at = at-known.in-Least.at in
-    let test : (lt_z a.slack best || le_z a.slack best && ltb a.l at) ≡ true = sym (ap₂ (λ s b. lt_z s b || le_z s b && ltb a.l at) (to_z-of_z entry.ranges.slack) (to_z-of_z fits)) ∙ c.if-slack-best.true in
-    ap (λ s. least s a.l a.time.0) (to_z-of_z entry.ranges.slack) ∙ rw (at-known.in-Least.is, test) refl
+    let at = c.in-Least.at in
+    let test : (lt_z a.slack best || le_z a.slack best && ltb a.l at) ≡ true = sym (ap₂ (λ s b. lt_z s b || le_z s b && ltb a.l at) (to_z-of_z c.ranges.slack) (to_z-of_z fits)) ∙ c.if-slack-best.true in
+    ap (λ s. least s a.l a.time.0) (to_z-of_z c.ranges.slack) ∙ rw (c.in-Least.is, test) refl
 
 pub returns-else-slack-best : goal.returns-else-slack-best
 returns-else-slack-best c =
-    let at-known-told = c in
-    let at-known = at-known-told in
-    let entry = at-known in
-    let a = entry.args in
-    let best = at-known.in-Least.best in
+    let a = c.args in
+    let best = c.in-Least.best in
     let fits : SFits w64 best = search rules in
-    let at = at-known.in-Least.at in
-    let test : (lt_z a.slack best || le_z a.slack best && ltb a.l at) ≡ false = sym (ap₂ (λ s b. lt_z s b || le_z s b && ltb a.l at) (to_z-of_z entry.ranges.slack) (to_z-of_z fits)) ∙ c.if-slack-best.false in
-    rw (at-known.in-Least.is, test) refl
+    let at = c.in-Least.at in
+    let test : (lt_z a.slack best || le_z a.slack best && ltb a.l at) ≡ false = sym (ap₂ (λ s b. lt_z s b || le_z s b && ltb a.l at) (to_z-of_z c.ranges.slack) (to_z-of_z fits)) ∙ c.if-slack-best.false in
+    rw (c.in-Least.is, test) refl

@@ -42,53 +42,32 @@ add_rows-due-requires c =
     let ready : ReadyFor c.args.p c.args.table.now c.args.times.now c.hi_deadlines_of-deadlines.result c.args.spans
     = let a = c.args in
       ready_from a.p a.table.now a.times.now c.hi_deadlines_of-deadlines.result a.spans c.requires c.hi_deadlines_of-deadlines.ensures in
-    let most : (q : ℕ) → get_or c.args.table.now q 0 ≤ most_at_place
-    = λ q. omega (arith, c.shared_slice_known-1.given q) in
-    let at-loop-test = c in
-    let at-loop = at-loop-test in
-    let c_5 = at-loop in
-    let c-7 = c_5 in
-    rows_fit (ready) (most) at-loop-test.loop-m-test.true at-loop.loop-m.invariant.1
+    let most : (q : ℕ) → get_or c.args.table.now q 0 ≤ most_at_place = λ q. omega (arith, c.shared_slice_known-1.given q) in
+    rows_fit ready most c.loop-m-test.true c.loop-m.invariant.1
 
 pub slice_bounds-lowered-end : goal.slice_bounds-lowered-end
 slice_bounds-lowered-end c =
     let ready : ReadyFor c.args.p c.args.table.now c.args.times.now c.hi_deadlines_of-deadlines.result c.args.spans
     = let a = c.args in
       ready_from a.p a.table.now a.times.now c.hi_deadlines_of-deadlines.result a.spans c.requires c.hi_deadlines_of-deadlines.ensures in
-    let most : (q : ℕ) → get_or c.args.table.now q 0 ≤ most_at_place
-    = λ q. omega (arith, c.shared_slice_known-1.given q) in
+    let most : (q : ℕ) → get_or c.args.table.now q 0 ≤ most_at_place = λ q. omega (arith, c.shared_slice_known-1.given q) in
     let summed : Summed c.args.p c.args.table.now (suc c.loop-m.m) c.add_rows-due.new.sums
-    = let at-loop-test = c in
-      let at-loop = at-loop-test in
-      let c_6 = at-loop in
-      let c-8 = c_6 in
-      summed_next (ready) (most) at-loop-test.loop-m-test.true c.add_rows-due.new.sums at-loop.loop-m.invariant.1 c.add_rows-due.ensures.1 c.add_rows-due.ensures.2 in
-    sym (summed).room
+    = summed_next ready most c.loop-m-test.true c.add_rows-due.new.sums c.loop-m.invariant.1 c.add_rows-due.ensures.1 c.add_rows-due.ensures.2 in
+    sym summed.room
 
 pub lowered-here-requires : goal.lowered-here-requires
 lowered-here-requires c =
     let ready : ReadyFor c.args.p c.args.table.now c.args.times.now c.hi_deadlines_of-deadlines.result c.args.spans
     = let a = c.args in
       ready_from a.p a.table.now a.times.now c.hi_deadlines_of-deadlines.result a.spans c.requires c.hi_deadlines_of-deadlines.ensures in
-    let most : (q : ℕ) → get_or c.args.table.now q 0 ≤ most_at_place
-    = λ q. omega (arith, c.shared_slice_known-1.given q) in
+    let most : (q : ℕ) → get_or c.args.table.now q 0 ≤ most_at_place = λ q. omega (arith, c.shared_slice_known-1.given q) in
     let summed : Summed c.args.p c.args.table.now (suc c.loop-m.m) c.add_rows-due.new.sums
-    = let at-loop-test = c in
-      let at-loop = at-loop-test in
-      let c_6 = at-loop in
-      let c-8 = c_6 in
-      summed_next (ready) (most) at-loop-test.loop-m-test.true c.add_rows-due.new.sums at-loop.loop-m.invariant.1 c.add_rows-due.ensures.1 c.add_rows-due.ensures.2 in
-    let c_3 = c in
-    let at-loop-test = c_3 in
-    let c-9 = at-loop-test in
-    let c-11 = c-9 in
-    column_fits (ready) (most) at-loop-test.loop-m-test.true (summed)
+    = summed_next ready most c.loop-m-test.true c.add_rows-due.new.sums c.loop-m.invariant.1 c.add_rows-due.ensures.1 c.add_rows-due.ensures.2 in
+    column_fits ready most c.loop-m-test.true summed
 
 pub overflow_add-m : goal.overflow_add-m
 overflow_add-m c =
-    let at-loop-test = c in
-    let entry = at-loop-test in
-    omega (arith, entry.requires.1, few_intervals entry.args.p, at-loop-test.loop-m-test.true)
+    omega (arith, c.requires.1, few_intervals c.args.p, c.loop-m-test.true)
 
 pub loop-m-smaller : goal.loop-m-smaller
 loop-m-smaller c =
@@ -99,55 +78,34 @@ loop-m-preserved c =
     let ready : ReadyFor c.args.p c.args.table.now c.args.times.now c.hi_deadlines_of-deadlines.result c.args.spans
     = let a = c.args in
       ready_from a.p a.table.now a.times.now c.hi_deadlines_of-deadlines.result a.spans c.requires c.hi_deadlines_of-deadlines.ensures in
-    let most : (q : ℕ) → get_or c.args.table.now q 0 ≤ most_at_place
-    = λ q. omega (arith, c.shared_slice_known-1.given q) in
+    let most : (q : ℕ) → get_or c.args.table.now q 0 ≤ most_at_place = λ q. omega (arith, c.shared_slice_known-1.given q) in
     let summed : Summed c.args.p c.args.table.now (suc c.loop-m.m) c.add_rows-due.new.sums
-    = let at-loop-test = c in
-      let at-loop = at-loop-test in
-      let c_6 = at-loop in
-      let c-8 = c_6 in
-      summed_next (ready) (most) at-loop-test.loop-m-test.true c.add_rows-due.new.sums at-loop.loop-m.invariant.1 c.add_rows-due.ensures.1 c.add_rows-due.ensures.2 in
+    = summed_next ready most c.loop-m-test.true c.add_rows-due.new.sums c.loop-m.invariant.1 c.add_rows-due.ensures.1 c.add_rows-due.ensures.2 in
     let due : c.add_rows-due.result ≡ is_hi_deadline c.args.p (boundary c.args.p c.loop-m.m)
-    = let at-loop-test = c in
-      let c_6 = at-loop-test in
-      let c-8 = c_6 in
-      due_is (ready) (most) at-loop-test.loop-m-test.true c.add_rows-due.ensures.0 in
-    let at-lowered = c in
-    let at-add-rows = at-lowered in
-    let at-loop-test = at-add-rows in
-    let at-loop = at-loop-test in
-    let entry = at-loop in
-    let a = entry.args in
-    let m = at-loop.loop-m.m in
-    let in_time : m ≤ intervals a.p = omega (arith, at-loop-test.loop-m-test.true, entry.requires.1) in (
-      omega (arith, at-loop-test.loop-m-test.true),
-      rw (add-one m) (summed),
-      lowest_next a.p a.table.now at-add-rows.add_rows-due.new.sums a.times.now m at-loop.loop-m.low at-loop.loop-m.until at-lowered.lowered-here.result c.pick-until.result at-add-rows.add_rows-due.result entry.requires.0 in_time (summed).columns (due) at-lowered.lowered-here.ensures c.pick-until.ensures at-loop.loop-m.invariant.2,
+    = due_is ready most c.loop-m-test.true c.add_rows-due.ensures.0 in
+    let a = c.args in
+    let m = c.loop-m.m in
+    let in_time : m ≤ intervals a.p = omega (arith, c.loop-m-test.true, c.requires.1) in (
+      omega (arith, c.loop-m-test.true),
+      rw (add-one m) summed,
+      lowest_next a.p a.table.now c.add_rows-due.new.sums a.times.now m c.loop-m.low c.loop-m.until c.lowered-here.result c.pick-until.result c.add_rows-due.result c.requires.0 in_time summed.columns due c.lowered-here.ensures c.pick-until.ensures c.loop-m.invariant.2,
     )
 
 pub found_at-requires : goal.found_at-requires
 found_at-requires c =
     let whole : Lowest c.args.p c.args.table.now (suc (intervals c.args.p)) c.loop-m.low c.loop-m.until
-    = let at-loop = c in
-      let entry = at-loop in
-      let a = entry.args in
-      let end : at-loop.loop-m.m ≡ suc (intervals a.p) = omega (arith, entry.requires.1, c.loop-m-test.false, at-loop.loop-m.invariant.0) in
-      subst (λ n. Lowest a.p a.table.now n at-loop.loop-m.low at-loop.loop-m.until) end at-loop.loop-m.invariant.2 in
-    λ h. let entry = c in
-    omega (arith, ((whole).there (omega (arith, entry.requires.1))).0, entry.requires.1, entry.requires.2)
+    = let a = c.args in
+      let end : c.loop-m.m ≡ suc (intervals a.p) = omega (arith, c.requires.1, c.loop-m-test.false, c.loop-m.invariant.0) in
+      subst (λ n. Lowest a.p a.table.now n c.loop-m.low c.loop-m.until) end c.loop-m.invariant.2 in
+    λ h. omega (arith, (whole.there (omega (arith, c.requires.1))).0, c.requires.1, c.requires.2)
 
 pub returns : goal.returns
 returns c =
     let whole : Lowest c.args.p c.args.table.now (suc (intervals c.args.p)) c.loop-m.low c.loop-m.until
-    = let at-loop = c in
-      let entry = at-loop in
-      let a = entry.args in
-      let end : at-loop.loop-m.m ≡ suc (intervals a.p) = omega (arith, entry.requires.1, c.loop-m-test.false, at-loop.loop-m.invariant.0) in
-      subst (λ n. Lowest a.p a.table.now n at-loop.loop-m.low at-loop.loop-m.until) end at-loop.loop-m.invariant.2 in
-    let c_1 = c in
-    let at-loop = c_1 in
-    let entry = at-loop in
-    let a = entry.args in
+    = let a = c.args in
+      let end : c.loop-m.m ≡ suc (intervals a.p) = omega (arith, c.requires.1, c.loop-m-test.false, c.loop-m.invariant.0) in
+      subst (λ n. Lowest a.p a.table.now n c.loop-m.low c.loop-m.until) end c.loop-m.invariant.2 in
+    let a = c.args in
     c.found_at.ensures
-    ∙ ap₂ (λ t n. fault (ltb at-loop.loop-m.low n) (below_floor_rule ∷ at-loop.loop-m.low ∷ get_or t at-loop.loop-m.until 0 ∷ [])) entry.requires.0 entry.requires.1
-    ∙ place_is a.p a.table.now at-loop.loop-m.low at-loop.loop-m.until (whole)
+    ∙ ap₂ (λ t n. fault (ltb c.loop-m.low n) (below_floor_rule ∷ c.loop-m.low ∷ get_or t c.loop-m.until 0 ∷ [])) c.requires.0 c.requires.1
+    ∙ place_is a.p a.table.now c.loop-m.low c.loop-m.until whole

@@ -25,8 +25,7 @@ returns-then-not-due c =
 
 pub loop-l-init : goal.loop-l-init
 loop-l-init c =
-    let entry = c in
-    (omega arith, sym (let e : entry.args.m - entry.args.m ≡ 0 = omega arith in ap (sum _) e ∙ sum_start _), omega arith, lowest_end _ _ _)
+    (omega arith, sym (let e : c.args.m - c.args.m ≡ 0 = omega arith in ap (sum _) e ∙ sum_start _), omega arith, lowest_end _ _ _)
 
 pub overflow_sub-l : goal.overflow_sub-l
 overflow_sub-l c =
@@ -42,10 +41,7 @@ bounds-sums-l c =
 
 pub overflow_add-asked : goal.overflow_add-asked
 overflow_add-asked c =
-    let at-loop-test = c in
-    let at-loop = at-loop-test in
-    let entry = at-loop in
-    omega (arith, entry.requires.3 (at-loop.loop-l.l - 1) (omega (arith, at-loop-test.loop-l-test.true, at-loop.loop-l.invariant.0)), mul-le-mul_right {m = entry.args.m - at-loop.loop-l.l} {n = most_intervals} (most_jobs * most_at_place) (omega (arith, entry.requires.2)), at-loop.loop-l.invariant.2)
+    omega (arith, c.requires.3 (c.loop-l.l - 1) (omega (arith, c.loop-l-test.true, c.loop-l.invariant.0)), mul-le-mul_right {m = c.args.m - c.loop-l.l} {n = most_intervals} (most_jobs * most_at_place) (omega (arith, c.requires.2)), c.loop-l.invariant.2)
 
 pub offset_bounds-times-l : goal.offset_bounds-times-l
 offset_bounds-times-l c =
@@ -61,32 +57,24 @@ loop-l-smaller c =
 
 pub loop-l-preserved : goal.loop-l-preserved
 loop-l-preserved c =
-    let at-capacity = c in
-    let at-loop-test = at-capacity in
-    let at-loop = at-loop-test in
-    let entry = at-loop in
-    let a = entry.args in
-    let l = at-loop.loop-l.l in
-    let asked = at-loop.loop-l.asked.0 in
-    let low = at-loop.loop-l.low in
-    let turn = column_next a.d.0 a.sums.now a.times.now a.m a.other l asked low c.pick-low.result at-loop-test.loop-l-test.true at-loop.loop-l.invariant.0 at-loop.loop-l.invariant.1 at-loop.loop-l.invariant.3
-    (c.pick-low.ensures ∙ ap (λ n. cond (ltb n (asked + get_or a.sums.now (l - 1) 0)) (l - 1) low) at-capacity.capacity-carries.ensures.0) in
-    let one_more : a.m - (l - 1) ≡ a.m - l + 1 = omega (arith, at-loop-test.loop-l-test.true, at-loop.loop-l.invariant.0) in (
-      omega (arith, at-loop.loop-l.invariant.0),
+    let a = c.args in
+    let l = c.loop-l.l in
+    let asked = c.loop-l.asked.0 in
+    let low = c.loop-l.low in
+    let turn = column_next a.d.0 a.sums.now a.times.now a.m a.other l asked low c.pick-low.result c.loop-l-test.true c.loop-l.invariant.0 c.loop-l.invariant.1 c.loop-l.invariant.3
+    (c.pick-low.ensures ∙ ap (λ n. cond (ltb n (asked + get_or a.sums.now (l - 1) 0)) (l - 1) low) c.capacity-carries.ensures.0) in
+    let one_more : a.m - (l - 1) ≡ a.m - l + 1 = omega (arith, c.loop-l-test.true, c.loop-l.invariant.0) in (
+      omega (arith, c.loop-l.invariant.0),
       turn.0,
-      omega (arith, entry.requires.3 (l - 1) (omega (arith, at-loop-test.loop-l-test.true, at-loop.loop-l.invariant.0)), ap (λ n. n * (most_jobs * most_at_place)) one_more, at-loop.loop-l.invariant.2),
+      omega (arith, c.requires.3 (l - 1) (omega (arith, c.loop-l-test.true, c.loop-l.invariant.0)), ap (λ n. n * (most_jobs * most_at_place)) one_more, c.loop-l.invariant.2),
       turn.1,
     )
 
 pub returns : goal.returns
 returns c =
-    let at-loop-test = c in
-    let at-loop = at-loop-test in
-    let at-if1 = at-loop in
-    let entry = at-if1 in
-    let a = entry.args in
-    let end : at-loop.loop-l.l ≡ 0 = omega (arith, at-loop-test.loop-l-test.false) in
+    let a = c.args in
+    let end : c.loop-l.l ≡ 0 = omega (arith, c.loop-l-test.false) in
     let all : a.m - 0 ≡ a.m = omega arith in
-    c.pick.ensures ∙ lesser_is at-loop.loop-l.low a.other
-    ∙ ap (min a.other) (rw (end, all) at at-loop.loop-l.invariant.3)
-    ∙ sym (ap (λ b. cond b (min a.other (lowest (asks_more a.d.0 a.sums.now a.times.now a.m) a.other 0 a.m)) a.other) (not-false a.due (ap not at-if1.if-not-due.false)))
+    c.pick.ensures ∙ lesser_is c.loop-l.low a.other
+    ∙ ap (min a.other) (rw (end, all) at c.loop-l.invariant.3)
+    ∙ sym (ap (λ b. cond b (min a.other (lowest (asks_more a.d.0 a.sums.now a.times.now a.m) a.other 0 a.m)) a.other) (not-false a.due (ap not c.if-not-due.false)))

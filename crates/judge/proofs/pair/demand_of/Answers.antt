@@ -30,15 +30,13 @@ returns-then-ended-interval c =
 
 pub overflow_cast-ended : goal.overflow_cast-ended
 overflow_cast-ended c =
-    let few : c.present_of-ended.result ≤ most_intervals
-    = let p = c.args.p in
+    let few : c.present_of-ended.result ≤ most_intervals = let p = c.args.p in
       omega (arith, c.present_of-ended.ensures, come_few c.args.time.0 (boundaries p), boundaries_few p (counted p)) in
     omega (arith, few)
 
 pub hi_units-requires : goal.hi_units-requires
 hi_units-requires c =
-    let few : c.present_of-ended.result ≤ most_intervals
-    = let p = c.args.p in
+    let few : c.present_of-ended.result ≤ most_intervals = let p = c.args.p in
       omega (arith, c.present_of-ended.ensures, come_few c.args.time.0 (boundaries p), boundaries_few p (counted p)) in
     omega (arith, few)
 

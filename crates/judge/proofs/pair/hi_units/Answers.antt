@@ -24,10 +24,7 @@ overflow_mul-i c =
 
 pub overflow_add-i : goal.overflow_add-i
 overflow_add-i c =
-    let at-loop-test = c in
-    let at-counted-of = at-loop-test in
-    let entry = at-counted-of in
-    omega (arith, at-loop-test.loop-i-test.true, at-counted-of.counted_of-jobs.ensures, entry.requires.0)
+    omega (arith, c.loop-i-test.true, c.counted_of-jobs.ensures, c.requires.0)
 
 pub wanted_sum-units-requires : goal.wanted_sum-units-requires
 wanted_sum-units-requires c =
@@ -35,11 +32,7 @@ wanted_sum-units-requires c =
 
 pub overflow_add-total : goal.overflow_add-total
 overflow_add-total c =
-    let at-wanted-sum = c in
-    let at-loop-test = at-wanted-sum in
-    let at-loop = at-loop-test in
-    let at-counted-of = at-loop in
-    omega (arith, at-wanted-sum.wanted_sum-units.ensures.1, at-loop.loop-i.invariant.2, at-loop-test.loop-i-test.true, at-counted-of.counted_of-jobs.ensures)
+    omega (arith, c.wanted_sum-units.ensures.1, c.loop-i.invariant.2, c.loop-i-test.true, c.counted_of-jobs.ensures)
 
 pub loop-i-smaller : goal.loop-i-smaller
 loop-i-smaller c =
@@ -47,15 +40,9 @@ loop-i-smaller c =
 
 pub loop-i-preserved : goal.loop-i-preserved
 loop-i-preserved c =
-    let at-wanted-sum = c in
-    let at-loop-test = at-wanted-sum in
-    let at-loop = at-loop-test in
-    (omega (arith, at-loop-test.loop-i-test.true), sum_next _ at-loop.loop-i.i at-loop.loop-i.invariant.1 at-wanted-sum.wanted_sum-units.ensures.0, omega (arith, at-wanted-sum.wanted_sum-units.ensures.1, at-loop.loop-i.invariant.2))
+    (omega (arith, c.loop-i-test.true), sum_next _ c.loop-i.i c.loop-i.invariant.1 c.wanted_sum-units.ensures.0, omega (arith, c.wanted_sum-units.ensures.1, c.loop-i.invariant.2))
 
 pub returns : goal.returns
 returns c =
-    let at-loop = c in
-    let at-counted-of = at-loop in
-    let entry = at-counted-of in
-    let end : at-loop.loop-i.i ≡ counted entry.args.p = omega (arith, c.loop-i-test.false, at-loop.loop-i.invariant.0, at-counted-of.counted_of-jobs.ensures) in
-    (at-loop.loop-i.invariant.1 ∙ ap (sum _) end, rw end at at-loop.loop-i.invariant.2)
+    let end : c.loop-i.i ≡ counted c.args.p = omega (arith, c.loop-i-test.false, c.loop-i.invariant.0, c.counted_of-jobs.ensures) in
+    (c.loop-i.invariant.1 ∙ ap (sum _) end, rw end at c.loop-i.invariant.2)

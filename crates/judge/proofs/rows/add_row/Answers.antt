@@ -38,11 +38,7 @@ overflow_cast-sums c =
 
 pub overflow_add-sums-in-loop-j : goal.overflow_add-sums-in-loop-j
 overflow_add-sums-in-loop-j c =
-    let at-shared-slice-known = c in
-    let at-loop-test = at-shared-slice-known in
-    let at-loop = at-loop-test in
-    let entry = at-loop in
-    omega (arith, at-shared-slice-known.shared_slice_known-1.given (entry.args.start + at-loop.loop-j.j), at-loop.loop-j.invariant.1.rest at-loop.loop-j.j (omega arith), entry.requires.2 at-loop.loop-j.j at-loop-test.loop-j-test.true)
+    omega (arith, c.shared_slice_known-1.given (c.args.start + c.loop-j.j), c.loop-j.invariant.1.rest c.loop-j.j (omega arith), c.requires.2 c.loop-j.j c.loop-j-test.true)
 
 pub offset_bounds-sums-j-in-loop-j : goal.offset_bounds-sums-j-in-loop-j
 offset_bounds-sums-j-in-loop-j c =
@@ -50,10 +46,7 @@ offset_bounds-sums-j-in-loop-j c =
 
 pub bounds-sums-j-in-loop-j : goal.bounds-sums-j-in-loop-j
 bounds-sums-j-in-loop-j c =
-    let at-loop-test = c in
-    let at-loop = at-loop-test in
-    let entry = at-loop in
-    omega (arith, at-loop.loop-j.invariant.1.long, at-loop-test.loop-j-test.true, entry.requires.0)
+    omega (arith, c.loop-j.invariant.1.long, c.loop-j-test.true, c.requires.0)
 
 pub loop-j-smaller : goal.loop-j-smaller
 loop-j-smaller c =
@@ -61,10 +54,7 @@ loop-j-smaller c =
 
 pub loop-j-preserved : goal.loop-j-preserved
 loop-j-preserved c =
-    let at-loop-test = c in
-    let at-loop = at-loop-test in
-    let entry = at-loop in
-    (omega (arith, at-loop-test.loop-j-test.true), added_next _ _ _ at-loop.loop-j.j _ (omega (arith, at-loop.loop-j.invariant.1.long, at-loop-test.loop-j-test.true, entry.requires.0)) at-loop.loop-j.invariant.1 refl)
+    (omega (arith, c.loop-j-test.true), added_next _ _ _ c.loop-j.j _ (omega (arith, c.loop-j.invariant.1.long, c.loop-j-test.true, c.requires.0)) c.loop-j.invariant.1 refl)
 
 pub shape_of-sums : goal.shape_of-sums
 shape_of-sums c =

@@ -46,22 +46,18 @@ overflow_mul-i c =
 
 pub add_row-requires : goal.add_row-requires
 add_row-requires c =
-    let at-loop-test = c in
-    let at-loop = at-loop-test in
-    let at-shared-slice-known = at-loop in
-    let entry = at-shared-slice-known in
-    let a = entry.args in
-    let i = at-loop.loop-i.i in (
-      omega (arith, at-loop.loop-i.invariant.1, entry.requires.0),
-      omega (arith, at-loop-test.loop-i-test.true, entry.requires.1, entry.requires.2, entry.requires.3),
+    let a = c.args in
+    let i = c.loop-i.i in (
+      omega (arith, c.loop-i.invariant.1, c.requires.0),
+      omega (arith, c.loop-i-test.true, c.requires.1, c.requires.2, c.requires.3),
       λ j l. omega (
         arith,
-        at-loop.loop-i.invariant.2 j l,
-        entry.requires.4 j l,
-        at-loop-test.loop-i-test.true,
-        entry.requires.1,
+        c.loop-i.invariant.2 j l,
+        c.requires.4 j l,
+        c.loop-i-test.true,
+        c.requires.1,
         sum_bound (dueOf a.table.now a.deadlines.now a.time.0 j) most_at_place i
-            (λ k b. on_at_most (eqb (get_or a.deadlines.now k 0) a.time.0) (units a.table.now k j) most_at_place (omega (arith, at-shared-slice-known.shared_slice_known-1.given (most_intervals * k + j)))),
+            (λ k b. on_at_most (eqb (get_or a.deadlines.now k 0) a.time.0) (units a.table.now k j) most_at_place (omega (arith, c.shared_slice_known-1.given (most_intervals * k + j)))),
       ),
     )
 
@@ -75,14 +71,10 @@ loop-i-smaller c =
 
 pub loop-i-preserved : goal.loop-i-preserved
 loop-i-preserved c =
-    let at-add-row = c in
-    let at-loop-test = at-add-row in
-    let at-loop = at-loop-test in
-    let entry = at-loop in
-    let a = entry.args in (
-      omega (arith, at-loop-test.loop-i-test.true),
-      at-add-row.add_row.ensures.0 ∙ at-loop.loop-i.invariant.1,
-      λ j l. omega (arith, at-add-row.add_row.ensures.1 j l, at-loop.loop-i.invariant.2 j l, sum_step (dueOf a.table.now a.deadlines.now a.time.0 j) at-loop.loop-i.i),
+    let a = c.args in (
+      omega (arith, c.loop-i-test.true),
+      c.add_row.ensures.0 ∙ c.loop-i.invariant.1,
+      λ j l. omega (arith, c.add_row.ensures.1 j l, c.loop-i.invariant.2 j l, sum_step (dueOf a.table.now a.deadlines.now a.time.0 j) c.loop-i.i),
     )
 
 pub shape_of-sums : goal.shape_of-sums
@@ -91,13 +83,9 @@ shape_of-sums c =
 
 pub returns : goal.returns
 returns c =
-    let at-loop = c in
-    let at-if1 = at-loop in
-    let at-is-absent-time = at-if1 in
-    let entry = at-is-absent-time in
-    let a = entry.args in
-    let end : at-loop.loop-i.i ≡ length a.deadlines.now = omega (arith, c.loop-i-test.false, at-loop.loop-i.invariant.0) in (
-      sym (ap not (sym at-is-absent-time.is_absent_time.ensures ∙ at-if1.if-is_absent_time.false)),
-      at-loop.loop-i.invariant.1,
-      λ j l. at-loop.loop-i.invariant.2 j l ∙ ap (λ n. get_or a.sums.now j 0 + sum (dueOf a.table.now a.deadlines.now a.time.0 j) n) end,
+    let a = c.args in
+    let end : c.loop-i.i ≡ length a.deadlines.now = omega (arith, c.loop-i-test.false, c.loop-i.invariant.0) in (
+      sym (ap not (sym c.is_absent_time.ensures ∙ c.if-is_absent_time.false)),
+      c.loop-i.invariant.1,
+      λ j l. c.loop-i.invariant.2 j l ∙ ap (λ n. get_or a.sums.now j 0 + sum (dueOf a.table.now a.deadlines.now a.time.0 j) n) end,
     )

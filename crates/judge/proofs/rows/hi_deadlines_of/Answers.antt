@@ -23,16 +23,12 @@ loop-i-smaller c =
 
 pub loop-i-preserved : goal.loop-i-preserved
 loop-i-preserved c =
-    let at-loop-test = c in
-    let at-loop = at-loop-test in
-    let at-counted-of = at-loop in
-    let entry = at-counted-of in
-    let p = entry.args.p in
-    let i = at-loop.loop-i.i in (
-      omega (arith, at-loop-test.loop-i-test.true),
-      length-set at-loop.loop-i.row i _ ∙ at-loop.loop-i.invariant.1,
-      stands_next (hi_deadline p) at-loop.loop-i.row i _ (omega (arith, at-loop.loop-i.invariant.1, at-loop-test.loop-i-test.true)) at-loop.loop-i.invariant.2
-          (c.deadline_if-kept.ensures ∙ ap (λ n. cond (ltb i n && is_hi p i) (deadline p i) never) at-counted-of.counted_of-jobs.ensures),
+    let p = c.args.p in
+    let i = c.loop-i.i in (
+      omega (arith, c.loop-i-test.true),
+      length-set c.loop-i.row i _ ∙ c.loop-i.invariant.1,
+      stands_next (hi_deadline p) c.loop-i.row i _ (omega (arith, c.loop-i.invariant.1, c.loop-i-test.true)) c.loop-i.invariant.2
+          (c.deadline_if-kept.ensures ∙ ap (λ n. cond (ltb i n && is_hi p i) (deadline p i) never) c.counted_of-jobs.ensures),
     )
 
 pub returns : goal.returns

@@ -29,11 +29,8 @@ bounds-times-j-in-loop-j c =
 
 pub returns-then-over : goal.returns-then-over
 returns-then-over c =
-    let at-is-over = c in
-    let at-loop-test = at-is-over in
-    let at-loop = at-loop-test in
-    found_here _ _ _ _ _ at-loop.loop-j.invariant.1 at-loop-test.loop-j-test.true
-    (ap (λ b. fault b (over_capacity ∷ at-loop.loop-j.j ∷ [])) (sym (rw add-one at at-is-over.is_over-over.ensures) ∙ c.if-over.true))
+    found_here _ _ _ _ _ c.loop-j.invariant.1 c.loop-j-test.true
+    (ap (λ b. fault b (over_capacity ∷ c.loop-j.j ∷ [])) (sym (rw add-one at c.is_over-over.ensures) ∙ c.if-over.true))
 
 pub loop-j-smaller : goal.loop-j-smaller
 loop-j-smaller c =
@@ -41,12 +38,10 @@ loop-j-smaller c =
 
 pub loop-j-preserved : goal.loop-j-preserved
 loop-j-preserved c =
-    let at-is-over = c in
-    let at-loop-test = at-is-over in
-    let at-loop = at-loop-test in (
-      omega (arith, at-loop-test.loop-j-test.true),
-      first_next _ at-loop.loop-j.j at-loop.loop-j.invariant.1
-          (ap (λ b. fault b (over_capacity ∷ at-loop.loop-j.j ∷ [])) (sym (rw add-one at at-is-over.is_over-over.ensures) ∙ c.if-over.false)),
+    (
+      omega (arith, c.loop-j-test.true),
+      first_next _ c.loop-j.j c.loop-j.invariant.1
+          (ap (λ b. fault b (over_capacity ∷ c.loop-j.j ∷ [])) (sym (rw add-one at c.is_over-over.ensures) ∙ c.if-over.false)),
     )
 
 pub returns : goal.returns

@@ -30,8 +30,7 @@ loop-i-init c =
 
 pub overflow_cast-spans : goal.overflow_cast-spans
 overflow_cast-spans c =
-    let entry = c in
-    omega (arith, boundaries_few entry.args.p (counted entry.args.p), entry.requires)
+    omega (arith, boundaries_few c.args.p (counted c.args.p), c.requires)
 
 pub returns-then-total-size : goal.returns-then-total-size
 unfolding total_fault
@@ -40,12 +39,8 @@ returns-then-total-size c =
     = let a = c.args in
       c.sum_of.ensures ∙ ap (sum _) c.requires
       ∙ sum_ext _ _ (intervals a.p) (λ k l. ap (λ q. get_or a.table.now q 0) (summed_place_of c.loop-i.i k)) in
-    let c_3 = c in
-    let at-loop-test = c_3 in
-    let at-loop = at-loop-test in
-    let at-counted-of = at-loop in
-    found_here _ _ _ _ _ at-loop.loop-i.invariant.1 (omega (arith, at-loop-test.loop-i-test.true, at-counted-of.counted_of-jobs.ensures))
-    (ap (λ b. fault (not b) (wrong_total ∷ at-loop.loop-i.i ∷ [])) (ne_eqb _ _ (λ e. c.if-total-size.true (summed ∙ e))))
+    found_here _ _ _ _ _ c.loop-i.invariant.1 (omega (arith, c.loop-i-test.true, c.counted_of-jobs.ensures))
+    (ap (λ b. fault (not b) (wrong_total ∷ c.loop-i.i ∷ [])) (ne_eqb _ _ (λ e. c.if-total-size.true (summed ∙ e))))
 
 pub loop-i-smaller : goal.loop-i-smaller
 loop-i-smaller c =
@@ -57,19 +52,14 @@ loop-i-preserved c =
     = let a = c.args in
       c.sum_of.ensures ∙ ap (sum _) c.requires
       ∙ sum_ext _ _ (intervals a.p) (λ k l. ap (λ q. get_or a.table.now q 0) (summed_place_of c.loop-i.i k)) in
-    let c_3 = c in
-    let at-loop-test = c_3 in
-    let at-loop = at-loop-test in (
-      omega (arith, at-loop-test.loop-i-test.true),
-      first_next _ at-loop.loop-i.i at-loop.loop-i.invariant.1
-          (ap (λ b. fault (not b) (wrong_total ∷ at-loop.loop-i.i ∷ [])) (eq-eqb _ _ (sym (summed) ∙ c.if-total-size.false))),
+    (
+      omega (arith, c.loop-i-test.true),
+      first_next _ c.loop-i.i c.loop-i.invariant.1
+          (ap (λ b. fault (not b) (wrong_total ∷ c.loop-i.i ∷ [])) (eq-eqb _ _ (sym summed ∙ c.if-total-size.false))),
     )
 
 pub returns : goal.returns
 unfolding total_fault
 returns c =
-    let at-loop = c in
-    let at-counted-of = at-loop in
-    let entry = at-counted-of in
-    let end : at-loop.loop-i.i ≡ counted entry.args.p = omega (arith, c.loop-i-test.false, at-loop.loop-i.invariant.0, at-counted-of.counted_of-jobs.ensures) in
-    sym (rw end at at-loop.loop-i.invariant.1)
+    let end : c.loop-i.i ≡ counted c.args.p = omega (arith, c.loop-i-test.false, c.loop-i.invariant.0, c.counted_of-jobs.ensures) in
+    sym (rw end at c.loop-i.invariant.1)

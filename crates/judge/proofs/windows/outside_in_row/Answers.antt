@@ -23,19 +23,14 @@ loop-j-init c =
 
 pub row_inside-inside-requires : goal.row_inside-inside-requires
 row_inside-inside-requires c =
-    let entry = c in
-    (omega (arith, c.loop-j-test.true, entry.requires.0), omega (arith, c.loop-j-test.true, entry.requires.1))
+    (omega (arith, c.loop-j-test.true, c.requires.0), omega (arith, c.loop-j-test.true, c.requires.1))
 
 pub returns-then-not-inside : goal.returns-then-not-inside
 returns-then-not-inside c =
-    let at-row-inside = c in
-    let at-loop-test = at-row-inside in
-    let at-loop = at-loop-test in
-    let entry = at-loop in
-    let a = entry.args in
-    let j = at-loop.loop-j.j in
-    found_here _ _ _ _ _ (faults_none _ outside_window (λ k. a.i ∷ k ∷ []) j at-loop.loop-j.invariant.1) at-loop-test.loop-j-test.true
-    (ap (λ b. fault (not b) (outside_window ∷ a.i ∷ j ∷ [])) (last_fails _ j at-loop.loop-j.invariant.1 (sym at-row-inside.row_inside-inside.ensures ∙ not-true _ (ap not c.if-not-inside.true))))
+    let a = c.args in
+    let j = c.loop-j.j in
+    found_here _ _ _ _ _ (faults_none _ outside_window (λ k. a.i ∷ k ∷ []) j c.loop-j.invariant.1) c.loop-j-test.true
+    (ap (λ b. fault (not b) (outside_window ∷ a.i ∷ j ∷ [])) (last_fails _ j c.loop-j.invariant.1 (sym c.row_inside-inside.ensures ∙ not-true _ (ap not c.if-not-inside.true))))
 
 pub loop-j-smaller : goal.loop-j-smaller
 loop-j-smaller c =
@@ -47,7 +42,5 @@ loop-j-preserved c =
 
 pub returns : goal.returns
 returns c =
-    let at-loop = c in
-    let entry = at-loop in
-    let end : at-loop.loop-j.j ≡ entry.args.spans = omega (arith, c.loop-j-test.false, at-loop.loop-j.invariant.0) in
-    sym (faults_none _ outside_window (λ k. entry.args.i ∷ k ∷ []) entry.args.spans (rw end at at-loop.loop-j.invariant.1))
+    let end : c.loop-j.j ≡ c.args.spans = omega (arith, c.loop-j-test.false, c.loop-j.invariant.0) in
+    sym (faults_none _ outside_window (λ k. c.args.i ∷ k ∷ []) c.args.spans (rw end at c.loop-j.invariant.1))

@@ -34,34 +34,22 @@ loop-i-init c =
 
 pub row_inside-inside-requires : goal.row_inside-inside-requires
 row_inside-inside-requires c =
-    let at-loop-test = c in
-    let at-counted-of = at-loop-test in
-    let entry = at-counted-of in
-    (entry.requires.2, omega (arith, boundaries_few entry.args.p (counted entry.args.p), entry.requires.1, entry.requires.3, at-loop-test.loop-i-test.true, at-counted-of.counted_of-jobs.ensures))
+    (c.requires.2, omega (arith, boundaries_few c.args.p (counted c.args.p), c.requires.1, c.requires.3, c.loop-i-test.true, c.counted_of-jobs.ensures))
 
 pub outside_in_row-requires : goal.outside_in_row-requires
 outside_in_row-requires c =
-    let at-loop-test = c in
-    let at-counted-of = at-loop-test in
-    let entry = at-counted-of in
-    (entry.requires.2, omega (arith, boundaries_few entry.args.p (counted entry.args.p), entry.requires.1, entry.requires.3, at-loop-test.loop-i-test.true, at-counted-of.counted_of-jobs.ensures))
+    (c.requires.2, omega (arith, boundaries_few c.args.p (counted c.args.p), c.requires.1, c.requires.3, c.loop-i-test.true, c.counted_of-jobs.ensures))
 
 pub returns-then-not-inside : goal.returns-then-not-inside
 unfolding outside_fault
 returns-then-not-inside c =
-    let at-if1 = c in
-    let at-row-inside = at-if1 in
-    let at-loop-test = at-row-inside in
-    let at-loop = at-loop-test in
-    let at-counted-of = at-loop in
-    let entry = at-counted-of in
-    let a = entry.args in
-    let i = at-loop.loop-i.i in
-    let row = row-none a.p a.table.now a.times.now a.spans i entry.requires.0 entry.requires.1 at-row-inside.row_inside-inside.ensures in
+    let a = c.args in
+    let i = c.loop-i.i in
+    let row = row-none a.p a.table.now a.times.now a.spans i c.requires.0 c.requires.1 c.row_inside-inside.ensures in
     c.outside_in_row.ensures
     ∙ ap₂ (λ t n. first (λ j. fault (not (within t (release a.p i) (deadline a.p i) j || eqb (units a.table.now i j) 0)) (outside_window ∷ i ∷ j ∷ [])) n)
-    entry.requires.0 entry.requires.1
-    ∙ sym (first_found _ i _ at-loop.loop-i.invariant.1 (omega (arith, at-loop-test.loop-i-test.true, at-counted-of.counted_of-jobs.ensures)) (row ∙ not-true _ (ap not at-if1.if-not-inside.true)))
+    c.requires.0 c.requires.1
+    ∙ sym (first_found _ i _ c.loop-i.invariant.1 (omega (arith, c.loop-i-test.true, c.counted_of-jobs.ensures)) (row ∙ not-true _ (ap not c.if-not-inside.true)))
 
 pub loop-i-smaller : goal.loop-i-smaller
 loop-i-smaller c =
@@ -69,20 +57,13 @@ loop-i-smaller c =
 
 pub loop-i-preserved : goal.loop-i-preserved
 loop-i-preserved c =
-    let at-row-inside = c in
-    let at-loop-test = at-row-inside in
-    let at-loop = at-loop-test in
-    let entry = at-loop in
-    let a = entry.args in
-    let i = at-loop.loop-i.i in
-    let row = row-none a.p a.table.now a.times.now a.spans i entry.requires.0 entry.requires.1 at-row-inside.row_inside-inside.ensures in
-    (omega (arith, at-loop-test.loop-i-test.true), first_next _ i at-loop.loop-i.invariant.1 (none_empty _ (row ∙ not-false _ (ap not c.if-not-inside.false))))
+    let a = c.args in
+    let i = c.loop-i.i in
+    let row = row-none a.p a.table.now a.times.now a.spans i c.requires.0 c.requires.1 c.row_inside-inside.ensures in
+    (omega (arith, c.loop-i-test.true), first_next _ i c.loop-i.invariant.1 (none_empty _ (row ∙ not-false _ (ap not c.if-not-inside.false))))
 
 pub returns : goal.returns
 unfolding outside_fault
 returns c =
-    let at-loop = c in
-    let at-counted-of = at-loop in
-    let entry = at-counted-of in
-    let end : at-loop.loop-i.i ≡ counted entry.args.p = omega (arith, c.loop-i-test.false, at-loop.loop-i.invariant.0, at-counted-of.counted_of-jobs.ensures) in
-    sym (rw end at at-loop.loop-i.invariant.1)
+    let end : c.loop-i.i ≡ counted c.args.p = omega (arith, c.loop-i-test.false, c.loop-i.invariant.0, c.counted_of-jobs.ensures) in
+    sym (rw end at c.loop-i.invariant.1)

@@ -36,9 +36,7 @@ loop-j-smaller c =
 
 pub loop-j-preserved : goal.loop-j-preserved
 loop-j-preserved c =
-    let at-loop-test = c in
-    let at-loop = at-loop-test in
-    (omega (arith, at-loop-test.loop-j-test.true), every_next _ at-loop.loop-j.j at-loop.loop-j.invariant.1 (rw (c.as_units-stored.ensures, add-one) at c.place_inside-inside.ensures))
+    (omega (arith, c.loop-j-test.true), every_next _ c.loop-j.j c.loop-j.invariant.1 (rw (c.as_units-stored.ensures, add-one) at c.place_inside-inside.ensures))
 
 pub returns : goal.returns
 returns c =

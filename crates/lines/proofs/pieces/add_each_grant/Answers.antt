@@ -18,15 +18,11 @@ loop-i-init c =
 
 pub loop-i-preserved : goal.loop-i-preserved
 loop-i-preserved c =
-    let at-add-grant = c in
-    let at-grant-of = at-add-grant in
-    let at-loop = at-grant-of in
-    let entry = at-loop in
-    let a = entry.args in
-    let i = at-loop.loop-i.i in
-    let h = at-add-grant.add_grant-next.ensures.0 in
-    let e = ap (grant_text (name a.p i)) at-grant-of.grant_of-units.ensures in
-    (omega arith, at-loop.loop-i.invariant.1, grown_same (grants_next a.p a.grants.now i) (grown_twice at-loop.loop-i.invariant.2 (grown_same e h)), omega arith)
+    let a = c.args in
+    let i = c.loop-i.i in
+    let h = c.add_grant-next.ensures.0 in
+    let e = ap (grant_text (name a.p i)) c.grant_of-units.ensures in
+    (omega arith, c.loop-i.invariant.1, grown_same (grants_next a.p a.grants.now i) (grown_twice c.loop-i.invariant.2 (grown_same e h)), omega arith)
 
 pub shape_of-line : goal.shape_of-line
 shape_of-line c =

@@ -12,14 +12,8 @@ returns-then-units-eq0 c =
 
 pub returns : goal.returns
 returns c =
-    let at-add-number = c in
-    let at-add2 = at-add-number in
-    let at-add-name = at-add2 in
-    let at-add = at-add-name in
-    let at-if1 = at-add in
-    let entry = at-if1 in
-    let a = entry.args in
-    rw (ne_eqb a.units 0 at-if1.if-units-eq0.false) (
-      grown_twice (grown_twice (grown_twice at-add.add-next.ensures at-add-name.add_name-next.ensures) at-add2.add-next-2.ensures) at-add-number.add_number.ensures.0,
+    let a = c.args in
+    rw (ne_eqb a.units 0 c.if-units-eq0.false) (
+      grown_twice (grown_twice (grown_twice c.add-next.ensures c.add_name-next.ensures) c.add-next-2.ensures) c.add_number.ensures.0,
       omega arith,
     )

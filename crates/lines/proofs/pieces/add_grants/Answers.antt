@@ -8,12 +8,8 @@ use Rattle.lines.proofs.pieces.add_grants.Goals as goal
 
 pub returns-then-next-at : goal.returns-then-next-at
 returns-then-next-at c =
-    let at-add = c in
-    let at-if1 = at-add in
-    let at-add-each-grant = at-if1 in
-    let entry = at-add-each-grant in
-    let a = entry.args in
-    (dash_for_none (grants_text a.p a.grants.now (counted a.p)) at-add-each-grant.add_each_grant-next.ensures.0 at-if1.if-next-at.true at-add.add.ensures, omega arith)
+    let a = c.args in
+    (dash_for_none (grants_text a.p a.grants.now (counted a.p)) c.add_each_grant-next.ensures.0 c.if-next-at.true c.add.ensures, omega arith)
 
 pub returns-else-next-at : goal.returns-else-next-at
 returns-else-next-at c =

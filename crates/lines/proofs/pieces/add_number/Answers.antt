@@ -7,7 +7,6 @@ use Rattle.lines.proofs.pieces.add_number.Goals as goal
 
 pub returns : goal.returns
 returns c =
-    let entry = c in
-    let few = decimal_length entry.args.number (omega arith) in
-    let g = adds_grown (omega (arith, few, entry.requires)) c.add_number.ensures in
+    let few = decimal_length c.args.number (omega arith) in
+    let g = adds_grown (omega (arith, few, c.requires)) c.add_number.ensures in
     (g, omega (arith, g.end, few))

@@ -18,23 +18,18 @@ pub returns-then-not-are_finite : goal.returns-then-not-are_finite
 returns-then-not-are_finite c =
     let normal : normal_allowed c.args.n ≡ true
     = held c.normal_allowed.ensures (ap not c.if-not-normal_allowed.false) in
-    let at-if1 = c in
-    let a = at-if1.args in
-    sym (told_no_number a.reading a.n (normal) (failed c.are_finite.ensures (ap not c.if-not-are_finite.true)))
+    let a = c.args in
+    sym (told_no_number a.reading a.n normal (failed c.are_finite.ensures (ap not c.if-not-are_finite.true)))
 
 pub speed_within-requires : goal.speed_within-requires
 speed_within-requires c =
-    let numbers : are_finite c.args.reading ≡ true
-    = held c.are_finite.ensures (ap not c.if-not-are_finite.false) in
+    let numbers : are_finite c.args.reading ≡ true = held c.are_finite.ensures (ap not c.if-not-are_finite.false) in
     numbers
 
 pub returns : goal.returns
 returns c =
     let normal : normal_allowed c.args.n ≡ true
     = held c.normal_allowed.ensures (ap not c.if-not-normal_allowed.false) in
-    let numbers : are_finite c.args.reading ≡ true
-    = held c.are_finite.ensures (ap not c.if-not-are_finite.false) in
-    let at-if2 = c in
-    let at-if1 = at-if2 in
-    let a = at-if1.args in
-    c.speed_within.ensures ∙ sym (told_of_numbers a.reading a.n (normal) (numbers))
+    let numbers : are_finite c.args.reading ≡ true = held c.are_finite.ensures (ap not c.if-not-are_finite.false) in
+    let a = c.args in
+    c.speed_within.ensures ∙ sym (told_of_numbers a.reading a.n normal numbers)

@@ -15,13 +15,11 @@ returns-then-lowest_wrong c =
 
 pub whole_rate-requires : goal.whole_rate-requires
 whole_rate-requires c =
-    let entry = c in
-    let r = entry.args.reading in
-    and_right (finite r.mean) (finite r.lowest) entry.requires
+    let r = c.args.reading in
+    and_right (finite r.mean) (finite r.lowest) c.requires
 
 pub returns : goal.returns
 returns c =
-    let at-if1 = c in
-    let a = at-if1.args in
+    let a = c.args in
     ap speed c.whole_rate.ensures
-    ∙ sym (ap (λ (b : Bool). cond b (refused wrong_lowest) (speed (whole_rate a.reading.lowest a.n))) (sym at-if1.lowest_wrong.ensures ∙ at-if1.if-lowest_wrong.false))
+    ∙ sym (ap (λ (b : Bool). cond b (refused wrong_lowest) (speed (whole_rate a.reading.lowest a.n))) (sym c.lowest_wrong.ensures ∙ c.if-lowest_wrong.false))

@@ -18,22 +18,20 @@ int_to_float-middle c =
 
 pub loop-low-preserved-then-rate-middle : goal.loop-low-preserved-then-rate-middle
 loop-low-preserved-then-rate-middle c =
-    let middle : ℕ
-    = (c.loop-low.low + c.loop-low.high) / 2 in
-    let compared : lt c.args.rate (of_int binary64 (pos (middle))) ≡ under c.args.rate (middle)
-    = under_is c.args.rate (middle) c.requires (omega arith) in
+    let middle : ℕ = (c.loop-low.low + c.loop-low.high) / 2 in
+    let compared : lt c.args.rate (of_int binary64 (pos middle)) ≡ under c.args.rate middle
+    = under_is c.args.rate middle c.requires (omega arith) in
     let l = c.loop-low in
     let a = c.args in
-    let found = rate_below a.rate a.n (middle) (omega arith) (omega arith) (sym (compared) ∙ c.if-rate-middle.true) in
+    let found = rate_below a.rate a.n middle (omega arith) (omega arith) (sym compared ∙ c.if-rate-middle.true) in
     (l.invariant.0, found, omega arith)
 
 pub loop-low-preserved : goal.loop-low-preserved
 loop-low-preserved c =
-    let middle : ℕ
-    = (c.loop-low.low + c.loop-low.high) / 2 in
-    let compared : lt c.args.rate (of_int binary64 (pos (middle))) ≡ under c.args.rate (middle)
-    = under_is c.args.rate (middle) c.requires (omega arith) in
+    let middle : ℕ = (c.loop-low.low + c.loop-low.high) / 2 in
+    let compared : lt c.args.rate (of_int binary64 (pos middle)) ≡ under c.args.rate middle
+    = under_is c.args.rate middle c.requires (omega arith) in
     let l = c.loop-low in
     let a = c.args in
-    let found = rate_above a.rate a.n (middle) (omega arith) (sym (compared) ∙ c.if-rate-middle.false) in
+    let found = rate_above a.rate a.n middle (omega arith) (sym compared ∙ c.if-rate-middle.false) in
     (found, l.invariant.1, l.invariant.2)

@@ -20,12 +20,11 @@ loop-i-init c =
 
 pub loop-i-preserved : goal.loop-i-preserved
 loop-i-preserved c =
-    let at-loop = c in
-    let p = at-loop.args.p in
-    let i = at-loop.loop-i.i in
-    let inv = at-loop.loop-i.invariant in (
+    let p = c.args.p in
+    let i = c.loop-i.i in
+    let inv = c.loop-i.invariant in (
       omega arith,
-      or_below 32 at-loop.loop-i.bits (size p i) ∙ every_next _ i inv.1 refl,
+      or_below 32 c.loop-i.bits (size p i) ∙ every_next _ i inv.1 refl,
       filled_next _ i _ inv.2 refl,
       filled_next _ i _ inv.3 refl,
       filled_next _ i _ inv.4 refl,

@@ -21,31 +21,24 @@ loop-i-init c =
 
 pub slice_bounds-is_absent-end : goal.slice_bounds-is_absent-end
 slice_bounds-is_absent-end c =
-    let at-loop = c in
-    let at-names-of = at-loop in
-    let n : length at-names-of.names_of-row.result ≡ most_jobs = at-names-of.names_of-row.type_inv.1.0.1 in
-    sym (length-take-le at-loop.loop-i.i at-names-of.names_of-row.result (omega arith))
+    let n : length c.names_of-row.result ≡ most_jobs = c.names_of-row.type_inv.1.0.1 in
+    sym (length-take-le c.loop-i.i c.names_of-row.result (omega arith))
 
 pub loop-i-preserved : goal.loop-i-preserved
 loop-i-preserved c =
-    let at-loop = c in
-    let at-names-of = at-loop in
-    let row = at-names-of.names_of-row.result in
-    let n : length row ≡ most_jobs = at-names-of.names_of-row.type_inv.1.0.1 in
-    let i = at-loop.loop-i.i in (
+    let row = c.names_of-row.result in
+    let n : length row ≡ most_jobs = c.names_of-row.type_inv.1.0.1 in
+    let i = c.loop-i.i in (
       omega arith,
-      every_next _ i at-loop.loop-i.invariant.1
+      every_next _ i c.loop-i.invariant.1
           (c.is_absent-differ.ensures ∙ absent_before row i (get_or row i 0) (omega arith)),
     )
 
 pub returns : goal.returns
 unfolding names_differ
 returns c =
-    let at-loop = c in
-    let at-names-of = at-loop in
-    let entry = at-names-of in
-    let p = entry.args.p in
-    let whole : at-loop.loop-i.i ≡ counted p = omega arith in
-    rw at-names-of.names_of-row.ensures at at-loop.loop-i.invariant.1 ∙ ap (every _) whole
+    let p = c.args.p in
+    let whole : c.loop-i.i ≡ counted p = omega arith in
+    rw c.names_of-row.ensures at c.loop-i.invariant.1 ∙ ap (every _) whole
     ∙ every_ext _ _ (counted p)
     (λ j l. every_ext _ _ j (λ k l'. rw (name_at_lem p k (omega arith), name_at_lem p j l) refl))

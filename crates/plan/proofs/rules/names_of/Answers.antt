@@ -36,15 +36,12 @@ loop-i-init c =
 
 pub loop-i-preserved : goal.loop-i-preserved
 loop-i-preserved c =
-    let at-loop = c in
-    let inv = at-loop.loop-i.invariant in
-    (omega arith, one_more at-loop.args.p at-loop.loop-i.row at-loop.loop-i.i (omega (arith, inv.1.long)) inv.1)
+    let inv = c.loop-i.invariant in
+    (omega arith, one_more c.args.p c.loop-i.row c.loop-i.i (omega (arith, inv.1.long)) inv.1)
 
 pub returns : goal.returns
 returns c =
-    let at-loop = c in
-    let entry = at-loop in
-    let p = entry.args.p in
+    let p = c.args.p in
     let records : length p.jobs ≡ most_jobs = omega arith in
-    let whole : at-loop.loop-i.i ≡ counted p = omega arith in
-    all_named p at-loop.loop-i.row records (rw whole at at-loop.loop-i.invariant.1)
+    let whole : c.loop-i.i ≡ counted p = omega arith in
+    all_named p c.loop-i.row records (rw whole at c.loop-i.invariant.1)

@@ -22,7 +22,4 @@ returns-then-not-grade_allowed c =
 
 pub returns : goal.returns
 returns c =
-    let at-grade-allowed = c in
-    let at_byte = at-grade-allowed in
-    let at-read-byte = at_byte in
-    (simp (so field_view at-read-byte.read_byte-byte.ensures.0 at_byte.in-Value.is, held at-grade-allowed.grade_allowed.ensures (ap not c.if-not-grade_allowed.false)), small at-read-byte.read_byte-byte.ensures.1 at_byte.in-Value.is)
+    (simp (so field_view c.read_byte-byte.ensures.0 c.in-Value.is, held c.grade_allowed.ensures (ap not c.if-not-grade_allowed.false)), small c.read_byte-byte.ensures.1 c.in-Value.is)

@@ -16,36 +16,19 @@ returns-in_default c =
 pub returns-in_default-named : goal.returns-in_default-named
 unfolding job_name
 returns-in_default-named c =
-    let at-read-eight = c in
-    let at_long = at-read-eight in
-    simp (so passed_view at_long.read_length-long.ensures at_long.in-Next.is, so field_view at-read-eight.read_eight-named.ensures.0 c.in_default-named.is, c.in_default-named.is)
+    simp (so passed_view c.read_length-long.ensures c.in-Next.is, so field_view c.read_eight-named.ensures.0 c.in_default-named.is, c.in_default-named.is)
 
 pub returns-then-not-name_allowed : goal.returns-then-not-name_allowed
 unfolding job_name
 returns-then-not-name_allowed c =
-    let at_named = c in
-    let at-read-eight = at_named in
-    let at_long = at-read-eight in
-    simp (so passed_view at_long.read_length-long.ensures at_long.in-Next.is, so field_view at-read-eight.read_eight-named.ensures.0 at_named.in-Value.is, failed c.name_allowed.ensures (ap not c.if-not-name_allowed.true))
+    simp (so passed_view c.read_length-long.ensures c.in-Next.is, so field_view c.read_eight-named.ensures.0 c.in-Value.is, failed c.name_allowed.ensures (ap not c.if-not-name_allowed.true))
 
 pub returns-then-not-is_absent : goal.returns-then-not-is_absent
 unfolding job_name
 returns-then-not-is_absent c =
-    let at-is-absent = c in
-    let at-if1 = at-is-absent in
-    let at-name-allowed = at-if1 in
-    let at_named = at-name-allowed in
-    let at-read-eight = at_named in
-    let at_long = at-read-eight in
-    simp (so passed_view at_long.read_length-long.ensures at_long.in-Next.is, so field_view at-read-eight.read_eight-named.ensures.0 at_named.in-Value.is, held at-name-allowed.name_allowed.ensures (ap not at-if1.if-not-name_allowed.false), failed at-is-absent.is_absent.ensures (ap not c.if-not-is_absent.true))
+    simp (so passed_view c.read_length-long.ensures c.in-Next.is, so field_view c.read_eight-named.ensures.0 c.in-Value.is, held c.name_allowed.ensures (ap not c.if-not-name_allowed.false), failed c.is_absent.ensures (ap not c.if-not-is_absent.true))
 
 pub returns : goal.returns
 unfolding job_name
 returns c =
-    let at-is-absent = c in
-    let at-if1 = at-is-absent in
-    let at-name-allowed = at-if1 in
-    let at_named = at-name-allowed in
-    let at-read-eight = at_named in
-    let at_long = at-read-eight in
-    simp (so passed_view at_long.read_length-long.ensures at_long.in-Next.is, so field_view at-read-eight.read_eight-named.ensures.0 at_named.in-Value.is, held at-name-allowed.name_allowed.ensures (ap not at-if1.if-not-name_allowed.false), held at-is-absent.is_absent.ensures (ap not c.if-not-is_absent.false))
+    simp (so passed_view c.read_length-long.ensures c.in-Next.is, so field_view c.read_eight-named.ensures.0 c.in-Value.is, held c.name_allowed.ensures (ap not c.if-not-name_allowed.false), held c.is_absent.ensures (ap not c.if-not-is_absent.false))

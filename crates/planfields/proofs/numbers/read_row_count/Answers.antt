@@ -12,10 +12,8 @@ returns-in_default c =
 
 pub returns-then-not-rows_allowed_in : goal.returns-then-not-rows_allowed_in
 returns-then-not-rows_allowed_in c =
-    let at-two = c in
-    simp (so field_view at-two.read_two-two.ensures.0 at-two.in-Value.is, failed c.rows_allowed_in.ensures (ap not c.if-not-rows_allowed_in.true))
+    simp (so field_view c.read_two-two.ensures.0 c.in-Value.is, failed c.rows_allowed_in.ensures (ap not c.if-not-rows_allowed_in.true))
 
 pub returns : goal.returns
 returns c =
-    let at-two = c in
-    simp (so field_view at-two.read_two-two.ensures.0 at-two.in-Value.is, held c.rows_allowed_in.ensures (ap not c.if-not-rows_allowed_in.false))
+    simp (so field_view c.read_two-two.ensures.0 c.in-Value.is, held c.rows_allowed_in.ensures (ap not c.if-not-rows_allowed_in.false))

@@ -6,12 +6,10 @@ use Rattle.planfile.proofs.lookup.count_in.Goals as goal
 
 pub returns-in_default : goal.returns-in_default
 returns-in_default c =
-    let at_fill_lem = c in
-    let f = at_fill_lem.fill-reading in
-    count_refused (read_file at_fill_lem.args.file.now) _ f.result f.new.table f.ensures c.in_default.is
+    let f = c.fill-reading in
+    count_refused (read_file c.args.file.now) _ f.result f.new.table f.ensures c.in_default.is
 
 pub returns : goal.returns
 returns c =
-    let at_fill_lem = c in
-    let f = at_fill_lem.fill-reading in
-    count_read (read_file at_fill_lem.args.file.now) _ f.result f.new.table f.ensures c.in-Next.is
+    let f = c.fill-reading in
+    count_read (read_file c.args.file.now) _ f.result f.new.table f.ensures c.in-Next.is

@@ -20,22 +20,19 @@ returns-then-count_in-position c =
 pub overflow_mul-result : goal.overflow_mul-result
 overflow_mul-result c =
     let inside : name_at c.args.position + 8 ≤ length c.args.file.now
-    = let entry = c in
-      shown_inside entry.args.file.now entry.args.position (rw c.count_in.ensures at c.if-count_in-position.false) in
+    = shown_inside c.args.file.now c.args.position (rw c.count_in.ensures at c.if-count_in-position.false) in
     record { fits = omega (arith, inside) }
 
 pub overflow_add-result-2 : goal.overflow_add-result-2
 overflow_add-result-2 c =
     let inside : name_at c.args.position + 8 ≤ length c.args.file.now
-    = let entry = c in
-      shown_inside entry.args.file.now entry.args.position (rw c.count_in.ensures at c.if-count_in-position.false) in
+    = shown_inside c.args.file.now c.args.position (rw c.count_in.ensures at c.if-count_in-position.false) in
     record { fits = omega (arith, inside) }
 
 pub overflow_add-result-3 : goal.overflow_add-result-3
 overflow_add-result-3 c =
     let inside : name_at c.args.position + 8 ≤ length c.args.file.now
-    = let entry = c in
-      shown_inside entry.args.file.now entry.args.position (rw c.count_in.ensures at c.if-count_in-position.false) in
+    = shown_inside c.args.file.now c.args.position (rw c.count_in.ensures at c.if-count_in-position.false) in
     record { fits = omega (arith, inside) }
 
 pub returns : goal.returns

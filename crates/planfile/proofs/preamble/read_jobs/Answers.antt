@@ -21,27 +21,24 @@ loop-i-init c =
 pub slice_bounds-read_job-end : goal.slice_bounds-read_job-end
 slice_bounds-read_job-end c =
     let at_head : (length c.loop-i.names ≡ most_jobs) × (c.loop-i.i ≤ most_jobs)
-    = let entry = c in
-      let most = entry.requires.1 in
-      (jobs_read_names c.loop-i.invariant.1 entry.requires.0 (omega arith), omega arith) in
+    = let most = c.requires.1 in
+      (jobs_read_names c.loop-i.invariant.1 c.requires.0 (omega arith), omega arith) in
     omega (arith, at_head)
 
 pub slice_bounds-read_job-end-in-loop-i : goal.slice_bounds-read_job-end-in-loop-i
 slice_bounds-read_job-end-in-loop-i c =
     let at_head : (length c.loop-i.names ≡ most_jobs) × (c.loop-i.i ≤ most_jobs)
-    = let entry = c in
-      let most = entry.requires.1 in
-      (jobs_read_names c.loop-i.invariant.1 entry.requires.0 (omega arith), omega arith) in
+    = let most = c.requires.1 in
+      (jobs_read_names c.loop-i.invariant.1 c.requires.0 (omega arith), omega arith) in
     let l = c.loop-i in
     sym (length-take-le l.i l.names (omega (arith, at_head)))
 
 pub shape_of-names-in_default : goal.shape_of-names-in_default
 shape_of-names-in_default c =
     let at_head : (length c.loop-i.names ≡ most_jobs) × (c.loop-i.i ≤ most_jobs)
-    = let entry = c in
-      let most = entry.requires.1 in
-      (jobs_read_names c.loop-i.invariant.1 entry.requires.0 (omega arith), omega arith) in
-    (at_head).0 ∙ sym c.requires.0
+    = let most = c.requires.1 in
+      (jobs_read_names c.loop-i.invariant.1 c.requires.0 (omega arith), omega arith) in
+    at_head.0 ∙ sym c.requires.0
 
 pub returns-in_default : goal.returns-in_default
 returns-in_default c =
@@ -51,9 +48,8 @@ returns-in_default c =
 pub bounds-names-i : goal.bounds-names-i
 bounds-names-i c =
     let at_head : (length c.loop-i.names ≡ most_jobs) × (c.loop-i.i ≤ most_jobs)
-    = let entry = c in
-      let most = entry.requires.1 in
-      (jobs_read_names c.loop-i.invariant.1 entry.requires.0 (omega arith), omega arith) in
+    = let most = c.requires.1 in
+      (jobs_read_names c.loop-i.invariant.1 c.requires.0 (omega arith), omega arith) in
     omega (arith, at_head, c.requires.1)
 
 pub bounds-plan-i : goal.bounds-plan-i
@@ -62,23 +58,18 @@ bounds-plan-i c =
 
 pub loop-i-preserved : goal.loop-i-preserved
 loop-i-preserved c =
-    let at_read = c in
-    let at-read-job = at_read in
-    let at-loop = at-read-job in
-    let entry = at-loop in
-    let most = entry.requires.1 in (
+    let most = c.requires.1 in (
       omega arith,
-      rw add-one (jobs_read_next at-loop.loop-i.invariant.1 (omega arith) (omega arith) entry.requires.0
-          (so job_view at-read-job.read_job-read.ensures at_read.in-Job.is)),
+      rw add-one (jobs_read_next c.loop-i.invariant.1 (omega arith) (omega arith) c.requires.0
+          (so job_view c.read_job-read.ensures c.in-Job.is)),
     )
 
 pub shape_of-names : goal.shape_of-names
 shape_of-names c =
     let at_head : (length c.loop-i.names ≡ most_jobs) × (c.loop-i.i ≤ most_jobs)
-    = let entry = c in
-      let most = entry.requires.1 in
-      (jobs_read_names c.loop-i.invariant.1 entry.requires.0 (omega arith), omega arith) in
-    (at_head).0 ∙ sym c.requires.0
+    = let most = c.requires.1 in
+      (jobs_read_names c.loop-i.invariant.1 c.requires.0 (omega arith), omega arith) in
+    at_head.0 ∙ sym c.requires.0
 
 pub returns : goal.returns
 returns c =

@@ -26,89 +26,59 @@ returns-in_default c =
 pub slice_bounds-names-end : goal.slice_bounds-names-end
 slice_bounds-names-end c =
     let preamble-here : (f : Preamble) × (preamble c.args.file.now 0 ≡ got f c.in-Value.at) × (f.rows ≡ c.in-Value.rows) × (c.read_preamble-preamble.result.plan ≡ f.plan) × (c.read_preamble-preamble.new.names ≡ f.names ++ drop f.plan.count (replicate most_jobs 0))
-    = let at-counted = c in
-      let at-read-preamble = at-counted in
-      let entry = at-read-preamble in
-      preamble_got (replicate most_jobs 0) at-read-preamble.read_preamble-preamble.result at-read-preamble.read_preamble-preamble.new.names
-      (preamble entry.args.file.now 0) at-read-preamble.read_preamble-preamble.ensures at-counted.in-Value.is in
+    = preamble_got (replicate most_jobs 0) c.read_preamble-preamble.result c.read_preamble-preamble.new.names
+      (preamble c.args.file.now 0) c.read_preamble-preamble.ensures c.in-Value.is in
     let g = preamble-here in
     count_within c.args.file.now g.1 g.2 g.3 (replicate most_jobs 0) g.4
 
 pub slice_bounds-store_rows-end : goal.slice_bounds-store_rows-end
 slice_bounds-store_rows-end c =
     let preamble-here : (f : Preamble) × (preamble c.args.file.now 0 ≡ got f c.in-Value.at) × (f.rows ≡ c.in-Value.rows) × (c.read_preamble-preamble.result.plan ≡ f.plan) × (c.read_preamble-preamble.new.names ≡ f.names ++ drop f.plan.count (replicate most_jobs 0))
-    = let at-counted = c in
-      let at-read-preamble = at-counted in
-      let entry = at-read-preamble in
-      preamble_got (replicate most_jobs 0) at-read-preamble.read_preamble-preamble.result at-read-preamble.read_preamble-preamble.new.names
-      (preamble entry.args.file.now 0) at-read-preamble.read_preamble-preamble.ensures at-counted.in-Value.is in
+    = preamble_got (replicate most_jobs 0) c.read_preamble-preamble.result c.read_preamble-preamble.new.names
+      (preamble c.args.file.now 0) c.read_preamble-preamble.ensures c.in-Value.is in
     let g = preamble-here in
     sym (taken_length c.args.file.now g.1 g.2 g.3 (replicate most_jobs 0) g.4)
 
 pub store_rows-stored-requires : goal.store_rows-stored-requires
 store_rows-stored-requires c =
     let preamble-here : (f : Preamble) × (preamble c.args.file.now 0 ≡ got f c.in-Value.at) × (f.rows ≡ c.in-Value.rows) × (c.read_preamble-preamble.result.plan ≡ f.plan) × (c.read_preamble-preamble.new.names ≡ f.names ++ drop f.plan.count (replicate most_jobs 0))
-    = let at-counted = c in
-      let at-read-preamble = at-counted in
-      let entry = at-read-preamble in
-      preamble_got (replicate most_jobs 0) at-read-preamble.read_preamble-preamble.result at-read-preamble.read_preamble-preamble.new.names
-      (preamble entry.args.file.now 0) at-read-preamble.read_preamble-preamble.ensures at-counted.in-Value.is in
+    = preamble_got (replicate most_jobs 0) c.read_preamble-preamble.result c.read_preamble-preamble.new.names
+      (preamble c.args.file.now 0) c.read_preamble-preamble.ensures c.in-Value.is in
     let g = preamble-here in
     rows_asked c.args.file.now g.1 g.2 g.3 (replicate most_jobs 0) g.4 c.intervals_of-spans.result c.intervals_of-spans.ensures
 
 pub returns-in_default-stored : goal.returns-in_default-stored
 returns-in_default-stored c =
     let preamble-here : (f : Preamble) × (preamble c.args.file.now 0 ≡ got f c.in-Value.at) × (f.rows ≡ c.in-Value.rows) × (c.read_preamble-preamble.result.plan ≡ f.plan) × (c.read_preamble-preamble.new.names ≡ f.names ++ drop f.plan.count (replicate most_jobs 0))
-    = let at-counted = c in
-      let at-read-preamble = at-counted in
-      let entry = at-read-preamble in
-      preamble_got (replicate most_jobs 0) at-read-preamble.read_preamble-preamble.result at-read-preamble.read_preamble-preamble.new.names
-      (preamble entry.args.file.now 0) at-read-preamble.read_preamble-preamble.ensures at-counted.in-Value.is in
-    let rows-here : RowsAnswer (rows_of (preamble-here).0 c.args.table.now c.args.file.now c.in-Value.at) c.store_rows-stored.result c.store_rows-stored.new.table
-    = let at-intervals-of = c in
-      let g = preamble-here in
-      let entry = at-intervals-of in
-      rw (rows_same entry.args.file.now g.1 g.2 g.3 (replicate most_jobs 0) g.4 at-intervals-of.intervals_of-spans.result at-intervals-of.intervals_of-spans.ensures entry.args.table.now) at c.store_rows-stored.ensures in
-    let passed_here : passed_view c.store_rows-stored.result ≡ only_passed (rows_of (preamble-here).0 (replicate places 0) c.args.file.now c.in-Value.at)
-    = let matched = c in
-      let entry = matched in
-      let f = (preamble-here).0 in
-      let at = matched.in-Value.at in
-      rows_passed c.store_rows-stored.result c.store_rows-stored.new.table (rows_of f entry.args.table.now entry.args.file.now at) (rows-here)
-      ∙ rows_only f.rows most_intervals f.names (intervals f.plan) 0 entry.args.table.now (replicate places 0) entry.args.file.now at in
-    let at-store-rows = c in
-    let matched = at-store-rows in
-    let file = matched.args.file.now in
-    rw (no_rows file (preamble-here).1 (only_refused _ (passed_here) c.in_default-stored.is)) c.in_default-stored.is
+    = preamble_got (replicate most_jobs 0) c.read_preamble-preamble.result c.read_preamble-preamble.new.names
+      (preamble c.args.file.now 0) c.read_preamble-preamble.ensures c.in-Value.is in
+    let rows-here : RowsAnswer (rows_of preamble-here.0 c.args.table.now c.args.file.now c.in-Value.at) c.store_rows-stored.result c.store_rows-stored.new.table
+    = let g = preamble-here in
+      rw (rows_same c.args.file.now g.1 g.2 g.3 (replicate most_jobs 0) g.4 c.intervals_of-spans.result c.intervals_of-spans.ensures c.args.table.now) at c.store_rows-stored.ensures in
+    let passed_here : passed_view c.store_rows-stored.result ≡ only_passed (rows_of preamble-here.0 (replicate places 0) c.args.file.now c.in-Value.at)
+    = let f = preamble-here.0 in
+      let at = c.in-Value.at in
+      rows_passed c.store_rows-stored.result c.store_rows-stored.new.table (rows_of f c.args.table.now c.args.file.now at) rows-here
+      ∙ rows_only f.rows most_intervals f.names (intervals f.plan) 0 c.args.table.now (replicate places 0) c.args.file.now at in
+    let file = c.args.file.now in
+    rw (no_rows file preamble-here.1 (only_refused _ passed_here c.in_default-stored.is)) c.in_default-stored.is
 
 pub returns : goal.returns
 returns c =
     let preamble-here : (f : Preamble) × (preamble c.args.file.now 0 ≡ got f c.in-Value.at) × (f.rows ≡ c.in-Value.rows) × (c.read_preamble-preamble.result.plan ≡ f.plan) × (c.read_preamble-preamble.new.names ≡ f.names ++ drop f.plan.count (replicate most_jobs 0))
-    = let at-counted = c in
-      let at-read-preamble = at-counted in
-      let entry = at-read-preamble in
-      preamble_got (replicate most_jobs 0) at-read-preamble.read_preamble-preamble.result at-read-preamble.read_preamble-preamble.new.names
-      (preamble entry.args.file.now 0) at-read-preamble.read_preamble-preamble.ensures at-counted.in-Value.is in
-    let rows-here : RowsAnswer (rows_of (preamble-here).0 c.args.table.now c.args.file.now c.in-Value.at) c.store_rows-stored.result c.store_rows-stored.new.table
-    = let at-intervals-of = c in
-      let g = preamble-here in
-      let entry = at-intervals-of in
-      rw (rows_same entry.args.file.now g.1 g.2 g.3 (replicate most_jobs 0) g.4 at-intervals-of.intervals_of-spans.result at-intervals-of.intervals_of-spans.ensures entry.args.table.now) at c.store_rows-stored.ensures in
-    let passed_here : passed_view c.store_rows-stored.result ≡ only_passed (rows_of (preamble-here).0 (replicate places 0) c.args.file.now c.in-Value.at)
-    = let matched = c in
-      let entry = matched in
-      let f = (preamble-here).0 in
-      let at = matched.in-Value.at in
-      rows_passed c.store_rows-stored.result c.store_rows-stored.new.table (rows_of f entry.args.table.now entry.args.file.now at) (rows-here)
-      ∙ rows_only f.rows most_intervals f.names (intervals f.plan) 0 entry.args.table.now (replicate places 0) entry.args.file.now at in
-    let at-read-end = c in
-    let next = at-read-end in
-    let at-store-rows = next in
-    let matched = at-store-rows in
-    let entry = matched in
-    let file = entry.args.file.now in
+    = preamble_got (replicate most_jobs 0) c.read_preamble-preamble.result c.read_preamble-preamble.new.names
+      (preamble c.args.file.now 0) c.read_preamble-preamble.ensures c.in-Value.is in
+    let rows-here : RowsAnswer (rows_of preamble-here.0 c.args.table.now c.args.file.now c.in-Value.at) c.store_rows-stored.result c.store_rows-stored.new.table
+    = let g = preamble-here in
+      rw (rows_same c.args.file.now g.1 g.2 g.3 (replicate most_jobs 0) g.4 c.intervals_of-spans.result c.intervals_of-spans.ensures c.args.table.now) at c.store_rows-stored.ensures in
+    let passed_here : passed_view c.store_rows-stored.result ≡ only_passed (rows_of preamble-here.0 (replicate places 0) c.args.file.now c.in-Value.at)
+    = let f = preamble-here.0 in
+      let at = c.in-Value.at in
+      rows_passed c.store_rows-stored.result c.store_rows-stored.new.table (rows_of f c.args.table.now c.args.file.now at) rows-here
+      ∙ rows_only f.rows most_intervals f.names (intervals f.plan) 0 c.args.table.now (replicate places 0) c.args.file.now at in
+    let file = c.args.file.now in
     let g = preamble-here in
-    let rows = only_got _ (passed_here) next.in-Next.is in
-    let at = matched.in-Value.at in
-    file_ended file g.1 rows.1 at-read-end.read_end.result at-read-end.read_end.ensures g.3 entry.args.table.now _
-    (λ zeros. rows_left _ _ (rows_of g.0 entry.args.table.now file at) (rows-here) (ap (λ l. rows_of g.0 l file at) zeros ∙ rows.1))
+    let rows = only_got _ passed_here c.in-Next.is in
+    let at = c.in-Value.at in
+    file_ended file g.1 rows.1 c.read_end.result c.read_end.ensures g.3 c.args.table.now _
+    (λ zeros. rows_left _ _ (rows_of g.0 c.args.table.now file at) rows-here (ap (λ l. rows_of g.0 l file at) zeros ∙ rows.1))

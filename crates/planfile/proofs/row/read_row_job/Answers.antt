@@ -20,48 +20,34 @@ missing {r} {p} {n} e h = le-ltb p n (rw e at h)
 
 pub returns-in_default : goal.returns-in_default
 returns-in_default c =
-    let at-read-length = c in
-    let a = at-read-length.args in (
+    let a = c.args in (
       job_unmeasured a.names.now a.file.now a.at
-          (refused passed_view passed_refusal at-read-length.read_length-long.ensures c.in_default.is refl refl c.passed_refusal.ensures),
+          (refused passed_view passed_refusal c.read_length-long.ensures c.in_default.is refl refl c.passed_refusal.ensures),
       omega arith,
     )
 
 pub returns-in_default-named : goal.returns-in_default-named
 returns-in_default-named c =
-    let at-read-eight = c in
-    let at_long = at-read-eight in
-    let at-read-length = at_long in
-    let a = at-read-length.args in
+    let a = c.args in
     rw c.in_default-named.is (
-      job_unnamed a.names.now a.file.now a.at (so passed_view at-read-length.read_length-long.ensures at_long.in-Next.is)
-          (so field_view at-read-eight.read_eight-named.ensures.0 c.in_default-named.is),
+      job_unnamed a.names.now a.file.now a.at (so passed_view c.read_length-long.ensures c.in-Next.is)
+          (so field_view c.read_eight-named.ensures.0 c.in_default-named.is),
       omega arith,
     )
 
 pub returns-then-names-job : goal.returns-then-names-job
 returns-then-names-job c =
-    let at-find = c in
-    let at_named = at-find in
-    let at-read-eight = at_named in
-    let at_long = at-read-eight in
-    let at-read-length = at_long in
-    let a = at-read-length.args in (
-      job_missing a.names.now a.file.now a.at (so passed_view at-read-length.read_length-long.ensures at_long.in-Next.is)
-          (so field_view at-read-eight.read_eight-named.ensures.0 at_named.in-Value.is) (missing at-find.find-job.ensures c.if-names-job.true),
+    let a = c.args in (
+      job_missing a.names.now a.file.now a.at (so passed_view c.read_length-long.ensures c.in-Next.is)
+          (so field_view c.read_eight-named.ensures.0 c.in-Value.is) (missing c.find-job.ensures c.if-names-job.true),
       omega arith,
     )
 
 pub returns : goal.returns
 returns c =
-    let at-find = c in
-    let at_named = at-find in
-    let at-read-eight = at_named in
-    let at_long = at-read-eight in
-    let at-read-length = at_long in
-    let a = at-read-length.args in (
-      rw at-find.find-job.ensures
-          (job_found a.names.now a.file.now a.at (so passed_view at-read-length.read_length-long.ensures at_long.in-Next.is)
-          (so field_view at-read-eight.read_eight-named.ensures.0 at_named.in-Value.is) (found at-find.find-job.ensures c.if-names-job.false)),
+    let a = c.args in (
+      rw c.find-job.ensures
+          (job_found a.names.now a.file.now a.at (so passed_view c.read_length-long.ensures c.in-Next.is)
+          (so field_view c.read_eight-named.ensures.0 c.in-Value.is) (found c.find-job.ensures c.if-names-job.false)),
       omega (arith, c.if-names-job.false),
     )

@@ -24,8 +24,7 @@ loop-k-init c =
 
 pub read_row-read-requires : goal.read_row-read-requires
 read_row-read-requires c =
-    let entry = c in
-    (entry.requires.0, entry.requires.1)
+    (c.requires.0, c.requires.1)
 
 pub shape_of-table-in_default : goal.shape_of-table-in_default
 shape_of-table-in_default c =
@@ -33,23 +32,18 @@ shape_of-table-in_default c =
 
 pub returns-in_default : goal.returns-in_default
 returns-in_default c =
-    let at-enum-told = c in
-    let at-read-row = at-enum-told in
-    let at-loop = at-read-row in
-    let entry = at-loop in
-    let a = entry.args in
-    let l = at-loop.loop-k in
+    let a = c.args in
+    let l = c.loop-k in
     rw (left_stop a.rows l.k most_intervals a.names.now a.spans l.low l.table a.file.now l.next l.invariant.2 (omega arith)
-    (refused row_view row_refusal at-read-row.read_row-read.ensures at-enum-told.in_default.is refl refl c.row_refusal.ensures)) refl
+    (refused row_view row_refusal c.read_row-read.ensures c.in_default.is refl refl c.row_refusal.ensures)) refl
 
 pub offset_bounds-table-place : goal.offset_bounds-table-place
 offset_bounds-table-place c =
     let read_here : one_row most_intervals c.args.names.now c.args.spans c.loop-k.low c.args.file.now c.loop-k.next ≡ got (record { at = c.in-Row.row.at; units = c.in-Row.row.units }) c.in-Row.after
     = so row_view c.read_row-read.ensures c.in-Row.is in
-    let inside : c.in-Row.row.at < places
-    = let a = c.args in
+    let inside : c.in-Row.row.at < places = let a = c.args in
       let pre = c.requires in
-      omega (arith, pre.1, row_inside a.names.now a.spans c.loop-k.low a.file.now c.loop-k.next (read_here) pre.2) in
+      omega (arith, pre.1, row_inside a.names.now a.spans c.loop-k.low a.file.now c.loop-k.next read_here pre.2) in
     record { fits = omega (arith, inside) }
 
 pub bounds-table-place : goal.bounds-table-place
@@ -60,10 +54,9 @@ pub overflow_add-low : goal.overflow_add-low
 overflow_add-low c =
     let read_here : one_row most_intervals c.args.names.now c.args.spans c.loop-k.low c.args.file.now c.loop-k.next ≡ got (record { at = c.in-Row.row.at; units = c.in-Row.row.units }) c.in-Row.after
     = so row_view c.read_row-read.ensures c.in-Row.is in
-    let inside : c.in-Row.row.at < places
-    = let a = c.args in
+    let inside : c.in-Row.row.at < places = let a = c.args in
       let pre = c.requires in
-      omega (arith, pre.1, row_inside a.names.now a.spans c.loop-k.low a.file.now c.loop-k.next (read_here) pre.2) in
+      omega (arith, pre.1, row_inside a.names.now a.spans c.loop-k.low a.file.now c.loop-k.next read_here pre.2) in
     record { fits = omega (arith, inside) }
 
 pub loop-k-preserved : goal.loop-k-preserved
@@ -76,7 +69,7 @@ loop-k-preserved c =
         | else-place-table w ↦ w.table-is ∙ sym (set_out c.loop-k.table c.in-Row.row.at c.in-Row.row.units w.if-place-table.false) ] in
     let a = c.args in
     let l = c.loop-k in
-    rw (stored) (omega arith, simp length-set l.invariant.1, left_next a.rows l.k most_intervals a.names.now a.spans l.low l.table a.file.now l.next l.invariant.2 (omega arith) (read_here))
+    rw stored (omega arith, simp length-set l.invariant.1, left_next a.rows l.k most_intervals a.names.now a.spans l.low l.table a.file.now l.next l.invariant.2 (omega arith) read_here)
 
 pub shape_of-table : goal.shape_of-table
 shape_of-table c =

@@ -30,8 +30,7 @@ overflow_add-out c =
 
 pub bounds-out-at : goal.bounds-out-at
 bounds-out-at c =
-    let out-long : length c.loop-k.out ≡ length c.args.out.now
-    = let a = c.args in
+    let out-long : length c.loop-k.out ≡ length c.args.out.now = let a = c.args in
       ap length c.loop-k.invariant.2 ∙ length-sets a.out.now (a.at + c.loop-k.k) (drop c.loop-k.k (bytes a.w a.x)) in
     omega (arith, c.requires.0, out-long)
 
@@ -49,8 +48,7 @@ overflow_add-result c =
 
 pub shape_of-out : goal.shape_of-out
 shape_of-out c =
-    let out-long : length c.loop-k.out ≡ length c.args.out.now
-    = let a = c.args in
+    let out-long : length c.loop-k.out ≡ length c.args.out.now = let a = c.args in
       ap length c.loop-k.invariant.2 ∙ length-sets a.out.now (a.at + c.loop-k.k) (drop c.loop-k.k (bytes a.w a.x)) in
     out-long
 

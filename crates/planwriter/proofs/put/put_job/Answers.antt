@@ -9,28 +9,15 @@ use Rattle.planwriter.proofs.put.put_job.Goals as goal
 
 pub put-requires : goal.put-requires
 put-requires c =
-    let at-put5 = c in
-    let at-put4 = at-put5 in
-    let at-put3 = at-put4 in
-    let at-put2 = at-put3 in
-    let at-put = at-put2 in
-    let entry = at-put in
-    (omega (arith, entry.requires.0, at-put.put-after_length.ensures.0, at-put.put-after_length.auto.out, at-put2.put-after_name.ensures.0, at-put2.put-after_name.auto.out, at-put3.put-after_grade.ensures.0, at-put3.put-after_grade.auto.out, at-put4.put-after_release.ensures.0, at-put4.put-after_release.auto.out, at-put5.put-after_size.ensures.0, at-put5.put-after_size.auto.out), search rules)
+    (omega (arith, c.requires.0, c.put-after_length.ensures.0, c.put-after_length.auto.out, c.put-after_name.ensures.0, c.put-after_name.auto.out, c.put-after_grade.ensures.0, c.put-after_grade.auto.out, c.put-after_release.ensures.0, c.put-after_release.auto.out, c.put-after_size.ensures.0, c.put-after_size.auto.out), search rules)
 
 pub returns : goal.returns
 returns c =
-    let at-put6 = c in
-    let at-put5 = at-put6 in
-    let at-put4 = at-put5 in
-    let at-put3 = at-put4 in
-    let at-put2 = at-put3 in
-    let at-put = at-put2 in
-    let entry = at-put in
-    let a = entry.args in
-    let p1 = put_field (put_start a.out.now a.at) 1 job_length at-put.put-after_length.ensures.0 at-put.put-after_length.ensures.1 in
-    let p2 = put_field p1 8 a.job.name.0 at-put2.put-after_name.ensures.0 at-put2.put-after_name.ensures.1 in
-    let p3 = put_field p2 1 a.job.grade at-put3.put-after_grade.ensures.0 at-put3.put-after_grade.ensures.1 in
-    let p4 = put_field p3 4 a.job.release.0 at-put4.put-after_release.ensures.0 at-put4.put-after_release.ensures.1 in
-    let p5 = put_field p4 4 a.job.size.0 at-put5.put-after_size.ensures.0 at-put5.put-after_size.ensures.1 in
-    let p6 = put_field p5 4 a.job.deadline.0 at-put6.put.ensures.0 at-put6.put.ensures.1 in
+    let a = c.args in
+    let p1 = put_field (put_start a.out.now a.at) 1 job_length c.put-after_length.ensures.0 c.put-after_length.ensures.1 in
+    let p2 = put_field p1 8 a.job.name.0 c.put-after_name.ensures.0 c.put-after_name.ensures.1 in
+    let p3 = put_field p2 1 a.job.grade c.put-after_grade.ensures.0 c.put-after_grade.ensures.1 in
+    let p4 = put_field p3 4 a.job.release.0 c.put-after_release.ensures.0 c.put-after_release.ensures.1 in
+    let p5 = put_field p4 4 a.job.size.0 c.put-after_size.ensures.0 c.put-after_size.ensures.1 in
+    let p6 = put_field p5 4 a.job.deadline.0 c.put.ensures.0 c.put.ensures.1 in
     (p6.ends ∙ rw (job_long a.job) refl, p6.stands)

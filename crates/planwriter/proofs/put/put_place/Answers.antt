@@ -21,9 +21,6 @@ put_row-requires c =
 
 pub returns : goal.returns
 returns c =
-    let at-put-row = c in
-    let at-if1 = at-put-row in
-    let entry = at-if1 in
-    let a = entry.args in
-    rw (place_row a.name a.interval a.units at-if1.if-units-eq0.false entry.requires.1, row_long a.name a.interval a.units)
-    at-put-row.put_row.ensures
+    let a = c.args in
+    rw (place_row a.name a.interval a.units c.if-units-eq0.false c.requires.1, row_long a.name a.interval a.units)
+    c.put_row.ensures

@@ -17,70 +17,40 @@ use Rattle.planwriter.proofs.writer.put_body.Goals as goal
 
 pub put-after_n-requires : goal.put-after_n-requires
 put-after_n-requires c =
-    let entry = c in
-    (omega (arith, body_long entry.args.p entry.args.table.now entry.requires.1.few, entry.requires.0, entry.requires.1.few), search rules)
+    (omega (arith, body_long c.args.p c.args.table.now c.requires.1.few, c.requires.0, c.requires.1.few), search rules)
 
 pub put-after_d-requires : goal.put-after_d-requires
 put-after_d-requires c =
-    let at-put = c in
-    let entry = at-put in
-    (omega (arith, body_long entry.args.p entry.args.table.now entry.requires.1.few, entry.requires.0, entry.requires.1.few, at-put.put-after_n.ensures.0, at-put.put-after_n.auto.out), search rules)
+    (omega (arith, body_long c.args.p c.args.table.now c.requires.1.few, c.requires.0, c.requires.1.few, c.put-after_n.ensures.0, c.put-after_n.auto.out), search rules)
 
 pub put-after_count-requires : goal.put-after_count-requires
 put-after_count-requires c =
-    let at-put2 = c in
-    let at-put = at-put2 in
-    let entry = at-put in
-    (omega (arith, body_long entry.args.p entry.args.table.now entry.requires.1.few, entry.requires.0, entry.requires.1.few, at-put.put-after_n.ensures.0, at-put.put-after_n.auto.out, at-put2.put-after_d.ensures.0, at-put2.put-after_d.auto.out), omega (arith, entry.requires.1.few))
+    (omega (arith, body_long c.args.p c.args.table.now c.requires.1.few, c.requires.0, c.requires.1.few, c.put-after_n.ensures.0, c.put-after_n.auto.out, c.put-after_d.ensures.0, c.put-after_d.auto.out), omega (arith, c.requires.1.few))
 
 pub put_jobs-after_jobs-requires : goal.put_jobs-after_jobs-requires
 put_jobs-after_jobs-requires c =
-    let at-put3 = c in
-    let at-put2 = at-put3 in
-    let at-put = at-put2 in
-    let entry = at-put in
-    (omega (arith, body_long entry.args.p entry.args.table.now entry.requires.1.few, entry.requires.0, entry.requires.1.few, at-put.put-after_n.ensures.0, at-put.put-after_n.auto.out, at-put2.put-after_d.ensures.0, at-put2.put-after_d.auto.out, at-put3.put-after_count.ensures.0, at-put3.put-after_count.auto.out), entry.requires.1.few, entry.requires.1.sized)
+    (omega (arith, body_long c.args.p c.args.table.now c.requires.1.few, c.requires.0, c.requires.1.few, c.put-after_n.ensures.0, c.put-after_n.auto.out, c.put-after_d.ensures.0, c.put-after_d.auto.out, c.put-after_count.ensures.0, c.put-after_count.auto.out), c.requires.1.few, c.requires.1.sized)
 
 pub put-after_rows-requires : goal.put-after_rows-requires
 put-after_rows-requires c =
-    let at-put-jobs = c in
-    let at-put3 = at-put-jobs in
-    let at-put2 = at-put3 in
-    let at-put = at-put2 in
-    let entry = at-put in
-    (omega (arith, body_long entry.args.p entry.args.table.now entry.requires.1.few, entry.requires.0, entry.requires.1.few, at-put.put-after_n.ensures.0, at-put.put-after_n.auto.out, at-put2.put-after_d.ensures.0, at-put2.put-after_d.auto.out, at-put3.put-after_count.ensures.0, at-put3.put-after_count.auto.out, at-put-jobs.put_jobs-after_jobs.ensures.0, at-put-jobs.put_jobs-after_jobs.auto.out), omega (arith, entry.requires.2, count_few entry.args.table.now, entry.requires.1.exact))
+    (omega (arith, body_long c.args.p c.args.table.now c.requires.1.few, c.requires.0, c.requires.1.few, c.put-after_n.ensures.0, c.put-after_n.auto.out, c.put-after_d.ensures.0, c.put-after_d.auto.out, c.put-after_count.ensures.0, c.put-after_count.auto.out, c.put_jobs-after_jobs.ensures.0, c.put_jobs-after_jobs.auto.out), omega (arith, c.requires.2, count_few c.args.table.now, c.requires.1.exact))
 
 pub put_rows-requires : goal.put_rows-requires
 put_rows-requires c =
-    let at-names-of = c in
-    let at-put4 = at-names-of in
-    let at-put-jobs = at-put4 in
-    let at-put3 = at-put-jobs in
-    let at-put2 = at-put3 in
-    let at-put = at-put2 in
-    let entry = at-put in
-    let ns = at-names-of.names_of-names.result in
-    let n : length ns ≡ most_jobs = at-names-of.names_of-names.type_inv.1.0.1 in
-    let a = entry.args in
-    let pre = entry.requires in
-    (omega (arith, body_long entry.args.p entry.args.table.now entry.requires.1.few, entry.requires.0, entry.requires.1.few, at-put.put-after_n.ensures.0, at-put.put-after_n.auto.out, at-put2.put-after_d.ensures.0, at-put2.put-after_d.auto.out, at-put3.put-after_count.ensures.0, at-put3.put-after_count.auto.out, at-put-jobs.put_jobs-after_jobs.ensures.0, at-put-jobs.put_jobs-after_jobs.auto.out, at-put4.put-after_rows.ensures.0, at-put4.put-after_rows.auto.out, rows_long most_intervals ns 0 a.table.now), omega (arith, n, pre.1.few), omega (arith, pre.1.exact, pre.1.few), omega (arith, pre.3, boundaries_few a.p (counted a.p)), ap₂ (λ jobs spans. no_stray most_intervals jobs spans 0 a.table.now) (sym (counted_is a.p pre.1.few)) pre.3 ∙ pre.1.clear)
+    let ns = c.names_of-names.result in
+    let n : length ns ≡ most_jobs = c.names_of-names.type_inv.1.0.1 in
+    let a = c.args in
+    let pre = c.requires in
+    (omega (arith, body_long c.args.p c.args.table.now c.requires.1.few, c.requires.0, c.requires.1.few, c.put-after_n.ensures.0, c.put-after_n.auto.out, c.put-after_d.ensures.0, c.put-after_d.auto.out, c.put-after_count.ensures.0, c.put-after_count.auto.out, c.put_jobs-after_jobs.ensures.0, c.put_jobs-after_jobs.auto.out, c.put-after_rows.ensures.0, c.put-after_rows.auto.out, rows_long most_intervals ns 0 a.table.now), omega (arith, n, pre.1.few), omega (arith, pre.1.exact, pre.1.few), omega (arith, pre.3, boundaries_few a.p (counted a.p)), ap₂ (λ jobs spans. no_stray most_intervals jobs spans 0 a.table.now) (sym (counted_is a.p pre.1.few)) pre.3 ∙ pre.1.clear)
 
 pub returns : goal.returns
 returns c =
-    let at-put-rows = c in
-    let at-names-of = at-put-rows in
-    let at-put4 = at-names-of in
-    let at-put-jobs = at-put4 in
-    let at-put3 = at-put-jobs in
-    let at-put2 = at-put3 in
-    let at-put = at-put2 in
-    let entry = at-put in
-    let a = entry.args in
-    let ns = at-names-of.names_of-names in
-    let p1 = put_field (put_start a.out.now a.at) 2 a.p.n.0 at-put.put-after_n.ensures.0 at-put.put-after_n.ensures.1 in
-    let p2 = put_field p1 2 a.p.d.0 at-put2.put-after_d.ensures.0 at-put2.put-after_d.ensures.1 in
-    let p3 = put_field p2 1 a.p.count at-put3.put-after_count.ensures.0 at-put3.put-after_count.ensures.1 in
-    let p4 = put_on p3 (jobs_bytes a.p a.p.count) (at-put-jobs.put_jobs-after_jobs.ensures.0 ∙ ap (λ n. at-put3.put-after_count.result + n) (sym (jobs_long a.p a.p.count))) at-put-jobs.put_jobs-after_jobs.ensures.1 in
-    let p5 = put_field p4 2 a.rows at-put4.put-after_rows.ensures.0 at-put4.put-after_rows.ensures.1 in
-    let p6 = put_on p5 (rows_bytes most_intervals ns.result 0 a.table.now) refl at-put-rows.put_rows.ensures in
-    p6.stands ∙ ap (sets a.out.now a.at) (body_of a.p a.table.now entry.requires.1.few entry.requires.2 ns.ensures)
+    let a = c.args in
+    let ns = c.names_of-names in
+    let p1 = put_field (put_start a.out.now a.at) 2 a.p.n.0 c.put-after_n.ensures.0 c.put-after_n.ensures.1 in
+    let p2 = put_field p1 2 a.p.d.0 c.put-after_d.ensures.0 c.put-after_d.ensures.1 in
+    let p3 = put_field p2 1 a.p.count c.put-after_count.ensures.0 c.put-after_count.ensures.1 in
+    let p4 = put_on p3 (jobs_bytes a.p a.p.count) (c.put_jobs-after_jobs.ensures.0 ∙ ap (λ n. c.put-after_count.result + n) (sym (jobs_long a.p a.p.count))) c.put_jobs-after_jobs.ensures.1 in
+    let p5 = put_field p4 2 a.rows c.put-after_rows.ensures.0 c.put-after_rows.ensures.1 in
+    let p6 = put_on p5 (rows_bytes most_intervals ns.result 0 a.table.now) refl c.put_rows.ensures in
+    p6.stands ∙ ap (sets a.out.now a.at) (body_of a.p a.table.now c.requires.1.few c.requires.2 ns.ensures)

@@ -19,25 +19,18 @@ loop-j-init c =
 
 pub put_place-next-requires : goal.put_place-next-requires
 put_place-next-requires c =
-    let at-loop-test = c in
-    let at-loop = at-loop-test in
-    let entry = at-loop in
-    let l = at-loop.loop-j in
-    let a = entry.args in
-    let pre = entry.requires in
-    (omega (arith, pre.0, l.invariant.1.ends, put_length l.invariant.1, rows_fit most_intervals (a.name ∷ []) a.row.now l.j at-loop-test.loop-j-test.true), omega (arith, pre.1))
+    let l = c.loop-j in
+    let a = c.args in
+    let pre = c.requires in
+    (omega (arith, pre.0, l.invariant.1.ends, put_length l.invariant.1, rows_fit most_intervals (a.name ∷ []) a.row.now l.j c.loop-j-test.true), omega (arith, pre.1))
 
 pub loop-j-preserved : goal.loop-j-preserved
 loop-j-preserved c =
-    let at-put-place = c in
-    let at-loop-test = at-put-place in
-    let at-loop = at-loop-test in
-    let entry = at-loop in
-    let l = at-loop.loop-j in
-    let a = entry.args in
-    let put = at-put-place.put_place-next.ensures in (
+    let l = c.loop-j in
+    let a = c.args in
+    let put = c.put_place-next.ensures in (
       omega arith,
-      rw (← (rows_next most_intervals (a.name ∷ []) a.row.now l.j at-loop-test.loop-j-test.true))
+      rw (← (rows_next most_intervals (a.name ∷ []) a.row.now l.j c.loop-j-test.true))
           (put_on l.invariant.1 (row_at most_intervals (a.name ∷ []) l.j (get_or a.row.now l.j 0)) put.0 put.1),
     )
 

@@ -25,20 +25,15 @@ bounds-p-i c =
 
 pub put_job-next-requires : goal.put_job-next-requires
 put_job-next-requires c =
-    let at-loop = c in
-    let entry = at-loop in
-    let l = at-loop.loop-i in
-    let p = entry.args.p in
-    (omega (arith, entry.requires.0, l.invariant.1.ends, jobs_long p l.i, put_length l.invariant.1), entry.requires.2 l.i (omega arith))
+    let l = c.loop-i in
+    let p = c.args.p in
+    (omega (arith, c.requires.0, l.invariant.1.ends, jobs_long p l.i, put_length l.invariant.1), c.requires.2 l.i (omega arith))
 
 pub loop-i-preserved : goal.loop-i-preserved
 loop-i-preserved c =
-    let at-put-job = c in
-    let at-loop = at-put-job in
-    let entry = at-loop in
-    let l = at-loop.loop-i in
-    let p = entry.args.p in
-    let put = at-put-job.put_job-next.ensures in (
+    let l = c.loop-i in
+    let p = c.args.p in
+    let put = c.put_job-next.ensures in (
       omega arith,
       rw (← (jobs_next p l.i)) (put_on l.invariant.1 (job_bytes (job_of p l.i)) (rw (job_long (job_of p l.i)) put.0) put.1),
     )

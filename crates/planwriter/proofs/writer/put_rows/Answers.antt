@@ -51,30 +51,23 @@ pub put_job_rows-next-requires : goal.put_job_rows-next-requires
 put_job_rows-next-requires c =
     let inside : most_intervals * c.loop-i.i + most_intervals ≤ length c.args.table.now
     = omega (arith, c.loop-i-test.true, c.requires.2) in
-    let c_3 = c in
-    let at-loop = c_3 in
-    let entry = at-loop in
-    let l = at-loop.loop-i in
-    let a = entry.args in
-    let pre = entry.requires in
+    let l = c.loop-i in
+    let a = c.args in
+    let pre = c.requires in
     let n = most_intervals * l.i + a.spans - most_intervals * l.i in
-    (omega (arith, pre.0, l.invariant.1.ends, put_length l.invariant.1, job_rows_fit a.names.now a.table.now a.jobs a.spans pre.4 l.i {n = n} (omega arith) pre.3 (inside)), omega (arith, pre.3, length-take n (drop (most_intervals * l.i) a.table.now)))
+    (omega (arith, pre.0, l.invariant.1.ends, put_length l.invariant.1, job_rows_fit a.names.now a.table.now a.jobs a.spans pre.4 l.i {n = n} (omega arith) pre.3 inside), omega (arith, pre.3, length-take n (drop (most_intervals * l.i) a.table.now)))
 
 pub loop-i-preserved : goal.loop-i-preserved
 loop-i-preserved c =
     let inside : most_intervals * c.loop-i.i + most_intervals ≤ length c.args.table.now
     = omega (arith, c.loop-i-test.true, c.requires.2) in
-    let at-put-job-rows = c in
-    let at-loop-test = at-put-job-rows in
-    let at-loop = at-loop-test in
-    let entry = at-loop in
-    let l = at-loop.loop-i in
-    let a = entry.args in
-    let pre = entry.requires in
-    let put = at-put-job-rows.put_job_rows-next.ensures in
+    let l = c.loop-i in
+    let a = c.args in
+    let pre = c.requires in
+    let put = c.put_job_rows-next.ensures in
     let n = most_intervals * l.i + a.spans - most_intervals * l.i in (
-      omega (arith, at-loop-test.loop-i-test.true),
-      rw (← (job_rows_next a.names.now a.table.now a.jobs a.spans pre.4 l.i {n = n} (omega arith) pre.3 (inside)))
+      omega (arith, c.loop-i-test.true),
+      rw (← (job_rows_next a.names.now a.table.now a.jobs a.spans pre.4 l.i {n = n} (omega arith) pre.3 inside))
           (put_on l.invariant.1 (rows_bytes most_intervals (get_or a.names.now l.i 0 ∷ []) 0 (take n (drop (most_intervals * l.i) a.table.now))) put.0 put.1),
     )
 
@@ -84,11 +77,9 @@ shape_of-out c =
 
 pub returns : goal.returns
 returns c =
-    let at-loop = c in
-    let entry = at-loop in
-    let l = at-loop.loop-i in
-    let a = entry.args in
-    let pre = entry.requires in
+    let l = c.loop-i in
+    let a = c.args in
+    let pre = c.requires in
     let whole : l.i ≡ a.jobs = omega (arith, c.loop-i-test.false, l.invariant.0) in
     (rw whole at l.invariant.1).stands
     ∙ ap (sets a.out.now a.at) (job_rows_all a.names.now a.table.now a.jobs a.spans pre.4 pre.2)

@@ -16,20 +16,14 @@ loop-q-init c =
 
 pub overflow_add-rows : goal.overflow_add-rows
 overflow_add-rows c =
-    let at-loop-test = c in
-    let at-loop = at-loop-test in
-    let entry = at-loop in
-    let l = at-loop.loop-q in
-    let t = entry.args.table.now in
-    record { fits = omega (arith, count_next entry.args.table.now l.q at-loop-test.loop-q-test.true l.invariant.1 c.row_of-rows.ensures, count_few (take (l.q + 1) t), length-take (l.q + 1) t) }
+    let l = c.loop-q in
+    let t = c.args.table.now in
+    record { fits = omega (arith, count_next c.args.table.now l.q c.loop-q-test.true l.invariant.1 c.row_of-rows.ensures, count_few (take (l.q + 1) t), length-take (l.q + 1) t) }
 
 pub loop-q-preserved : goal.loop-q-preserved
 loop-q-preserved c =
-    let at-loop-test = c in
-    let at-loop = at-loop-test in
-    let entry = at-loop in
-    let l = at-loop.loop-q in
-    (omega arith, count_next entry.args.table.now l.q at-loop-test.loop-q-test.true l.invariant.1 c.row_of-rows.ensures)
+    let l = c.loop-q in
+    (omega arith, count_next c.args.table.now l.q c.loop-q-test.true l.invariant.1 c.row_of-rows.ensures)
 
 pub overflow_cast-result : goal.overflow_cast-result
 overflow_cast-result c =

@@ -21,18 +21,13 @@ use Rattle.planwriter.proofs.writer.write.Goals as goal
 
 pub returns-then-table-lt-PLACES : goal.returns-then-table-lt-PLACES
 returns-then-table-lt-PLACES c =
-    let entry = c in
-    writer_short entry.args.p entry.args.table.now entry.args.out.now c.if-table-lt-PLACES.true
+    writer_short c.args.p c.args.table.now c.args.out.now c.if-table-lt-PLACES.true
 
 pub returns-then-not-sound_within : goal.returns-then-not-sound_within
 returns-then-not-sound_within c =
-    let tested : c.sound_within.result ≡ sound c.args.p c.args.table.now
-    = let a = c.args in
+    let tested : c.sound_within.result ≡ sound c.args.p c.args.table.now = let a = c.args in
       c.sound_within.ensures ∙ sound_told a.p a.table.now _ c.intervals_of-spans.ensures in
-    let c_1 = c in
-    let at-if1 = c_1 in
-    let entry = at-if1 in
-    writer_unsound entry.args.p entry.args.table.now entry.args.out.now at-if1.if-table-lt-PLACES.false (failed (tested) (ap not c.if-not-sound_within.true))
+    writer_unsound c.args.p c.args.table.now c.args.out.now c.if-table-lt-PLACES.false (failed tested (ap not c.if-not-sound_within.true))
 
 pub slice_bounds-rows_in-end : goal.slice_bounds-rows_in-end
 slice_bounds-rows_in-end c =
@@ -40,149 +35,91 @@ slice_bounds-rows_in-end c =
 
 pub rows_in-rows-requires : goal.rows_in-rows-requires
 rows_in-rows-requires c =
-    let tested : c.sound_within.result ≡ sound c.args.p c.args.table.now
-    = let a = c.args in
+    let tested : c.sound_within.result ≡ sound c.args.p c.args.table.now = let a = c.args in
       c.sound_within.ensures ∙ sound_told a.p a.table.now _ c.intervals_of-spans.ensures in
-    let sound-here : sound c.args.p c.args.table.now ≡ true
-    = held (tested) (ap not c.if-not-sound_within.false) in
+    let sound-here : sound c.args.p c.args.table.now ≡ true = held tested (ap not c.if-not-sound_within.false) in
     let writable-here : Writable c.args.p (take places c.args.table.now)
-    = let at-if1 = c in
-      let entry = at-if1 in
-      writable entry.args.p entry.args.table.now (sound-here) at-if1.if-table-lt-PLACES.false in
-    omega (arith, (writable-here).exact)
+    = writable c.args.p c.args.table.now sound-here c.if-table-lt-PLACES.false in
+    omega (arith, writable-here.exact)
 
 pub overflow_mul-jobs : goal.overflow_mul-jobs
 overflow_mul-jobs c =
-    let tested : c.sound_within.result ≡ sound c.args.p c.args.table.now
-    = let a = c.args in
+    let tested : c.sound_within.result ≡ sound c.args.p c.args.table.now = let a = c.args in
       c.sound_within.ensures ∙ sound_told a.p a.table.now _ c.intervals_of-spans.ensures in
-    let sound-here : sound c.args.p c.args.table.now ≡ true
-    = held (tested) (ap not c.if-not-sound_within.false) in
+    let sound-here : sound c.args.p c.args.table.now ≡ true = held tested (ap not c.if-not-sound_within.false) in
     let writable-here : Writable c.args.p (take places c.args.table.now)
-    = let at-if1 = c in
-      let entry = at-if1 in
-      writable entry.args.p entry.args.table.now (sound-here) at-if1.if-table-lt-PLACES.false in
+    = writable c.args.p c.args.table.now sound-here c.if-table-lt-PLACES.false in
     let few-here : (c.args.p.count ≤ most_jobs) × (c.rows_in-rows.result ≤ places)
-    = let at-rows-in = c in
-      let else = at-rows-in in
-      let entry = else in
-      ((writable-here).few, omega (arith, at-rows-in.rows_in-rows.ensures, count_few (take places entry.args.table.now), (writable-here).exact)) in
-    record { fits = omega (arith, (few-here).0, (few-here).1) }
+    = (writable-here.few, omega (arith, c.rows_in-rows.ensures, count_few (take places c.args.table.now), writable-here.exact)) in
+    record { fits = omega (arith, few-here.0, few-here.1) }
 
 pub overflow_add-follows : goal.overflow_add-follows
 overflow_add-follows c =
-    let tested : c.sound_within.result ≡ sound c.args.p c.args.table.now
-    = let a = c.args in
+    let tested : c.sound_within.result ≡ sound c.args.p c.args.table.now = let a = c.args in
       c.sound_within.ensures ∙ sound_told a.p a.table.now _ c.intervals_of-spans.ensures in
-    let sound-here : sound c.args.p c.args.table.now ≡ true
-    = held (tested) (ap not c.if-not-sound_within.false) in
+    let sound-here : sound c.args.p c.args.table.now ≡ true = held tested (ap not c.if-not-sound_within.false) in
     let writable-here : Writable c.args.p (take places c.args.table.now)
-    = let at-if1 = c in
-      let entry = at-if1 in
-      writable entry.args.p entry.args.table.now (sound-here) at-if1.if-table-lt-PLACES.false in
+    = writable c.args.p c.args.table.now sound-here c.if-table-lt-PLACES.false in
     let few-here : (c.args.p.count ≤ most_jobs) × (c.rows_in-rows.result ≤ places)
-    = let at-rows-in = c in
-      let else = at-rows-in in
-      let entry = else in
-      ((writable-here).few, omega (arith, at-rows-in.rows_in-rows.ensures, count_few (take places entry.args.table.now), (writable-here).exact)) in
-    record { fits = omega (arith, (few-here).0, (few-here).1) }
+    = (writable-here.few, omega (arith, c.rows_in-rows.ensures, count_few (take places c.args.table.now), writable-here.exact)) in
+    record { fits = omega (arith, few-here.0, few-here.1) }
 
 pub overflow_add-follows-2 : goal.overflow_add-follows-2
 overflow_add-follows-2 c =
-    let tested : c.sound_within.result ≡ sound c.args.p c.args.table.now
-    = let a = c.args in
+    let tested : c.sound_within.result ≡ sound c.args.p c.args.table.now = let a = c.args in
       c.sound_within.ensures ∙ sound_told a.p a.table.now _ c.intervals_of-spans.ensures in
-    let sound-here : sound c.args.p c.args.table.now ≡ true
-    = held (tested) (ap not c.if-not-sound_within.false) in
+    let sound-here : sound c.args.p c.args.table.now ≡ true = held tested (ap not c.if-not-sound_within.false) in
     let writable-here : Writable c.args.p (take places c.args.table.now)
-    = let at-if1 = c in
-      let entry = at-if1 in
-      writable entry.args.p entry.args.table.now (sound-here) at-if1.if-table-lt-PLACES.false in
+    = writable c.args.p c.args.table.now sound-here c.if-table-lt-PLACES.false in
     let few-here : (c.args.p.count ≤ most_jobs) × (c.rows_in-rows.result ≤ places)
-    = let at-rows-in = c in
-      let else = at-rows-in in
-      let entry = else in
-      ((writable-here).few, omega (arith, at-rows-in.rows_in-rows.ensures, count_few (take places entry.args.table.now), (writable-here).exact)) in
-    record { fits = omega (arith, (few-here).0, (few-here).1) }
+    = (writable-here.few, omega (arith, c.rows_in-rows.ensures, count_few (take places c.args.table.now), writable-here.exact)) in
+    record { fits = omega (arith, few-here.0, few-here.1) }
 
 pub overflow_mul-follows : goal.overflow_mul-follows
 overflow_mul-follows c =
-    let tested : c.sound_within.result ≡ sound c.args.p c.args.table.now
-    = let a = c.args in
+    let tested : c.sound_within.result ≡ sound c.args.p c.args.table.now = let a = c.args in
       c.sound_within.ensures ∙ sound_told a.p a.table.now _ c.intervals_of-spans.ensures in
-    let sound-here : sound c.args.p c.args.table.now ≡ true
-    = held (tested) (ap not c.if-not-sound_within.false) in
+    let sound-here : sound c.args.p c.args.table.now ≡ true = held tested (ap not c.if-not-sound_within.false) in
     let writable-here : Writable c.args.p (take places c.args.table.now)
-    = let at-if1 = c in
-      let entry = at-if1 in
-      writable entry.args.p entry.args.table.now (sound-here) at-if1.if-table-lt-PLACES.false in
+    = writable c.args.p c.args.table.now sound-here c.if-table-lt-PLACES.false in
     let few-here : (c.args.p.count ≤ most_jobs) × (c.rows_in-rows.result ≤ places)
-    = let at-rows-in = c in
-      let else = at-rows-in in
-      let entry = else in
-      ((writable-here).few, omega (arith, at-rows-in.rows_in-rows.ensures, count_few (take places entry.args.table.now), (writable-here).exact)) in
-    record { fits = omega (arith, (few-here).0, (few-here).1) }
+    = (writable-here.few, omega (arith, c.rows_in-rows.ensures, count_few (take places c.args.table.now), writable-here.exact)) in
+    record { fits = omega (arith, few-here.0, few-here.1) }
 
 pub overflow_add-follows-4 : goal.overflow_add-follows-4
 overflow_add-follows-4 c =
-    let tested : c.sound_within.result ≡ sound c.args.p c.args.table.now
-    = let a = c.args in
+    let tested : c.sound_within.result ≡ sound c.args.p c.args.table.now = let a = c.args in
       c.sound_within.ensures ∙ sound_told a.p a.table.now _ c.intervals_of-spans.ensures in
-    let sound-here : sound c.args.p c.args.table.now ≡ true
-    = held (tested) (ap not c.if-not-sound_within.false) in
+    let sound-here : sound c.args.p c.args.table.now ≡ true = held tested (ap not c.if-not-sound_within.false) in
     let writable-here : Writable c.args.p (take places c.args.table.now)
-    = let at-if1 = c in
-      let entry = at-if1 in
-      writable entry.args.p entry.args.table.now (sound-here) at-if1.if-table-lt-PLACES.false in
+    = writable c.args.p c.args.table.now sound-here c.if-table-lt-PLACES.false in
     let few-here : (c.args.p.count ≤ most_jobs) × (c.rows_in-rows.result ≤ places)
-    = let at-rows-in = c in
-      let else = at-rows-in in
-      let entry = else in
-      ((writable-here).few, omega (arith, at-rows-in.rows_in-rows.ensures, count_few (take places entry.args.table.now), (writable-here).exact)) in
-    record { fits = omega (arith, (few-here).0, (few-here).1) }
+    = (writable-here.few, omega (arith, c.rows_in-rows.ensures, count_few (take places c.args.table.now), writable-here.exact)) in
+    record { fits = omega (arith, few-here.0, few-here.1) }
 
 pub overflow_add-length : goal.overflow_add-length
 overflow_add-length c =
-    let tested : c.sound_within.result ≡ sound c.args.p c.args.table.now
-    = let a = c.args in
+    let tested : c.sound_within.result ≡ sound c.args.p c.args.table.now = let a = c.args in
       c.sound_within.ensures ∙ sound_told a.p a.table.now _ c.intervals_of-spans.ensures in
-    let sound-here : sound c.args.p c.args.table.now ≡ true
-    = held (tested) (ap not c.if-not-sound_within.false) in
+    let sound-here : sound c.args.p c.args.table.now ≡ true = held tested (ap not c.if-not-sound_within.false) in
     let writable-here : Writable c.args.p (take places c.args.table.now)
-    = let at-if1 = c in
-      let entry = at-if1 in
-      writable entry.args.p entry.args.table.now (sound-here) at-if1.if-table-lt-PLACES.false in
+    = writable c.args.p c.args.table.now sound-here c.if-table-lt-PLACES.false in
     let few-here : (c.args.p.count ≤ most_jobs) × (c.rows_in-rows.result ≤ places)
-    = let at-rows-in = c in
-      let else = at-rows-in in
-      let entry = else in
-      ((writable-here).few, omega (arith, at-rows-in.rows_in-rows.ensures, count_few (take places entry.args.table.now), (writable-here).exact)) in
-    record { fits = omega (arith, (few-here).0, (few-here).1) }
+    = (writable-here.few, omega (arith, c.rows_in-rows.ensures, count_few (take places c.args.table.now), writable-here.exact)) in
+    record { fits = omega (arith, few-here.0, few-here.1) }
 
 pub returns-then-out-length : goal.returns-then-out-length
 returns-then-out-length c =
-    let tested : c.sound_within.result ≡ sound c.args.p c.args.table.now
-    = let a = c.args in
+    let tested : c.sound_within.result ≡ sound c.args.p c.args.table.now = let a = c.args in
       c.sound_within.ensures ∙ sound_told a.p a.table.now _ c.intervals_of-spans.ensures in
-    let sound-here : sound c.args.p c.args.table.now ≡ true
-    = held (tested) (ap not c.if-not-sound_within.false) in
+    let sound-here : sound c.args.p c.args.table.now ≡ true = held tested (ap not c.if-not-sound_within.false) in
     let writable-here : Writable c.args.p (take places c.args.table.now)
-    = let at-if1 = c in
-      let entry = at-if1 in
-      writable entry.args.p entry.args.table.now (sound-here) at-if1.if-table-lt-PLACES.false in
+    = writable c.args.p c.args.table.now sound-here c.if-table-lt-PLACES.false in
     let follows-here : 5 + c.args.p.count * (1 + job_length) + 2 + c.rows_in-rows.result * (1 + row_length) ≡ length (body c.args.p (take places c.args.table.now))
-    = let at-rows-in = c in
-      let c_3 = at-rows-in in
-      let entry = c_3 in
-      rw at-rows-in.rows_in-rows.ensures (sym (body_long entry.args.p (take places entry.args.table.now) (writable-here).few)) in
+    = rw c.rows_in-rows.ensures (sym (body_long c.args.p (take places c.args.table.now) writable-here.few)) in
     let exact : length (written c.args.p (take places c.args.table.now)) ≡ 5 + (5 + c.args.p.count * (1 + job_length) + 2 + c.rows_in-rows.result * (1 + row_length))
-    = let entry = c in
-      written_long entry.args.p (take places entry.args.table.now) ∙ omega (arith, follows-here) in
-    let c_1 = c in
-    let c_4 = c_1 in
-    let at-if1 = c_4 in
-    let entry = at-if1 in
-    writer_tight entry.args.p entry.args.table.now entry.args.out.now at-if1.if-table-lt-PLACES.false (sound-here) (omega (arith, exact, c.if-out-length.true))
+    = written_long c.args.p (take places c.args.table.now) ∙ omega (arith, follows-here) in
+    writer_tight c.args.p c.args.table.now c.args.out.now c.if-table-lt-PLACES.false sound-here (omega (arith, exact, c.if-out-length.true))
 
 pub slice_bounds-put_file-end : goal.slice_bounds-put_file-end
 slice_bounds-put_file-end c =
@@ -190,53 +127,26 @@ slice_bounds-put_file-end c =
 
 pub put_file-requires : goal.put_file-requires
 put_file-requires c =
-    let tested : c.sound_within.result ≡ sound c.args.p c.args.table.now
-    = let a = c.args in
+    let tested : c.sound_within.result ≡ sound c.args.p c.args.table.now = let a = c.args in
       c.sound_within.ensures ∙ sound_told a.p a.table.now _ c.intervals_of-spans.ensures in
-    let sound-here : sound c.args.p c.args.table.now ≡ true
-    = held (tested) (ap not c.if-not-sound_within.false) in
+    let sound-here : sound c.args.p c.args.table.now ≡ true = held tested (ap not c.if-not-sound_within.false) in
     let writable-here : Writable c.args.p (take places c.args.table.now)
-    = let at-if1 = c in
-      let entry = at-if1 in
-      writable entry.args.p entry.args.table.now (sound-here) at-if1.if-table-lt-PLACES.false in
+    = writable c.args.p c.args.table.now sound-here c.if-table-lt-PLACES.false in
     let follows-here : 5 + c.args.p.count * (1 + job_length) + 2 + c.rows_in-rows.result * (1 + row_length) ≡ length (body c.args.p (take places c.args.table.now))
-    = let at-rows-in = c in
-      let c_3 = at-rows-in in
-      let entry = c_3 in
-      rw at-rows-in.rows_in-rows.ensures (sym (body_long entry.args.p (take places entry.args.table.now) (writable-here).few)) in
+    = rw c.rows_in-rows.ensures (sym (body_long c.args.p (take places c.args.table.now) writable-here.few)) in
     let exact : length (written c.args.p (take places c.args.table.now)) ≡ 5 + (5 + c.args.p.count * (1 + job_length) + 2 + c.rows_in-rows.result * (1 + row_length))
-    = let entry = c in
-      written_long entry.args.p (take places entry.args.table.now) ∙ omega (arith, follows-here) in
-    let at-if3 = c in
-    let c_3 = at-if3 in
-    let at-rows-in = c_3 in
-    let c_6 = at-rows-in in
-    let at-intervals-of = c_6 in
-    (omega (arith, exact, at-if3.if-out-length.false), writable-here, at-rows-in.rows_in-rows.ensures, omega (arith, follows-here), at-intervals-of.intervals_of-spans.ensures)
+    = written_long c.args.p (take places c.args.table.now) ∙ omega (arith, follows-here) in
+    (omega (arith, exact, c.if-out-length.false), writable-here, c.rows_in-rows.ensures, omega (arith, follows-here), c.intervals_of-spans.ensures)
 
 pub returns : goal.returns
 returns c =
-    let tested : c.sound_within.result ≡ sound c.args.p c.args.table.now
-    = let a = c.args in
+    let tested : c.sound_within.result ≡ sound c.args.p c.args.table.now = let a = c.args in
       c.sound_within.ensures ∙ sound_told a.p a.table.now _ c.intervals_of-spans.ensures in
-    let sound-here : sound c.args.p c.args.table.now ≡ true
-    = held (tested) (ap not c.if-not-sound_within.false) in
+    let sound-here : sound c.args.p c.args.table.now ≡ true = held tested (ap not c.if-not-sound_within.false) in
     let writable-here : Writable c.args.p (take places c.args.table.now)
-    = let at-if1 = c in
-      let entry = at-if1 in
-      writable entry.args.p entry.args.table.now (sound-here) at-if1.if-table-lt-PLACES.false in
+    = writable c.args.p c.args.table.now sound-here c.if-table-lt-PLACES.false in
     let follows-here : 5 + c.args.p.count * (1 + job_length) + 2 + c.rows_in-rows.result * (1 + row_length) ≡ length (body c.args.p (take places c.args.table.now))
-    = let at-rows-in = c in
-      let c_3 = at-rows-in in
-      let entry = c_3 in
-      rw at-rows-in.rows_in-rows.ensures (sym (body_long entry.args.p (take places entry.args.table.now) (writable-here).few)) in
+    = rw c.rows_in-rows.ensures (sym (body_long c.args.p (take places c.args.table.now) writable-here.few)) in
     let exact : length (written c.args.p (take places c.args.table.now)) ≡ 5 + (5 + c.args.p.count * (1 + job_length) + 2 + c.rows_in-rows.result * (1 + row_length))
-    = let entry = c in
-      written_long entry.args.p (take places entry.args.table.now) ∙ omega (arith, follows-here) in
-    let at-put-file = c in
-    let at-if3 = at-put-file in
-    let c_6 = at-if3 in
-    let c-9 = c_6 in
-    let at-if1 = c-9 in
-    let entry = at-if1 in
-    writer_whole entry.args.p entry.args.table.now entry.args.out.now at-if1.if-table-lt-PLACES.false (sound-here) (sym (exact)) at-if3.if-out-length.false at-put-file.put_file.ensures
+    = written_long c.args.p (take places c.args.table.now) ∙ omega (arith, follows-here) in
+    writer_whole c.args.p c.args.table.now c.args.out.now c.if-table-lt-PLACES.false sound-here (sym exact) c.if-out-length.false c.put_file.ensures

@@ -22,23 +22,14 @@ refuses (number ∷ places) p e = refl
 
 pub returns-then-not-is_accepted : goal.returns-then-not-is_accepted
 returns-then-not-is_accepted c =
-    let at-refuse = c in
-    let at-number-of = at-refuse in
-    let then = at-number-of in
-    let at_test = then in
-    let at-start = at_test in
-    let v = at-start.start-begun.result.verdict in
-    let refused = sym at_test.is_accepted.ensures ∙ not-true at_test.is_accepted.result (ap not then.if-not-is_accepted.true) in
-    rw (sym at-start.start-begun.ensures.0, refuses (verdict_view v) _ refused, sym at-number-of.number_of.ensures)
-    at-refuse.refuse.ensures
+    let v = c.start-begun.result.verdict in
+    let refused = sym c.is_accepted.ensures ∙ not-true c.is_accepted.result (ap not c.if-not-is_accepted.true) in
+    rw (sym c.start-begun.ensures.0, refuses (verdict_view v) _ refused, sym c.number_of.ensures)
+    c.refuse.ensures
 
 pub returns : goal.returns
 returns c =
-    let at-header = c in
-    let else = at-header in
-    let at_test = else in
-    let at-start = at_test in
-    let s = at-start.start-begun in
-    let p = at-start.args.p in
-    let none = passes (verdict_view s.result.verdict) _ at_test.is_accepted.result s.ensures.0 at_test.is_accepted.ensures (ap not else.if-not-is_accepted.false) in
-    rw none (record { takes = (ap (progress Slots p) (s.ensures.1 ∙ ap (λ r. start_from r (started p) no_run) none), at-header.slot_header-printed.ensures); fits = omega arith })
+    let s = c.start-begun in
+    let p = c.args.p in
+    let none = passes (verdict_view s.result.verdict) _ c.is_accepted.result s.ensures.0 c.is_accepted.ensures (ap not c.if-not-is_accepted.false) in
+    rw none (record { takes = (ap (progress Slots p) (s.ensures.1 ∙ ap (λ r. start_from r (started p) no_run) none), c.slot_header-printed.ensures); fits = omega arith })

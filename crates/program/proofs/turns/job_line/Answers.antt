@@ -20,16 +20,9 @@ returns-then-is_refused c =
 
 pub returns : goal.returns
 returns c =
-    let at-outcome-line = c in
-    let at-carried-of = at-outcome-line in
-    let at-name-of = at-carried-of in
-    let at-if1 = at-name-of in
-    let at-is-refused = at-if1 in
-    let at-outcome = at-is-refused in
-    let entry = at-outcome in
-    let a = entry.args in
-    let some = ap is_refused (sym at-outcome.outcome-ended.ensures) ∙ sym at-is-refused.is_refused.ensures ∙ at-if1.if-is_refused.false in
-    let told = rw (at-name-of.name_of.ensures, at-outcome.outcome-ended.ensures, at-carried-of.carried_of.ensures) at at-outcome-line.outcome_line.ensures in
+    let a = c.args in
+    let some = ap is_refused (sym c.outcome-ended.ensures) ∙ sym c.is_refused.ensures ∙ c.if-is_refused.false in
+    let told = rw (c.name_of.ensures, c.outcome-ended.ensures, c.carried_of.ensures) at c.outcome_line.ensures in
     record {
       prints = told.prints ∙ told_some (outcome a.p a.run a.i) (name a.p a.i) (carried_of a.run a.i) a.out.now some;
       fits = rw some told.fits;

@@ -16,6 +16,5 @@ returns-then-line-at-2 c =
 
 pub returns : goal.returns
 returns c =
-    let at-put = c in
     let a = c.args in
-    adds_room a.line.now a.at a.piece.now (omega (arith, at-put.if-line-at-2.false, at-put.if-line-at.false)) at-put.put.ensures
+    adds_room a.line.now a.at a.piece.now (omega (arith, c.if-line-at-2.false, c.if-line-at.false)) c.put.ensures

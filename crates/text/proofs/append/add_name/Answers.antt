@@ -5,5 +5,4 @@ use Rattle.text.proofs.append.add_name.Goals as goal
 
 pub returns : goal.returns
 returns c =
-    let at-name-text = c in
-    adds_same _ _ at-name-text.name_text-bytes.ensures c.add.ensures
+    adds_same _ _ c.name_text-bytes.ensures c.add.ensures

@@ -17,8 +17,7 @@ pub returns : goal.returns
 returns c =
     let computed : Shown c.args.number c.digits_of-digits.result
     = rw c.digits_of-digits.ensures (shown c.args.number (omega arith)) in
-    let at = c in
     let d = computed in
-    let r = at.digits_of-digits.result in
-    let a = at.args in
+    let r = c.digits_of-digits.result in
+    let a = c.args in
     adds_same a.line.now a.at (part_to_end r.bytes r.from most_digits d.bytes ∙ d.digits) c.add.ensures

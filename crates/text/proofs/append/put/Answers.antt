@@ -13,8 +13,7 @@ loop-k-init c =
 
 pub bounds-out-at : goal.bounds-out-at
 bounds-out-at c =
-    let room : length c.loop-k.out ≡ length c.args.out.now
-    = let a = c.args in
+    let room : length c.loop-k.out ≡ length c.args.out.now = let a = c.args in
       ap length c.loop-k.invariant.1 ∙ length-paste a.out.now a.at a.text.now c.loop-k.k (omega arith) (omega arith) in
     omega (arith, room)
 
