@@ -9,7 +9,6 @@ use borrow.Author.Tests.{lt-ltb, le-ltb, eq-eqb, ne_eqb}
 use lib.Dec.{ltb, eqb}
 use lib.ListN.{length, get_or, drop, replicate, length-append, length-replicate, length-drop, get_or-replicate, get_or-append}
 use lib.Seq.{get_or-append-add, get_or-drop}
-use Rattle.base.specs.Sum.{on}
 use Rattle.plan.specs.Edition.{most_jobs, most_deadline}
 use Rattle.plan.specs.Rules.{counted, deadline, is_hi}
 use Rattle.plan.specs.declared.kinds.Plan.{Plan}

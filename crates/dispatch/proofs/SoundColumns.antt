@@ -12,7 +12,7 @@ use Rattle.base.specs.Below.{every, least, greatest}
 use Rattle.base.proofs.Below.{every_ext, every_both, least_ext, greatest_ext}
 use Rattle.base.proofs.Logic.{if_less}
 use Rattle.plan.specs.Edition.{most_jobs}
-use Rattle.plan.specs.Rules.{jobs_of, job_of, counted, release, size, deadline, rates_allowed, count_allowed, grade_allowed, window_allowed, size_allowed, grades_hold, bounds_hold}
+use Rattle.plan.specs.Rules.{jobs_of, job_of, release, size, deadline, rates_allowed, count_allowed, grade_allowed, window_allowed, size_allowed, grades_hold, bounds_hold}
 use Rattle.plan.specs.Boundaries.{first_release, last_deadline}
 use Rattle.plan.specs.declared.kinds.Job.{Job}
 use Rattle.plan.specs.declared.kinds.Outline.{Outline}

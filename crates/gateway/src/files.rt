@@ -12,12 +12,7 @@ use planwriter::writer::write;
 // Reads a plan file into the lent plan and table, and returns in `offset` where a refused file is wrong, or 0
 // if it was read or the table is too short;
 // 22 with nothing changed if the plan is too short.
-pub fn gateway_read(
-    file: &[u8],
-    plan: &mut [u64],
-    table: &mut [u32],
-    offset: &mut usize,
-) -> u32
+pub fn gateway_read(file: &[u8], plan: &mut [u64], table: &mut [u32], offset: &mut usize) -> u32
     ensures { HostReads file.now plan.old table.old offset.old result plan.new table.new offset.new }
 {
     if plan.len() < Sizes::PLAN {
@@ -33,12 +28,7 @@ pub fn gateway_read(
 
 // Writes the plan file of a sound plan and its table, and returns its length in `length`; a refusal
 // leaves the output as it was.
-pub fn gateway_write(
-    plan: &[u64],
-    table: &[u32],
-    out: &mut [u8],
-    length: &mut usize,
-) -> u32
+pub fn gateway_write(plan: &[u64], table: &[u32], out: &mut [u8], length: &mut usize) -> u32
     ensures { HostWrites plan.now table.now out.old length.old result out.new length.new }
 {
     if plan.len() < Sizes::PLAN {

@@ -24,12 +24,7 @@ pub fn gateway_judge(plan: &[u64], table: &[u32], location: &mut [u64]) -> u32
 }
 
 // The slack figure of a plan and its table: its number, the least slack, and its location.
-pub fn gateway_slack(
-    plan: &[u64],
-    table: &[u32],
-    least: &mut i64,
-    location: &mut [u64],
-) -> u32
+pub fn gateway_slack(plan: &[u64], table: &[u32], least: &mut i64, location: &mut [u64]) -> u32
     ensures { HostMeasures plan.now table.now least.old location.old result least.new location.new }
 {
     if (plan.len() < Sizes::PLAN) | (location.len() < Sizes::LOCATION) {

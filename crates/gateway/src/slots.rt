@@ -34,12 +34,7 @@ fn start_in(run: &mut [u32], p: Plan, table: &[u32]) -> Verdict
 }
 
 // Judges a plan, and starts its run in the lent words if it is accepted.
-pub fn gateway_start(
-    plan: &[u64],
-    table: &[u32],
-    run: &mut [u32],
-    location: &mut [u64],
-) -> u32
+pub fn gateway_start(plan: &[u64], table: &[u32], run: &mut [u32], location: &mut [u64]) -> u32
     ensures { HostStarts plan.now table.now run.old location.old result run.new location.new }
 {
     if (plan.len() < Sizes::PLAN) | (run.len() < Sizes::RUN) | (location.len() < Sizes::LOCATION) {
@@ -53,13 +48,7 @@ pub fn gateway_start(
 
 // Carries one slot at speed v: advances the lent run, and writes the grants to the lent row. Words that
 // have no room in a column break rule 8 or 9. A refused slot leaves the run, so nothing is put back then.
-pub fn gateway_step(
-    plan: &[u64],
-    table: &[u32],
-    run: &mut [u32],
-    v: u16,
-    grants: &mut [u32],
-) -> u32
+pub fn gateway_step(plan: &[u64], table: &[u32], run: &mut [u32], v: u16, grants: &mut [u32]) -> u32
     ensures { HostSteps plan.now table.now run.old v grants.old result run.new grants.new }
 {
     if (plan.len() < Sizes::PLAN) | (run.len() < Sizes::RUN) {

@@ -10,7 +10,7 @@ use borrow.Author.Tests.{leb-true, ltb-true, lt-ltb, le-leb, lt-leb, eq-eqb, not
 use lib.Dec.{leb, eqb}
 use lib.ListN.{length}
 use Rattle.base.proofs.Choice.{on_le}
-use Rattle.base.specs.Sum.{on, strided}
+use Rattle.base.specs.Sum.{strided}
 use Rattle.base.proofs.SumLaws.{sum_mono}
 use Rattle.plan.specs.Edition.{most_intervals}
 use Rattle.plan.specs.Rules.{counted, deadline, release, is_hi}

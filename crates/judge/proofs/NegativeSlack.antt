@@ -9,7 +9,7 @@ use borrow.Author.Tests.{ltb-true, ltb-false, le-ltb}
 use lib.Dec.{ltb}
 use lib.IntN.{ℤ, pos, sub_ℕ}
 use lib.Signed.{lt_z}
-use Rattle.plan.specs.Rules.{counted, release, deadline, is_hi}
+use Rattle.plan.specs.Rules.{counted, deadline, is_hi}
 use Rattle.plan.specs.Boundaries.{boundary, intervals}
 use Rattle.plan.specs.declared.kinds.Plan.{Plan}
 use Rattle.plan.proofs.PresentInterval.{release_is_boundary, deadline_is_boundary}

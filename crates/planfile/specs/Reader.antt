@@ -1,6 +1,6 @@
 -- Reading a plan file (the head, the jobs, the rows, the end),
 -- and what the reader and the name lookup leave.
-use Rattle.std.specs.Prelude.{true, not, cond, List, [], ◌∷◌, ◌++◌, ℕ, zero, suc, ◌+◌, leb, ltb, eqb, length, take, drop, set, replicate}
+use Rattle.std.specs.Prelude.{true, not, cond, List, [], ◌∷◌, ◌++◌, ℕ, zero, suc, leb, ltb, eqb, length, take, drop, set, replicate}
 use Rattle.plan.specs.Kinds.{Bytes, Offset, Position, Table}
 use Rattle.plan.specs.Edition.{most_intervals, places, name_bytes}
 use Rattle.plan.specs.Versions.{rows_allowed_in}

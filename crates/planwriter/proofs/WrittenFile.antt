@@ -11,7 +11,7 @@ use Rattle.plan.specs.Edition.{most_jobs, most_intervals, places}
 use Rattle.planfields.specs.Layout.{job_length, row_length}
 use Rattle.plan.specs.Versions.{rows_allowed_in, version_for}
 use Rattle.plan.specs.Refusal.{unsound, buffer_too_short}
-use Rattle.plan.specs.Rules.{counted, names, size}
+use Rattle.plan.specs.Rules.{counted, names}
 use Rattle.plan.specs.Boundaries.{intervals}
 use Rattle.plan.specs.Table.{sound}
 use Rattle.plan.specs.declared.kinds.Plan.{Plan}

@@ -20,7 +20,7 @@ use Rattle.plan.specs.declared.kinds.Plan.{Plan}
 use Rattle.plan.proofs.Reports.{none_empty, none_first, found_here}
 use Rattle.judge.specs.Constraints.{interval_length, total, load, demand, floor_capacity}
 use Rattle.judge.specs.Verdict.{is_outside, is_pair, falls_short, outside_fault, total_fault, capacity_fault, floor_fault, judged}
-use Rattle.judge.specs.Decided.{InHand, InsideTo, TotalTo, WithinTo, FloorTo, Decided, short, bad, outside, wrong, over, below, accepted}
+use Rattle.judge.specs.Decided.{InsideTo, TotalTo, WithinTo, FloorTo, Decided, short, bad, outside, wrong, over, below, accepted}
 use Rattle.judge.proofs.HandFault.{hand_sound}
 use Rattle.judge.proofs.FirstLocation.{every_place_is_the_first}
 

@@ -26,7 +26,7 @@ use Rattle.planfile.proofs.WholeFile.{reader_long}
 use Rattle.planwriter.specs.Writing as writing
 use Rattle.planwriter.specs.Writing.{written, writer}
 use Rattle.judge.specs.Verdict.{outside_fault, total_fault, capacity_fault, is_hi_deadline, floor_fault, judged}
-use Rattle.judge.specs.Slack.{Figure, refused, slack_of, slack_figure}
+use Rattle.judge.specs.Slack.{refused, slack_of, slack_figure}
 use Rattle.dispatch.specs.declared.Run.{Run}
 use Rattle.dispatch.specs.Step as step
 use Rattle.dispatch.specs.Step.{started, no_run, start_from, start_in, slot_sound, slot_fault, stepped, outcome, end_fault, ended_with, told_ended, granted, added, advanced}

@@ -7,7 +7,7 @@ use lib.ListN.{length, get_or, take, replicate, get_or-map}
 use lib.Seq.{get_or-take, take_at}
 use Rattle.plan.specs.Edition.{most_jobs}
 use Rattle.plan.specs.Versions.{version_for}
-use Rattle.plan.specs.Rules.{no_job, job_of, counted, names, name}
+use Rattle.plan.specs.Rules.{no_job, job_of, counted, names}
 use Rattle.plan.specs.Boundaries.{insert, boundaries_to, intervals}
 use Rattle.plan.specs.declared.kinds.Job.{Job}
 use Rattle.plan.specs.declared.kinds.Plan.{Plan}

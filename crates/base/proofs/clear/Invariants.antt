@@ -1,11 +1,7 @@
 -- `base::clear` meets its contract: after k iterations the first k places are 0.
-use mathlib.Core.Path.{◌≡◌, refl, sym, ◌∙◌, ap}
+use mathlib.Core.Path.{◌≡◌}
 use Prim.Native.Nat.{◌-◌, ◌≤◌}
-use native.Mathlib.Numerals.{add-one}
-use native.Mathlib.Omega.{arith}
-use borrow.Author.Rules.{rules}
-use lib.ListN.{length, take, replicate, length-set, replicate-append-replicate}
-use lib.Seq.{take-suc-set, take_all}
+use lib.ListN.{length, take, replicate}
 use Rattle.base.proofs.clear.Given as goal
 
 abbrev pub invariant-loop-k : goal.invariant-loop-k

@@ -1,13 +1,8 @@
 -- `base::sum_of` meets its contract: the loop sums the terms inside the slice,
 -- and the others are 0.
-use mathlib.Core.Path.{◌≡◌, sym, ◌∙◌, ap}
-use mathlib.Core.List.{List}
-use Prim.Native.Nat.{ℕ, ◌+◌, ◌*◌, ◌-◌, ◌≤◌, ◌<◌}
-use native.Mathlib.Omega.{arith}
-use borrow.Author.Rules.{rules}
-use lib.ListN.{length, get_or-eq_default}
+use mathlib.Core.Path.{◌≡◌}
+use Prim.Native.Nat.{◌*◌, ◌-◌, ◌≤◌}
 use Rattle.base.specs.Sum.{sum, strided}
-use Rattle.base.proofs.SumLaws.{sum_start, sum_step, sum_split, sum_none}
 use Rattle.base.proofs.sum_of.Given as goal
 
 abbrev pub invariant-loop-k : goal.invariant-loop-k

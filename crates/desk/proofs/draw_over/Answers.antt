@@ -42,20 +42,20 @@ refused p table (number ∷ rest) h = refl
 pub returns : goal.returns
 returns c =
     let own : c.clear.new.row ++ drop places c.args.table.now ≡ cleared c.args.table.now
-        = ap (λ l. l ++ drop places c.args.table.now)
-          (c.clear.ensures ∙ ap (λ n. replicate n 0) (length-take-le places c.args.table.now c.requires.2)) in
+    = ap (λ l. l ++ drop places c.args.table.now)
+    (c.clear.ensures ∙ ap (λ n. replicate n 0) (length-take-le places c.args.table.now c.requires.2)) in
     λ p cols at begin.
     let table = c.args.table.now in
     let short : shortage_view c.shortage_over-short.result ≡ jobs_fault p = c.shortage_over-short.ensures p cols at begin in
     let told = c.is_nothing.ensures ∙ ap is_none short in (
       c.number_of.ensures ∙ ap number_of short,
       elim c.if-is_nothing.branch [
-        then-is_nothing w ↦
-          let jobs = job_columns p cols w.counted_within-jobs.ensures in
-          let spans = ap (λ l. length l - 1) at in
-          w.table-is
-          ∙ both-placed p table (rooms-are p cols at w.fill_rooms.ensures) own (w.place_class.ensures.1 p jobs at spans) (w.place_class-then-is_nothing.ensures.1 p jobs at spans)
-          ∙ ap (table_after p table []) (sym (none_empty (jobs_fault p) (sym told ∙ w.if-is_nothing.true)))
-      | else-is_nothing w ↦ w.table-is ∙ own ∙ refused p table (jobs_fault p) (sym told ∙ w.if-is_nothing.false)
+        | then-is_nothing w ↦
+            let jobs = job_columns p cols w.counted_within-jobs.ensures in
+            let spans = ap (λ l. length l - 1) at in
+            w.table-is
+            ∙ both-placed p table (rooms-are p cols at w.fill_rooms.ensures) own (w.place_class.ensures.1 p jobs at spans) (w.place_class-then-is_nothing.ensures.1 p jobs at spans)
+            ∙ ap (table_after p table []) (sym (none_empty (jobs_fault p) (sym told ∙ w.if-is_nothing.true)))
+        | else-is_nothing w ↦ w.table-is ∙ own ∙ refused p table (jobs_fault p) (sym told ∙ w.if-is_nothing.false)
       ],
     )

@@ -52,6 +52,6 @@ pub returns : goal.returns
 returns c =
     let sound : rules_hold c.args.p ≡ true = sym c.rules_hold.ensures ∙ not-false _ (ap not c.if-not-rules_hold.false) in
     let told = c.draw_over.ensures c.args.p (columns_told c.args.p sound c.columns_of.ensures)
-        (in_their_room _ _ c.boundaries_of-b.ensures).0 (ap (λ (s : Slots). s.0) c.first_release-begin.ensures) in
+    (in_their_room _ _ c.boundaries_of-b.ensures).0 (ap (λ (s : Slots). s.0) c.first_release-begin.ensures) in
     let left = drawn c.args.p c.args.table.now (le-ltb _ _ c.if-table-lt-PLACES.false) sound in
     (told.0 ∙ left.0, told.1 ∙ left.1)

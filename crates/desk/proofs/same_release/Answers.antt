@@ -1,11 +1,6 @@
 -- `desk::same_release` meets its contract: after i iterations the first i jobs are looked at.
 use mathlib.Core.Path.{◌≡◌, refl, sym}
-use Prim.Native.Nat.{◌-◌, ◌≤◌}
 use native.Mathlib.Omega.{arith}
-use borrow.Author.Rules.{rules}
-use lib.Dec.{eqb}
-use lib.ListN.{get_or}
-use Rattle.base.specs.Below.{every}
 use Rattle.base.proofs.Below.{every_start, every_next}
 use Rattle.desk.proofs.same_release.Goals as goal
 

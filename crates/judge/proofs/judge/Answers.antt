@@ -1,6 +1,5 @@
 -- `judge::judge` meets its contract.
 use mathlib.Core.Path.{sym}
-use borrow.Author.Rules.{rules}
 use lib.Seq.{length-take-le}
 use Rattle.judge.proofs.HandFault.{in_their_room}
 use Rattle.judge.proofs.judge.Goals as goal

@@ -1,6 +1,5 @@
 -- `lentrun::start_over` meets its contract: the verdict decides which of the two records is returned.
 use mathlib.Core.Path.{sym, ◌∙◌, ap}
-use borrow.Author.Rules.{rules}
 use Rattle.judge.specs.Verdict.{judged}
 use Rattle.plan.specs.Report.{is_none}
 use Rattle.dispatch.specs.Step.{started, no_run, start_in}

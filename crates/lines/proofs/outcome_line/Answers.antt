@@ -1,7 +1,6 @@
 -- `lines::outcome_line` meets its contract: a word for each outcome.
 use mathlib.Core.Path.{refl}
 use native.Mathlib.Omega.{arith}
-use borrow.Author.Rules.{rules}
 use lib.ListN.{length-append}
 use Rattle.lines.specs.Lines.{outcome_line}
 use Rattle.text.specs.Text.{text, decimal}

@@ -1,6 +1,5 @@
 -- `lines::print` meets its contract: all of the line, or nothing.
 use native.Mathlib.Omega.{arith}
-use borrow.Author.Rules.{rules}
 use Rattle.text.proofs.Growth.{adds_pasted}
 use Rattle.lines.proofs.Printing.{printed_short, printed_whole}
 use Rattle.lines.proofs.print.Goals as goal

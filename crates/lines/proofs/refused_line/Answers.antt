@@ -1,7 +1,6 @@
 -- `lines::refused_line` meets its contract, piece by piece.
 use mathlib.Core.Path.{◌∙◌, sym, ap}
 use native.Mathlib.Omega.{arith}
-use borrow.Author.Rules.{rules}
 use lib.Seq.{length-take-le}
 use Rattle.lines.specs.Answers.{printed}
 use Rattle.text.proofs.Growth.{grown_twice}

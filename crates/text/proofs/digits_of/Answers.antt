@@ -1,11 +1,11 @@
 -- `text::digits_of` meets its contract. Loop invariant: the bytes are zeros and then the digits
 -- found, and the rest of the number followed by them is the same text.
 use mathlib.Core.Path.{◌≡◌, refl, sym, ◌∙◌, ap}
-use mathlib.Core.List.{List, [], ◌∷◌, ◌++◌}
+use mathlib.Core.List.{[], ◌∷◌, ◌++◌}
 use Prim.Native.Nat.{ℕ, zero, suc, ◌-◌, ◌%◌, ◌^◌, ◌<◌, ◌≤◌}
 use native.Mathlib.Omega.{arith}
-use lib.ListN.{length, set, replicate, length-set}
-use Rattle.text.specs.Text.{digits, digit, decimal, most_digits}
+use lib.ListN.{set, replicate, length-set}
+use Rattle.text.specs.Text.{digit}
 use Rattle.text.proofs.Decimal.{digits_one, digits_more, digits_ten, digit_before, digits_found, shorter}
 use Rattle.text.proofs.digits_of.Goals as goal
 

@@ -1,12 +1,10 @@
 -- `text::digits_of` meets its contract. Loop invariant: the bytes are zeros and then the digits
 -- found, and the rest of the number followed by them is the same text.
-use mathlib.Core.Path.{◌≡◌, refl, sym, ◌∙◌, ap}
-use mathlib.Core.List.{List, [], ◌∷◌, ◌++◌}
-use Prim.Native.Nat.{ℕ, zero, suc, ◌-◌, ◌%◌, ◌^◌, ◌<◌}
-use native.Mathlib.Omega.{arith}
-use lib.ListN.{length, set, replicate, length-set}
-use Rattle.text.specs.Text.{digits, digit, decimal, most_digits}
-use Rattle.text.proofs.Decimal.{digits_one, digits_more, digits_ten, digit_before, digits_found, shorter}
+use mathlib.Core.Path.{◌≡◌}
+use mathlib.Core.List.{List, ◌++◌}
+use Prim.Native.Nat.{ℕ, suc, ◌^◌, ◌<◌}
+use lib.ListN.{length, replicate}
+use Rattle.text.specs.Text.{digits, decimal, most_digits}
 use Rattle.text.proofs.digits_of.Given as goal
 
 abbrev pub invariant-loop-rest : goal.invariant-loop-rest

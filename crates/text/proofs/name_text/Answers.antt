@@ -1,7 +1,6 @@
 -- `text::name_text` meets its contract: byte by byte.
 use mathlib.Core.Path.{refl}
 use native.Mathlib.Nat.{div-one}
-use borrow.Author.Rules.{rules}
 use Rattle.text.proofs.name_text.Goals as goal
 
 pub returns : goal.returns

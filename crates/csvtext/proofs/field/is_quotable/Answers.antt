@@ -1,5 +1,4 @@
 -- `csvtext::field::is_quotable` meets its contract.
-use borrow.Author.Rules.{rules}
 use Rattle.csvtext.proofs.field.is_quotable.Goals as goal
 
 pub returns : goal.returns

@@ -2,7 +2,6 @@
 use mathlib.Core.Path.{sym, ◌∙◌}
 use native.Mathlib.Numerals.{add-one}
 use borrow.Author.Tests.{eq-eqb, ne_eqb}
-use borrow.Author.Rules.{rules}
 use lib.ListN.{get_or}
 use Rattle.csvtext.specs.Grammar.{quote}
 use Rattle.csvtext.specs.Inner.Seen.{nothing}

@@ -1,13 +1,8 @@
 -- `csvtext::field::read_plain` meets its contract. Loop invariant: what is left to read, added to what
 -- is known, gives the whole field.
-use mathlib.Core.Path.{◌≡◌, sym, ◌∙◌}
-use Prim.Native.Nat.{◌-◌}
+use mathlib.Core.Path.{sym, ◌∙◌}
 use native.Mathlib.Numerals.{add-one}
-use borrow.Author.Rules.{rules}
-use lib.ListN.{length, drop}
 use Rattle.fields.proofs.ParserLaws.{failed, held}
-use Rattle.csvtext.specs.Grammar.{plain}
-use Rattle.csvtext.specs.Inner.Seen.{nothing, seen_at}
 use Rattle.csvtext.proofs.FieldLaws.{plain_over, plain_ends, plain_next}
 use mathlib.Core.Path.{ap}
 use mathlib.Core.Bool.{not}

@@ -1,16 +1,10 @@
 -- `csvtext::field::read_plain` meets its contract. Loop invariant: what is left to read, added to what
 -- is known, gives the whole field.
-use mathlib.Core.Path.{◌≡◌, sym, ◌∙◌}
+use mathlib.Core.Path.{◌≡◌}
 use Prim.Native.Nat.{◌-◌}
-use native.Mathlib.Numerals.{add-one}
-use borrow.Author.Rules.{rules}
 use lib.ListN.{length, drop}
-use Rattle.fields.proofs.ParserLaws.{failed, held}
 use Rattle.csvtext.specs.Grammar.{plain}
 use Rattle.csvtext.specs.Inner.Seen.{nothing, seen_at}
-use Rattle.csvtext.proofs.FieldLaws.{plain_over, plain_ends, plain_next}
-use mathlib.Core.Path.{ap}
-use mathlib.Core.Bool.{not}
 use Rattle.csvtext.proofs.field.read_plain.Given as goal
 
 -- `csvtext::field::read_plain` meets its contract. Loop invariant: what is left to read, added to what

@@ -1,16 +1,13 @@
 -- `csvtext::field::read_quoted` meets its contract. Loop invariant: what is left to read, added to what
 -- is known, gives the whole field.
-use mathlib.Core.Path.{◌≡◌, sym, ◌∙◌, ap}
-use mathlib.Core.Bool.{false, ◌||◌}
-use Prim.Native.Nat.{◌-◌}
+use mathlib.Core.Path.{sym, ◌∙◌, ap}
+use mathlib.Core.Bool.{◌||◌}
 use native.Mathlib.Numerals.{add-one}
 use borrow.Author.Tests.{not-true, not-false}
-use borrow.Author.Rules.{rules}
 use lib.Dec.{eqb}
-use lib.ListN.{length, get_or, drop}
+use lib.ListN.{get_or}
 use Rattle.fields.proofs.ParserLaws.{failed, held}
-use Rattle.csvtext.specs.Grammar.{quote, quoted}
-use Rattle.csvtext.specs.Inner.Seen.{nothing, seen_at}
+use Rattle.csvtext.specs.Grammar.{quote}
 use Rattle.csvtext.proofs.FieldLaws.{quoted_over, quoted_cut, quoted_ends, quoted_breaks, quoted_next}
 use mathlib.Core.Bool.{not}
 use Rattle.csvtext.proofs.field.read_quoted.Goals as goal

@@ -1,5 +1,4 @@
 -- `csvtext::field::with_byte` meets its contract.
-use borrow.Author.Rules.{rules}
 use Rattle.csvtext.specs.Inner.Seen.{with_byte}
 use Rattle.csvtext.proofs.field.with_byte.Goals as goal
 

@@ -1,5 +1,4 @@
 -- `csvtext::field::with_byte_if` meets its contract.
-use borrow.Author.Rules.{rules}
 use Rattle.csvtext.proofs.field.with_byte_if.Goals as goal
 
 pub returns-then-stands : goal.returns-then-stands

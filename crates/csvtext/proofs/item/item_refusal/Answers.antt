@@ -1,6 +1,5 @@
 -- `csvtext::item::item_refusal` meets its contract.
 use mathlib.Core.Path.{refl}
-use borrow.Author.Rules.{rules}
 use Rattle.csvtext.proofs.item.item_refusal.Goals as goal
 
 pub returns-in-Item : goal.returns-in-Item

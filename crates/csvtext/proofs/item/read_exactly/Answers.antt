@@ -1,12 +1,8 @@
 -- `csvtext::item::read_exactly` meets its contract. Loop invariant: the bytes that are left stand at the
 -- offset exactly when all of them stand where they must.
-use mathlib.Core.Path.{◌≡◌, refl, sym, ◌∙◌}
-use Prim.Native.Nat.{◌+◌, ◌-◌, ◌≤◌}
+use mathlib.Core.Path.{refl, sym, ◌∙◌}
 use native.Mathlib.Numerals.{add-one}
 use native.Mathlib.Omega.{arith}
-use borrow.Author.Rules.{rules}
-use lib.ListN.{length, drop}
-use Rattle.csvtext.specs.Grammar.{begins}
 use Rattle.csvtext.proofs.ItemLaws.{begins_done, begins_over, begins_other, begins_next, exactly_there, exactly_not}
 use Rattle.csvtext.proofs.item.read_exactly.Goals as goal
 

@@ -1,6 +1,5 @@
 -- `csvtext::item::read_item` meets its contract.
 use mathlib.Core.Path.{refl, sym, ◌∙◌}
-use borrow.Author.Rules.{rules}
 use Rattle.fields.specs.Answers.{passed_view, passed_refusal}
 use Rattle.fields.proofs.ParserLaws.{so, refused}
 use Rattle.csvtext.proofs.ItemLaws.{item_broken, item_endless, item_whole}

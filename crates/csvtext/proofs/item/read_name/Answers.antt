@@ -1,7 +1,6 @@
 -- `csvtext::item::read_name` meets its contract.
 use mathlib.Core.Path.{sym, ◌∙◌}
 use mathlib.Core.List.{[], ◌∷◌}
-use borrow.Author.Rules.{rules}
 use Rattle.csvtext.specs.Grammar.{comma}
 use Rattle.csvtext.specs.Items.{item}
 use Rattle.csvtext.proofs.ItemLaws.{item_held, refused_item, name_refused, name_wrong, name_whole}

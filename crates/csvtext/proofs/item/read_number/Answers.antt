@@ -2,7 +2,6 @@
 use mathlib.Core.Path.{sym, ◌∙◌}
 use mathlib.Core.Bool.{not, ◌&&◌}
 use borrow.Author.Tests.{not-true, not-false}
-use borrow.Author.Rules.{rules}
 use lib.Dec.{eqb, lit<}
 use Rattle.csvtext.specs.Items.{item}
 use Rattle.csvtext.proofs.ItemLaws.{item_held, refused_item, number_refused, number_wrong, number_whole, number_small}

@@ -1,6 +1,5 @@
 -- `desk::answers::is_nothing` meets its contract: no refusal has the number of none.
 use mathlib.Core.Path.{◌≡◌, refl, ◌∙◌, ap}
-use borrow.Author.Rules.{rules}
 use lib.Dec.{eqb}
 use Rattle.plan.specs.Report.{done_number, number_of, is_none}
 use Rattle.desk.specs.Answers.{shortage_view}

@@ -2,17 +2,15 @@
 use mathlib.Core.Path.{◌≡◌, sym, ◌∙◌, ap, ap₂}
 use mathlib.Core.Bool.{not, ◌||◌}
 use mathlib.Core.List.{List, [], ◌∷◌}
-use Prim.Native.Nat.{ℕ, zero, suc, ◌+◌, ◌-◌, ◌≤◌}
+use Prim.Native.Nat.{ℕ, zero, suc, ◌+◌, ◌≤◌}
 use native.Mathlib.Numerals.{add-one}
 use native.Mathlib.Omega.{arith}
-use borrow.Author.Rules.{rules}
 use lib.Dec.{eqb}
 use lib.ListN.{length, get_or, set}
-use Rattle.base.specs.Fill.{filled}
 use Rattle.base.specs.Sum.{on}
 use Rattle.base.proofs.Choice.{on_at_most}
 use Rattle.base.proofs.FillLaws.{filled_start, filled_next}
-use Rattle.desk.specs.Inner.Lists.{end_at, most_sum}
+use Rattle.desk.specs.Inner.Lists.{most_sum}
 use Rattle.desk.proofs.pairs.fill_ends.Goals as goal
 
 -- A number that is within a bound, written into a list whose numbers are, leaves them so.

@@ -1,6 +1,5 @@
 -- `desk::pairs::is_of` meets its contract.
 use mathlib.Core.Path.{refl}
-use borrow.Author.Rules.{rules}
 use Rattle.desk.proofs.pairs.is_of.Goals as goal
 
 pub returns-then-back : goal.returns-then-back

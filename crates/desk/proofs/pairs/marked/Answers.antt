@@ -1,6 +1,5 @@
 -- `desk::pairs::marked` meets its contract.
 use mathlib.Core.Path.{refl}
-use borrow.Author.Rules.{rules}
 use Rattle.desk.proofs.pairs.marked.Goals as goal
 
 pub returns-then-wanted : goal.returns-then-wanted

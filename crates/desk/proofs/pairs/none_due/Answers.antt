@@ -1,14 +1,10 @@
 -- `desk::pairs::none_due` meets its contract: after i iterations the first i jobs are looked at.
 use mathlib.Core.Path.{◌≡◌, sym, ap}
 use mathlib.Core.Bool.{not, ◌&&◌}
-use Prim.Native.Nat.{◌-◌, ◌≤◌}
 use native.Mathlib.Omega.{arith}
-use borrow.Author.Rules.{rules}
 use lib.Dec.{eqb}
 use lib.ListN.{get_or}
-use Rattle.base.specs.Below.{every}
 use Rattle.base.proofs.Below.{every_start, every_next}
-use Rattle.desk.specs.Inner.Lists.{is_due_at}
 use Rattle.desk.proofs.pairs.none_due.Goals as goal
 
 pub loop-i-init : goal.loop-i-init

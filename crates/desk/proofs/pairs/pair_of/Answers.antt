@@ -6,7 +6,6 @@ use mathlib.Core.List.{[], ◌∷◌}
 use Prim.Native.Nat.{ℕ, ◌+◌, ◌*◌, ◌-◌, ◌^◌, ◌≤◌, ◌<◌}
 use native.Mathlib.Omega.{arith}
 use native.Mathlib.Nat.{mul-le-mul}
-use borrow.Author.Rules.{rules}
 use borrow.Author.Tests.{eqb-false, le-ltb, lt-ltb}
 use lib.Dec.{eqb, ltb}
 use Rattle.base.proofs.Logic.{neither}
@@ -73,23 +72,23 @@ overflow_add-carried c =
     = let a = c.args in (
       omega (arith, mul-le-mul {n₁ = a.n.0} {m₁ = a.late.0 - a.start.0} {n₂ = 65535} {m₂ = 4294967295} (omega arith) (omega arith)),
       omega (arith, mul-le-mul {n₁ = a.d.0} {m₁ = a.due.0 - a.late.0} {n₂ = 65535} {m₂ = 4294967295} (omega arith) (omega arith)),
-      ) in
+    ) in
     let normal : c.over-normal.result.0 ≡ c.args.n.0 * (c.args.late.0 - c.args.start.0)
     = ap (λ (u : Units). u.0) c.over-normal.ensures
-      ∙ ap (λ (t : Slots). c.args.n.0 * t.0) c.elapsed.ensures in
+    ∙ ap (λ (t : Slots). c.args.n.0 * t.0) c.elapsed.ensures in
     let floor : c.over-floor.result.0 ≡ c.args.d.0 * (c.args.due.0 - c.args.late.0)
     = ap (λ (u : Units). u.0) c.over-floor.ensures
-      ∙ ap (λ (t : Slots). c.args.d.0 * t.0) c.elapsed-2.ensures in
+    ∙ ap (λ (t : Slots). c.args.d.0 * t.0) c.elapsed-2.ensures in
     record { fits = omega (arith, normal, floor, most) }
 
 pub returns-then-asked-carried : goal.returns-then-asked-carried
 returns-then-asked-carried c =
     let normal : c.over-normal.result.0 ≡ c.args.n.0 * (c.args.late.0 - c.args.start.0)
     = ap (λ (u : Units). u.0) c.over-normal.ensures
-      ∙ ap (λ (t : Slots). c.args.n.0 * t.0) c.elapsed.ensures in
+    ∙ ap (λ (t : Slots). c.args.n.0 * t.0) c.elapsed.ensures in
     let floor : c.over-floor.result.0 ≡ c.args.d.0 * (c.args.due.0 - c.args.late.0)
     = ap (λ (u : Units). u.0) c.over-floor.ensures
-      ∙ ap (λ (t : Slots). c.args.d.0 * t.0) c.elapsed-2.ensures in
+    ∙ ap (λ (t : Slots). c.args.d.0 * t.0) c.elapsed-2.ensures in
     let a = c.args in
     pair-with a.n.0 a.d.0 a.start.0 a.due.0 a.late.0 a.high a.low c.if-high-low.false
     (sym (le-ltb (carries a.n.0 a.d.0 a.start.0 a.due.0 a.late.0 a.high a.low) (a.high - 1 + (a.low - 1)) (omega (arith, c.if-asked-carried.true, normal, floor))))
@@ -98,10 +97,10 @@ pub returns : goal.returns
 returns c =
     let normal : c.over-normal.result.0 ≡ c.args.n.0 * (c.args.late.0 - c.args.start.0)
     = ap (λ (u : Units). u.0) c.over-normal.ensures
-      ∙ ap (λ (t : Slots). c.args.n.0 * t.0) c.elapsed.ensures in
+    ∙ ap (λ (t : Slots). c.args.n.0 * t.0) c.elapsed.ensures in
     let floor : c.over-floor.result.0 ≡ c.args.d.0 * (c.args.due.0 - c.args.late.0)
     = ap (λ (u : Units). u.0) c.over-floor.ensures
-      ∙ ap (λ (t : Slots). c.args.d.0 * t.0) c.elapsed-2.ensures in
+    ∙ ap (λ (t : Slots). c.args.d.0 * t.0) c.elapsed-2.ensures in
     let a = c.args in
     ap₂ (λ x y. no_timetable ∷ a.due.0 ∷ a.late.0 ∷ (a.high - 1 + (a.low - 1)) ∷ (x + y) ∷ []) normal floor
     ∙ pair-with a.n.0 a.d.0 a.start.0 a.due.0 a.late.0 a.high a.low c.if-high-low.false

@@ -1,16 +1,10 @@
 -- `desk::pairs::short_from` meets its contract: after k iterations none of the first k pairs asks too much.
-use mathlib.Core.Path.{◌≡◌, sym, ◌∙◌}
+use mathlib.Core.Path.{◌≡◌}
 use mathlib.Core.List.{[]}
 use Prim.Native.Nat.{◌-◌, ◌≤◌}
-use native.Mathlib.Omega.{arith}
-use borrow.Author.Rules.{rules}
-use lib.ListN.{length, get_or}
+use lib.ListN.{length}
 use Rattle.plan.specs.Report.{first}
-use Rattle.plan.proofs.Reports.{first_start, first_next, passes}
 use Rattle.desk.specs.Inner.Lists.{pairs_from}
-use Rattle.desk.proofs.CodeLaws.{first_told}
-use mathlib.Core.Path.{ap}
-use mathlib.Core.Bool.{not}
 use Rattle.desk.proofs.pairs.short_from.Given as goal
 
 abbrev pub invariant-loop-k : goal.invariant-loop-k

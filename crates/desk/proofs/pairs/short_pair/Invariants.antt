@@ -1,16 +1,10 @@
 -- `desk::pairs::short_pair` meets its contract: after m iterations no pair with one of the first m times asks too much.
-use mathlib.Core.Path.{◌≡◌, sym}
+use mathlib.Core.Path.{◌≡◌}
 use mathlib.Core.List.{[]}
 use Prim.Native.Nat.{◌-◌, ◌≤◌}
-use native.Mathlib.Omega.{arith}
-use borrow.Author.Rules.{rules}
 use lib.ListN.{length, get_or}
 use Rattle.plan.specs.Report.{first}
-use Rattle.plan.proofs.Reports.{first_start, first_next, passes}
 use Rattle.desk.specs.Inner.Lists.{pairs_from}
-use Rattle.desk.proofs.CodeLaws.{first_told}
-use mathlib.Core.Path.{ap}
-use mathlib.Core.Bool.{not}
 use Rattle.desk.proofs.pairs.short_pair.Given as goal
 
 abbrev pub invariant-loop-m : goal.invariant-loop-m

@@ -1,15 +1,12 @@
 -- `desk::pairs::sizes_due` meets its contract: after i iterations the sum over the first i jobs.
 use mathlib.Core.Path.{◌≡◌, sym, ◌∙◌, ap}
 use mathlib.Core.Bool.{◌&&◌}
-use Prim.Native.Nat.{◌*◌, ◌-◌, ◌≤◌}
 use native.Mathlib.Omega.{arith}
-use borrow.Author.Rules.{rules}
 use lib.Dec.{leb}
 use lib.ListN.{get_or}
-use Rattle.base.specs.Sum.{sum, on}
+use Rattle.base.specs.Sum.{on}
 use Rattle.base.proofs.SumLaws.{sum_start}
 use Rattle.judge.proofs.RunningSums.{sum_next}
-use Rattle.desk.specs.Inner.Lists.{due_size, most_in_column}
 use Rattle.desk.proofs.pairs.sizes_due.Goals as goal
 
 pub loop-i-init : goal.loop-i-init

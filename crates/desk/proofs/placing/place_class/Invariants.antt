@@ -1,17 +1,13 @@
 -- `desk::placing::place_class` meets its contract: after k iterations the draft is that of the turns at the first k
 -- boundaries in order, for every plan whose columns and boundaries are lent.
-use mathlib.Core.Path.{◌≡◌, refl, sym, ◌∙◌, ap}
-use Prim.Native.Nat.{suc, ◌+◌, ◌-◌, ◌≤◌}
-use native.Mathlib.Numerals.{add-one}
-use native.Mathlib.Omega.{arith}
-use borrow.Author.Rules.{rules}
-use lib.ListN.{length, get_or}
+use mathlib.Core.Path.{◌≡◌}
+use Prim.Native.Nat.{suc, ◌-◌, ◌≤◌}
+use lib.ListN.{length}
 use Rattle.plan.specs.Boundaries.{boundaries, intervals}
 use Rattle.plan.specs.declared.kinds.Plan.{Plan}
 use Rattle.judge.specs.Slack.{through}
-use Rattle.desk.specs.Timetable.{Draft, turn, turns_at, class_placed}
+use Rattle.desk.specs.Timetable.{turn, turns_at}
 use Rattle.desk.specs.Inner.Lists.{JobColumns}
-use Rattle.desk.proofs.CodeLaws.{through_start, through_next}
 use Rattle.desk.proofs.placing.place_class.Given as goal
 
 abbrev pub invariant-loop-k : goal.invariant-loop-k

@@ -25,23 +25,23 @@ loop-q-preserved c =
     let step : Plan → ℕ → Draft → Draft = λ p q. job_turn p a.back a.m (turn a.back (counted p) q) in
     let turned = c.turn_of-i.ensures in
     elim c.if-due.branch [
-      then-due w ↦
-        let placed : next ≡ (placing a.back a.m c.turn_of-i.result (get_or a.sizes.now c.turn_of-i.result 0) so_far).draft
-        = ap₂ (λ rooms table. record { rooms = rooms; table = table }) w.rooms-is w.table-is ∙ w.place_units.ensures in (
-          omega arith,
-          c.if-due.auto.table ∙ l.invariant.1,
-          λ p cols at.
-              through_next (step p) l.q _ (l.invariant.2 p cols at)
-              (turn_taken p cols a.back a.m l.q so_far turned.0 turned.1 at c.is_of.ensures w.if-due.true placed),
-        )
-    | else-due w ↦
-        let same : next ≡ so_far = ap₂ (λ rooms table. record { rooms = rooms; table = table }) w.rooms-is w.table-is in (
-          omega arith,
-          c.if-due.auto.table ∙ l.invariant.1,
-          λ p cols at.
-              through_next (step p) l.q _ (l.invariant.2 p cols at)
-              (same ∙ turn_left p cols a.back a.m l.q so_far turned.0 turned.1 at c.is_of.ensures w.if-due.false),
-        )
+      | then-due w ↦
+          let placed : next ≡ (placing a.back a.m c.turn_of-i.result (get_or a.sizes.now c.turn_of-i.result 0) so_far).draft
+          = ap₂ (λ rooms table. record { rooms = rooms; table = table }) w.rooms-is w.table-is ∙ w.place_units.ensures in (
+            omega arith,
+            c.if-due.auto.table ∙ l.invariant.1,
+            λ p cols at.
+                through_next (step p) l.q _ (l.invariant.2 p cols at)
+                (turn_taken p cols a.back a.m l.q so_far turned.0 turned.1 at c.is_of.ensures w.if-due.true placed),
+          )
+      | else-due w ↦
+          let same : next ≡ so_far = ap₂ (λ rooms table. record { rooms = rooms; table = table }) w.rooms-is w.table-is in (
+            omega arith,
+            c.if-due.auto.table ∙ l.invariant.1,
+            λ p cols at.
+                through_next (step p) l.q _ (l.invariant.2 p cols at)
+                (same ∙ turn_left p cols a.back a.m l.q so_far turned.0 turned.1 at c.is_of.ensures w.if-due.false),
+          )
     ]
 
 pub returns : goal.returns

@@ -1,11 +1,8 @@
 -- `desk::placing::place_units` meets its contract: after k iterations the draft and the units left are those of
 -- the first k turns.
 use mathlib.Core.Path.{◌≡◌, refl, ap}
-use Prim.Native.Nat.{◌-◌, ◌≤◌}
 use native.Mathlib.Omega.{arith}
-use borrow.Author.Rules.{rules}
-use lib.ListN.{length, length-set}
-use Rattle.judge.specs.Slack.{through}
+use lib.ListN.{length-set}
 use Rattle.desk.specs.Timetable.{turn, Placing, placed_at, placing}
 use Rattle.desk.proofs.CodeLaws.{through_start, through_next}
 use Rattle.desk.proofs.placing.place_units.Goals as goal

@@ -1,13 +1,10 @@
 -- `desk::placing::place_units` meets its contract: after k iterations the draft and the units left are those of
 -- the first k turns.
-use mathlib.Core.Path.{◌≡◌, refl, ap}
+use mathlib.Core.Path.{◌≡◌}
 use Prim.Native.Nat.{◌-◌, ◌≤◌}
-use native.Mathlib.Omega.{arith}
-use borrow.Author.Rules.{rules}
-use lib.ListN.{length, length-set}
+use lib.ListN.{length}
 use Rattle.judge.specs.Slack.{through}
-use Rattle.desk.specs.Timetable.{turn, Placing, placed_at, placing}
-use Rattle.desk.proofs.CodeLaws.{through_start, through_next}
+use Rattle.desk.specs.Timetable.{turn, placed_at}
 use Rattle.desk.proofs.placing.place_units.Given as goal
 
 abbrev pub invariant-loop-k : goal.invariant-loop-k

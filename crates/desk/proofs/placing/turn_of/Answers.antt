@@ -1,7 +1,5 @@
 -- `desk::placing::turn_of` meets its contract: n − 1 − k is the number k from the back.
-use mathlib.Core.Path.{refl}
 use native.Mathlib.Omega.{arith}
-use borrow.Author.Rules.{rules}
 use Rattle.desk.proofs.placing.turn_of.Goals as goal
 
 pub returns-then-back : goal.returns-then-back

@@ -1,14 +1,10 @@
 -- `dispatch::claims::all_fit` meets its contract: after i iterations the first i claims are written and added up.
 use mathlib.Core.Path.{◌≡◌, sym, ◌∙◌, ap}
 use mathlib.Core.Bool.{false, ◌&&◌, and-true}
-use mathlib.Core.Logic.{⊎_elim}
 use Prim.Native.Nat.{ℕ, ◌+◌, ◌-◌, ◌≤◌, ◌<◌}
 use native.Mathlib.Omega.{arith}
-use borrow.Author.Rules.{rules}
 use borrow.Author.Tests.{ltb-true, ltb-false, leb-true, leb-false}
 use lib.Dec.{leb, ltb}
-use lib.ListN.{replicate}
-use Rattle.base.specs.Fill.{filled}
 use Rattle.base.specs.Sum.{sum, on}
 use Rattle.base.proofs.FillLaws.{filled_start, filled_next}
 use Rattle.base.proofs.Logic.{both}
@@ -27,8 +23,8 @@ pub offset_bounds-releases-i : goal.offset_bounds-releases-i
 offset_bounds-releases-i c =
     let going : (c.loop-i.i < c.args.jobs) × (c.loop-i.total.0 ≤ c.args.v.0)
     = let a = c.args in
-      let tests = both (ltb c.loop-i.i a.jobs) (leb c.loop-i.total.0 a.v.0) c.loop-i-test.true in
-      (ltb-true _ _ tests.0, leb-true _ _ tests.1) in
+    let tests = both (ltb c.loop-i.i a.jobs) (leb c.loop-i.total.0 a.v.0) c.loop-i-test.true in
+    (ltb-true _ _ tests.0, leb-true _ _ tests.1) in
     let below : c.loop-i.i < most_jobs = omega (arith, going.0, c.requires.0) in
     record { fits = omega (arith, below) }
 
@@ -36,8 +32,8 @@ pub bounds-releases-i : goal.bounds-releases-i
 bounds-releases-i c =
     let going : (c.loop-i.i < c.args.jobs) × (c.loop-i.total.0 ≤ c.args.v.0)
     = let a = c.args in
-      let tests = both (ltb c.loop-i.i a.jobs) (leb c.loop-i.total.0 a.v.0) c.loop-i-test.true in
-      (ltb-true _ _ tests.0, leb-true _ _ tests.1) in
+    let tests = both (ltb c.loop-i.i a.jobs) (leb c.loop-i.total.0 a.v.0) c.loop-i-test.true in
+    (ltb-true _ _ tests.0, leb-true _ _ tests.1) in
     let below : c.loop-i.i < most_jobs = omega (arith, going.0, c.requires.0) in
     below
 
@@ -45,8 +41,8 @@ pub offset_bounds-deadlines-i : goal.offset_bounds-deadlines-i
 offset_bounds-deadlines-i c =
     let going : (c.loop-i.i < c.args.jobs) × (c.loop-i.total.0 ≤ c.args.v.0)
     = let a = c.args in
-      let tests = both (ltb c.loop-i.i a.jobs) (leb c.loop-i.total.0 a.v.0) c.loop-i-test.true in
-      (ltb-true _ _ tests.0, leb-true _ _ tests.1) in
+    let tests = both (ltb c.loop-i.i a.jobs) (leb c.loop-i.total.0 a.v.0) c.loop-i-test.true in
+    (ltb-true _ _ tests.0, leb-true _ _ tests.1) in
     let below : c.loop-i.i < most_jobs = omega (arith, going.0, c.requires.0) in
     record { fits = omega (arith, below) }
 
@@ -54,8 +50,8 @@ pub bounds-deadlines-i : goal.bounds-deadlines-i
 bounds-deadlines-i c =
     let going : (c.loop-i.i < c.args.jobs) × (c.loop-i.total.0 ≤ c.args.v.0)
     = let a = c.args in
-      let tests = both (ltb c.loop-i.i a.jobs) (leb c.loop-i.total.0 a.v.0) c.loop-i-test.true in
-      (ltb-true _ _ tests.0, leb-true _ _ tests.1) in
+    let tests = both (ltb c.loop-i.i a.jobs) (leb c.loop-i.total.0 a.v.0) c.loop-i-test.true in
+    (ltb-true _ _ tests.0, leb-true _ _ tests.1) in
     let below : c.loop-i.i < most_jobs = omega (arith, going.0, c.requires.0) in
     below
 
@@ -63,8 +59,8 @@ pub offset_bounds-grades-i : goal.offset_bounds-grades-i
 offset_bounds-grades-i c =
     let going : (c.loop-i.i < c.args.jobs) × (c.loop-i.total.0 ≤ c.args.v.0)
     = let a = c.args in
-      let tests = both (ltb c.loop-i.i a.jobs) (leb c.loop-i.total.0 a.v.0) c.loop-i-test.true in
-      (ltb-true _ _ tests.0, leb-true _ _ tests.1) in
+    let tests = both (ltb c.loop-i.i a.jobs) (leb c.loop-i.total.0 a.v.0) c.loop-i-test.true in
+    (ltb-true _ _ tests.0, leb-true _ _ tests.1) in
     let below : c.loop-i.i < most_jobs = omega (arith, going.0, c.requires.0) in
     record { fits = omega (arith, below) }
 
@@ -72,8 +68,8 @@ pub bounds-grades-i : goal.bounds-grades-i
 bounds-grades-i c =
     let going : (c.loop-i.i < c.args.jobs) × (c.loop-i.total.0 ≤ c.args.v.0)
     = let a = c.args in
-      let tests = both (ltb c.loop-i.i a.jobs) (leb c.loop-i.total.0 a.v.0) c.loop-i-test.true in
-      (ltb-true _ _ tests.0, leb-true _ _ tests.1) in
+    let tests = both (ltb c.loop-i.i a.jobs) (leb c.loop-i.total.0 a.v.0) c.loop-i-test.true in
+    (ltb-true _ _ tests.0, leb-true _ _ tests.1) in
     let below : c.loop-i.i < most_jobs = omega (arith, going.0, c.requires.0) in
     below
 
@@ -81,30 +77,32 @@ pub due_at-claim-requires : goal.due_at-claim-requires
 due_at-claim-requires c =
     let going : (c.loop-i.i < c.args.jobs) × (c.loop-i.total.0 ≤ c.args.v.0)
     = let a = c.args in
-      let tests = both (ltb c.loop-i.i a.jobs) (leb c.loop-i.total.0 a.v.0) c.loop-i-test.true in
-      (ltb-true _ _ tests.0, leb-true _ _ tests.1) in
+    let tests = both (ltb c.loop-i.i a.jobs) (leb c.loop-i.total.0 a.v.0) c.loop-i-test.true in
+    (ltb-true _ _ tests.0, leb-true _ _ tests.1) in
     let below : c.loop-i.i < most_jobs = omega (arith, going.0, c.requires.0) in
     below
 
 pub overflow_cast-claims : goal.overflow_cast-claims
 overflow_cast-claims c =
     let due : ℕ = let a = c.args in
-      due_in a.slow a.spans a.sizes.now a.carried.now a.table.now c.loop-i.i in
+    due_in a.slow a.spans a.sizes.now a.carried.now a.table.now c.loop-i.i in
     let claims : ℕ → ℕ = let a = c.args in
-      claim_in a.clock.0 a.slow a.slow a.spans a.grades.now a.releases.now a.sizes.now a.deadlines.now a.carried.now a.table.now in
+    claim_in a.clock.0 a.slow a.slow a.spans a.grades.now a.releases.now a.sizes.now a.deadlines.now a.carried.now a.table.now in
     let claimed : (c.if-is_served.claim.0 ≡ claims c.loop-i.i) × (c.if-is_served.claim.0 ≤ unknown)
-    = elim c.if-is_served.branch [ then-is_served w ↦ let is = ap (λ (u : Units). u.0) w.claim-is in
-      (is ∙ w.due_at-claim.ensures.0 ∙ ap (λ b. on b due) (sym w.if-is_served.true ∙ c.is_served.ensures), omega (arith, is, w.due_at-claim.ensures.1))
+    = elim c.if-is_served.branch [
+      | then-is_served w ↦ let is = ap (λ (u : Units). u.0) w.claim-is in
+          (is ∙ w.due_at-claim.ensures.0 ∙ ap (λ b. on b due) (sym w.if-is_served.true ∙ c.is_served.ensures), omega (arith, is, w.due_at-claim.ensures.1))
       | else-is_served w ↦ let is = ap (λ (u : Units). u.0) w.claim-is in
-      (is ∙ ap (λ b. on b due) (sym w.if-is_served.false ∙ c.is_served.ensures), omega (arith, is)) ] in
+          (is ∙ ap (λ b. on b due) (sym w.if-is_served.false ∙ c.is_served.ensures), omega (arith, is))
+    ] in
     record { fits = omega (arith, claimed.1) }
 
 pub offset_bounds-claims-i : goal.offset_bounds-claims-i
 offset_bounds-claims-i c =
     let going : (c.loop-i.i < c.args.jobs) × (c.loop-i.total.0 ≤ c.args.v.0)
     = let a = c.args in
-      let tests = both (ltb c.loop-i.i a.jobs) (leb c.loop-i.total.0 a.v.0) c.loop-i-test.true in
-      (ltb-true _ _ tests.0, leb-true _ _ tests.1) in
+    let tests = both (ltb c.loop-i.i a.jobs) (leb c.loop-i.total.0 a.v.0) c.loop-i-test.true in
+    (ltb-true _ _ tests.0, leb-true _ _ tests.1) in
     let below : c.loop-i.i < most_jobs = omega (arith, going.0, c.requires.0) in
     record { fits = omega (arith, below) }
 
@@ -112,8 +110,8 @@ pub bounds-claims-i : goal.bounds-claims-i
 bounds-claims-i c =
     let going : (c.loop-i.i < c.args.jobs) × (c.loop-i.total.0 ≤ c.args.v.0)
     = let a = c.args in
-      let tests = both (ltb c.loop-i.i a.jobs) (leb c.loop-i.total.0 a.v.0) c.loop-i-test.true in
-      (ltb-true _ _ tests.0, leb-true _ _ tests.1) in
+    let tests = both (ltb c.loop-i.i a.jobs) (leb c.loop-i.total.0 a.v.0) c.loop-i-test.true in
+    (ltb-true _ _ tests.0, leb-true _ _ tests.1) in
     let below : c.loop-i.i < most_jobs = omega (arith, going.0, c.requires.0) in
     below
 
@@ -121,25 +119,27 @@ pub overflow_add-total : goal.overflow_add-total
 overflow_add-total c =
     let going : (c.loop-i.i < c.args.jobs) × (c.loop-i.total.0 ≤ c.args.v.0)
     = let a = c.args in
-      let tests = both (ltb c.loop-i.i a.jobs) (leb c.loop-i.total.0 a.v.0) c.loop-i-test.true in
-      (ltb-true _ _ tests.0, leb-true _ _ tests.1) in
+    let tests = both (ltb c.loop-i.i a.jobs) (leb c.loop-i.total.0 a.v.0) c.loop-i-test.true in
+    (ltb-true _ _ tests.0, leb-true _ _ tests.1) in
     let due : ℕ = let a = c.args in
-      due_in a.slow a.spans a.sizes.now a.carried.now a.table.now c.loop-i.i in
+    due_in a.slow a.spans a.sizes.now a.carried.now a.table.now c.loop-i.i in
     let claims : ℕ → ℕ = let a = c.args in
-      claim_in a.clock.0 a.slow a.slow a.spans a.grades.now a.releases.now a.sizes.now a.deadlines.now a.carried.now a.table.now in
+    claim_in a.clock.0 a.slow a.slow a.spans a.grades.now a.releases.now a.sizes.now a.deadlines.now a.carried.now a.table.now in
     let claimed : (c.if-is_served.claim.0 ≡ claims c.loop-i.i) × (c.if-is_served.claim.0 ≤ unknown)
-    = elim c.if-is_served.branch [ then-is_served w ↦ let is = ap (λ (u : Units). u.0) w.claim-is in
-      (is ∙ w.due_at-claim.ensures.0 ∙ ap (λ b. on b due) (sym w.if-is_served.true ∙ c.is_served.ensures), omega (arith, is, w.due_at-claim.ensures.1))
+    = elim c.if-is_served.branch [
+      | then-is_served w ↦ let is = ap (λ (u : Units). u.0) w.claim-is in
+          (is ∙ w.due_at-claim.ensures.0 ∙ ap (λ b. on b due) (sym w.if-is_served.true ∙ c.is_served.ensures), omega (arith, is, w.due_at-claim.ensures.1))
       | else-is_served w ↦ let is = ap (λ (u : Units). u.0) w.claim-is in
-      (is ∙ ap (λ b. on b due) (sym w.if-is_served.false ∙ c.is_served.ensures), omega (arith, is)) ] in
+          (is ∙ ap (λ b. on b due) (sym w.if-is_served.false ∙ c.is_served.ensures), omega (arith, is))
+    ] in
     omega (arith, claimed.1, going.1, c.requires.1)
 
 pub overflow_add-i : goal.overflow_add-i
 overflow_add-i c =
     let going : (c.loop-i.i < c.args.jobs) × (c.loop-i.total.0 ≤ c.args.v.0)
     = let a = c.args in
-      let tests = both (ltb c.loop-i.i a.jobs) (leb c.loop-i.total.0 a.v.0) c.loop-i-test.true in
-      (ltb-true _ _ tests.0, leb-true _ _ tests.1) in
+    let tests = both (ltb c.loop-i.i a.jobs) (leb c.loop-i.total.0 a.v.0) c.loop-i-test.true in
+    (ltb-true _ _ tests.0, leb-true _ _ tests.1) in
     let below : c.loop-i.i < most_jobs = omega (arith, going.0, c.requires.0) in
     omega (arith, below)
 
@@ -147,25 +147,27 @@ pub loop-i-smaller : goal.loop-i-smaller
 loop-i-smaller c =
     let going : (c.loop-i.i < c.args.jobs) × (c.loop-i.total.0 ≤ c.args.v.0)
     = let a = c.args in
-      let tests = both (ltb c.loop-i.i a.jobs) (leb c.loop-i.total.0 a.v.0) c.loop-i-test.true in
-      (ltb-true _ _ tests.0, leb-true _ _ tests.1) in
+    let tests = both (ltb c.loop-i.i a.jobs) (leb c.loop-i.total.0 a.v.0) c.loop-i-test.true in
+    (ltb-true _ _ tests.0, leb-true _ _ tests.1) in
     omega (arith, going.0)
 
 pub loop-i-preserved : goal.loop-i-preserved
 loop-i-preserved c =
     let going : (c.loop-i.i < c.args.jobs) × (c.loop-i.total.0 ≤ c.args.v.0)
     = let a = c.args in
-      let tests = both (ltb c.loop-i.i a.jobs) (leb c.loop-i.total.0 a.v.0) c.loop-i-test.true in
-      (ltb-true _ _ tests.0, leb-true _ _ tests.1) in
+    let tests = both (ltb c.loop-i.i a.jobs) (leb c.loop-i.total.0 a.v.0) c.loop-i-test.true in
+    (ltb-true _ _ tests.0, leb-true _ _ tests.1) in
     let claims : ℕ → ℕ = let a = c.args in
-      claim_in a.clock.0 a.slow a.slow a.spans a.grades.now a.releases.now a.sizes.now a.deadlines.now a.carried.now a.table.now in
+    claim_in a.clock.0 a.slow a.slow a.spans a.grades.now a.releases.now a.sizes.now a.deadlines.now a.carried.now a.table.now in
     let due : ℕ = let a = c.args in
-      due_in a.slow a.spans a.sizes.now a.carried.now a.table.now c.loop-i.i in
+    due_in a.slow a.spans a.sizes.now a.carried.now a.table.now c.loop-i.i in
     let claimed : (c.if-is_served.claim.0 ≡ claims c.loop-i.i) × (c.if-is_served.claim.0 ≤ unknown)
-    = elim c.if-is_served.branch [ then-is_served w ↦ let is = ap (λ (u : Units). u.0) w.claim-is in
-      (is ∙ w.due_at-claim.ensures.0 ∙ ap (λ b. on b due) (sym w.if-is_served.true ∙ c.is_served.ensures), omega (arith, is, w.due_at-claim.ensures.1))
+    = elim c.if-is_served.branch [
+      | then-is_served w ↦ let is = ap (λ (u : Units). u.0) w.claim-is in
+          (is ∙ w.due_at-claim.ensures.0 ∙ ap (λ b. on b due) (sym w.if-is_served.true ∙ c.is_served.ensures), omega (arith, is, w.due_at-claim.ensures.1))
       | else-is_served w ↦ let is = ap (λ (u : Units). u.0) w.claim-is in
-      (is ∙ ap (λ b. on b due) (sym w.if-is_served.false ∙ c.is_served.ensures), omega (arith, is)) ] in
+          (is ∙ ap (λ b. on b due) (sym w.if-is_served.false ∙ c.is_served.ensures), omega (arith, is))
+    ] in
     let loop = c.loop-i in (
       omega (arith, going.0),
       filled_next _ loop.i _ loop.invariant.1 claimed.0,
@@ -175,7 +177,7 @@ loop-i-preserved c =
 pub returns : goal.returns
 returns c =
     let claims : ℕ → ℕ = let a = c.args in
-      claim_in a.clock.0 a.slow a.slow a.spans a.grades.now a.releases.now a.sizes.now a.deadlines.now a.carried.now a.table.now in
+    claim_in a.clock.0 a.slow a.slow a.spans a.grades.now a.releases.now a.sizes.now a.deadlines.now a.carried.now a.table.now in
     let a = c.args in
     let loop = c.loop-i in
     record {

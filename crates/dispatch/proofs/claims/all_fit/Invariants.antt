@@ -1,21 +1,11 @@
 -- `dispatch::claims::all_fit` meets its contract: after i iterations the first i claims are written and added up.
-use mathlib.Core.Path.{◌≡◌, sym, ◌∙◌, ap}
-use mathlib.Core.Bool.{false, ◌&&◌, and-true}
-use mathlib.Core.Logic.{⊎_elim}
-use Prim.Native.Nat.{ℕ, ◌+◌, ◌-◌, ◌≤◌, ◌<◌}
-use native.Mathlib.Omega.{arith}
-use borrow.Author.Rules.{rules}
-use borrow.Author.Tests.{ltb-true, ltb-false, leb-true, leb-false}
-use lib.Dec.{leb, ltb}
+use mathlib.Core.Path.{◌≡◌}
+use Prim.Native.Nat.{◌-◌, ◌≤◌}
 use lib.ListN.{replicate}
 use Rattle.base.specs.Fill.{filled}
-use Rattle.base.specs.Sum.{sum, on}
-use Rattle.base.proofs.FillLaws.{filled_start, filled_next}
-use Rattle.base.proofs.Logic.{both}
-use Rattle.base.proofs.SumLaws.{sum_start, sum_step, sum_split}
+use Rattle.base.specs.Sum.{sum}
 use Rattle.plan.specs.Edition.{most_jobs}
-use Rattle.plan.specs.declared.kinds.Units.{Units}
-use Rattle.dispatch.specs.Inner.Turns.{due_in, claim_in, unknown}
+use Rattle.dispatch.specs.Inner.Turns.{claim_in, unknown}
 use Rattle.dispatch.proofs.claims.all_fit.Given as goal
 
 abbrev pub invariant-loop-i : goal.invariant-loop-i

@@ -1,6 +1,5 @@
 -- `dispatch::claims::claim_at` meets its contract: a claim that is known is what is due.
 use mathlib.Core.Path.{◌∙◌, ap}
-use borrow.Author.Rules.{rules}
 use Rattle.plan.specs.declared.kinds.Units.{Units}
 use Rattle.dispatch.proofs.claims.claim_at.Goals as goal
 

@@ -1,7 +1,6 @@
 -- `dispatch::claims::due_at` meets its contract: its goal is the column's entry, or the lesser of it and what its row sums to, less what is carried.
 use mathlib.Core.Path.{refl, ap}
 use native.Mathlib.Omega.{arith}
-use borrow.Author.Rules.{rules}
 use Rattle.plan.specs.declared.kinds.Units.{Units}
 use Rattle.dispatch.proofs.Sharing.{allotted}
 use Rattle.dispatch.proofs.claims.due_at.Goals as goal

@@ -2,7 +2,6 @@
 use mathlib.Core.Path.{◌≡◌, refl}
 use Prim.Native.Nat.{◌-◌}
 use native.Mathlib.Omega.{arith}
-use borrow.Author.Rules.{rules}
 use Rattle.dispatch.proofs.claims.left_of.Goals as goal
 
 pub returns-then-goal-carried : goal.returns-then-goal-carried

@@ -5,7 +5,6 @@ use mathlib.Core.Bool.{true, not, ◌||◌}
 use mathlib.Core.List.{List}
 use Prim.Native.Nat.{ℕ, ◌<◌}
 use native.Mathlib.Omega.{arith}
-use borrow.Author.Rules.{rules}
 use borrow.Author.Tests.{not-true, not-false}
 use lib.Dec.{ltb}
 use lib.ListN.{get_or}
@@ -13,7 +12,6 @@ use Rattle.plan.specs.Edition.{most_jobs}
 use Rattle.plan.specs.declared.kinds.Outline.{Outline}
 use Rattle.plan.specs.declared.kinds.Plan.{Plan}
 use Rattle.dispatch.specs.declared.Run.{Run}
-use Rattle.dispatch.specs.Answers.{outcome_view}
 use Rattle.dispatch.specs.Step.{sound_at, outcome, is_open}
 use Rattle.dispatch.specs.Inner.Columns.{plan_on}
 use Rattle.dispatch.specs.Inner.Readiness.{is_sound}
@@ -100,7 +98,7 @@ returns-then-clock-release c =
     let sound : sound_at q run.clock.0 run.carried ≡ true = sym tested ∙ not-false _ (ap not c.if-not-is_sound.false) in
     let third : (ltb run.clock.0 (get_or releases i 0) || not c.is_open.result) ≡ (ltb run.clock.0 (get_or releases i 0) || not (is_open (outcome q run i)))
     = ap (λ b. ltb run.clock.0 (get_or releases i 0) || not b)
-      (c.is_open.ensures ∙ ap is_open (c.outcome_over-ending.ensures q (own_columns grades releases sizes deadlines o))) in
+    (c.is_open.ensures ∙ ap is_open (c.outcome_over-ending.ensures q (own_columns grades releases sizes deadlines o))) in
     columns.cannot_tells o grades releases sizes deadlines run i sound c.if-o-position.false (sym third ∙ c.if-clock-release.true)
 
 pub bounds-after-position : goal.bounds-after-position
@@ -135,5 +133,5 @@ returns c =
     let sound : sound_at q run.clock.0 run.carried ≡ true = sym tested ∙ not-false _ (ap not c.if-not-is_sound.false) in
     let third : (ltb run.clock.0 (get_or releases i 0) || not c.is_open.result) ≡ (ltb run.clock.0 (get_or releases i 0) || not (is_open (outcome q run i)))
     = ap (λ b. ltb run.clock.0 (get_or releases i 0) || not b)
-      (c.is_open.ensures ∙ ap is_open (c.outcome_over-ending.ensures q (own_columns grades releases sizes deadlines o))) in
+    (c.is_open.ensures ∙ ap is_open (c.outcome_over-ending.ensures q (own_columns grades releases sizes deadlines o))) in
     columns.ends_tells o grades releases sizes deadlines run i sound c.if-o-position.false (sym third ∙ c.if-clock-release.false)

@@ -1,10 +1,7 @@
 -- `dispatch::essential::clear_grants` meets its contract: after i iterations the first i entries are 0.
 use mathlib.Core.Path.{◌≡◌, refl, sym, ◌∙◌, ap}
-use Prim.Native.Nat.{◌-◌, ◌≤◌}
 use native.Mathlib.Omega.{arith}
-use borrow.Author.Rules.{rules}
 use lib.ListN.{length}
-use Rattle.base.specs.Fill.{filled}
 use Rattle.base.proofs.FillLaws.{filled_start, filled_next, filled_length}
 use Rattle.dispatch.proofs.essential.clear_grants.Goals as goal
 

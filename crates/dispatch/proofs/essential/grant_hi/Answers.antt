@@ -1,16 +1,13 @@
 -- `dispatch::essential::grant_hi` meets its contract: after i iterations what is due to the HI jobs among the first i is
 -- written and added up, and every claim that was right still is.
-use mathlib.Core.Path.{◌≡◌, refl, sym, ◌∙◌, ap}
+use mathlib.Core.Path.{◌≡◌, sym, ◌∙◌, ap}
 use mathlib.Core.Bool.{Bool, true, false, ◌&&◌, and-true}
-use mathlib.Core.Logic.{⊎_elim}
-use Prim.Native.Nat.{ℕ, ◌*◌, ◌-◌, ◌≤◌, ◌<◌}
+use Prim.Native.Nat.{ℕ, ◌≤◌, ◌<◌}
 use native.Mathlib.Omega.{arith}
-use borrow.Author.Rules.{rules}
 use borrow.Author.Tests.{ltb-true, ltb-false, leb-true, le-leb}
 use lib.Dec.{leb, ltb}
 use lib.ListN.{length}
-use Rattle.base.specs.Fill.{filled}
-use Rattle.base.specs.Sum.{sum, on}
+use Rattle.base.specs.Sum.{on}
 use Rattle.base.proofs.FillLaws.{filled_start, filled_next, filled_length}
 use Rattle.base.proofs.Logic.{both}
 use Rattle.base.proofs.SumLaws.{sum_start, sum_step}
@@ -29,8 +26,8 @@ pub is_of-requires : goal.is_of-requires
 is_of-requires c =
     let going : (c.loop-i.i < c.args.jobs) × (c.loop-i.total.0 ≤ c.args.v.0)
     = let a = c.args in
-      let tests = both (ltb c.loop-i.i a.jobs) (leb c.loop-i.total.0 a.v.0) c.loop-i-test.true in
-      (ltb-true _ _ tests.0, leb-true _ _ tests.1) in
+    let tests = both (ltb c.loop-i.i a.jobs) (leb c.loop-i.total.0 a.v.0) c.loop-i-test.true in
+    (ltb-true _ _ tests.0, leb-true _ _ tests.1) in
     let below : c.loop-i.i < most_jobs = omega (arith, going.0, c.requires.0) in
     below
 
@@ -38,8 +35,8 @@ pub claim_at-due-requires : goal.claim_at-due-requires
 claim_at-due-requires c =
     let going : (c.loop-i.i < c.args.jobs) × (c.loop-i.total.0 ≤ c.args.v.0)
     = let a = c.args in
-      let tests = both (ltb c.loop-i.i a.jobs) (leb c.loop-i.total.0 a.v.0) c.loop-i-test.true in
-      (ltb-true _ _ tests.0, leb-true _ _ tests.1) in
+    let tests = both (ltb c.loop-i.i a.jobs) (leb c.loop-i.total.0 a.v.0) c.loop-i-test.true in
+    (ltb-true _ _ tests.0, leb-true _ _ tests.1) in
     let below : c.loop-i.i < most_jobs = omega (arith, going.0, c.requires.0) in
     let class : ℕ → Bool
     = class_in true c.args.clock.0 c.args.grades.now c.args.releases.now c.args.deadlines.now in
@@ -56,8 +53,8 @@ pub offset_bounds-claims-i : goal.offset_bounds-claims-i
 offset_bounds-claims-i c =
     let going : (c.loop-i.i < c.args.jobs) × (c.loop-i.total.0 ≤ c.args.v.0)
     = let a = c.args in
-      let tests = both (ltb c.loop-i.i a.jobs) (leb c.loop-i.total.0 a.v.0) c.loop-i-test.true in
-      (ltb-true _ _ tests.0, leb-true _ _ tests.1) in
+    let tests = both (ltb c.loop-i.i a.jobs) (leb c.loop-i.total.0 a.v.0) c.loop-i-test.true in
+    (ltb-true _ _ tests.0, leb-true _ _ tests.1) in
     let below : c.loop-i.i < most_jobs = omega (arith, going.0, c.requires.0) in
     record { fits = omega (arith, below) }
 
@@ -65,8 +62,8 @@ pub bounds-claims-i : goal.bounds-claims-i
 bounds-claims-i c =
     let going : (c.loop-i.i < c.args.jobs) × (c.loop-i.total.0 ≤ c.args.v.0)
     = let a = c.args in
-      let tests = both (ltb c.loop-i.i a.jobs) (leb c.loop-i.total.0 a.v.0) c.loop-i-test.true in
-      (ltb-true _ _ tests.0, leb-true _ _ tests.1) in
+    let tests = both (ltb c.loop-i.i a.jobs) (leb c.loop-i.total.0 a.v.0) c.loop-i-test.true in
+    (ltb-true _ _ tests.0, leb-true _ _ tests.1) in
     let below : c.loop-i.i < most_jobs = omega (arith, going.0, c.requires.0) in
     below
 
@@ -78,18 +75,20 @@ overflow_cast-grants c =
     let class : ℕ → Bool
     = class_in true c.args.clock.0 c.args.grades.now c.args.releases.now c.args.deadlines.now in
     let granted : (c.if-is_of.due.0 ≡ on (class i) (dues i)) × (c.if-is_of.due.0 ≤ unknown)
-    = elim c.if-is_of.branch [ then-is_of w ↦ let is = ap (λ (u : Units). u.0) w.due-is in
-      (is ∙ w.claim_at-due.ensures.0 ∙ ap (λ b. on b (dues i)) (sym w.if-is_of.true ∙ c.is_of.ensures), omega (arith, is, w.claim_at-due.ensures.1))
+    = elim c.if-is_of.branch [
+      | then-is_of w ↦ let is = ap (λ (u : Units). u.0) w.due-is in
+          (is ∙ w.claim_at-due.ensures.0 ∙ ap (λ b. on b (dues i)) (sym w.if-is_of.true ∙ c.is_of.ensures), omega (arith, is, w.claim_at-due.ensures.1))
       | else-is_of w ↦ let is = ap (λ (u : Units). u.0) w.due-is in
-      (is ∙ ap (λ b. on b (dues i)) (sym w.if-is_of.false ∙ c.is_of.ensures), omega (arith, is)) ] in
+          (is ∙ ap (λ b. on b (dues i)) (sym w.if-is_of.false ∙ c.is_of.ensures), omega (arith, is))
+    ] in
     record { fits = omega (arith, granted.1) }
 
 pub offset_bounds-grants-i : goal.offset_bounds-grants-i
 offset_bounds-grants-i c =
     let going : (c.loop-i.i < c.args.jobs) × (c.loop-i.total.0 ≤ c.args.v.0)
     = let a = c.args in
-      let tests = both (ltb c.loop-i.i a.jobs) (leb c.loop-i.total.0 a.v.0) c.loop-i-test.true in
-      (ltb-true _ _ tests.0, leb-true _ _ tests.1) in
+    let tests = both (ltb c.loop-i.i a.jobs) (leb c.loop-i.total.0 a.v.0) c.loop-i-test.true in
+    (ltb-true _ _ tests.0, leb-true _ _ tests.1) in
     let below : c.loop-i.i < most_jobs = omega (arith, going.0, c.requires.0) in
     record { fits = omega (arith, below) }
 
@@ -97,8 +96,8 @@ pub bounds-grants-i : goal.bounds-grants-i
 bounds-grants-i c =
     let going : (c.loop-i.i < c.args.jobs) × (c.loop-i.total.0 ≤ c.args.v.0)
     = let a = c.args in
-      let tests = both (ltb c.loop-i.i a.jobs) (leb c.loop-i.total.0 a.v.0) c.loop-i-test.true in
-      (ltb-true _ _ tests.0, leb-true _ _ tests.1) in
+    let tests = both (ltb c.loop-i.i a.jobs) (leb c.loop-i.total.0 a.v.0) c.loop-i-test.true in
+    (ltb-true _ _ tests.0, leb-true _ _ tests.1) in
     let class : ℕ → Bool
     = class_in true c.args.clock.0 c.args.grades.now c.args.releases.now c.args.deadlines.now in
     let dues : ℕ → ℕ
@@ -115,8 +114,8 @@ pub overflow_add-total : goal.overflow_add-total
 overflow_add-total c =
     let going : (c.loop-i.i < c.args.jobs) × (c.loop-i.total.0 ≤ c.args.v.0)
     = let a = c.args in
-      let tests = both (ltb c.loop-i.i a.jobs) (leb c.loop-i.total.0 a.v.0) c.loop-i-test.true in
-      (ltb-true _ _ tests.0, leb-true _ _ tests.1) in
+    let tests = both (ltb c.loop-i.i a.jobs) (leb c.loop-i.total.0 a.v.0) c.loop-i-test.true in
+    (ltb-true _ _ tests.0, leb-true _ _ tests.1) in
     let below : c.loop-i.i < most_jobs = omega (arith, going.0, c.requires.0) in
     let dues : ℕ → ℕ
     = due_in c.args.whole c.args.spans c.args.goals.now c.args.carried.now c.args.table.now in
@@ -124,18 +123,20 @@ overflow_add-total c =
     let class : ℕ → Bool
     = class_in true c.args.clock.0 c.args.grades.now c.args.releases.now c.args.deadlines.now in
     let granted : (c.if-is_of.due.0 ≡ on (class i) (dues i)) × (c.if-is_of.due.0 ≤ unknown)
-    = elim c.if-is_of.branch [ then-is_of w ↦ let is = ap (λ (u : Units). u.0) w.due-is in
-      (is ∙ w.claim_at-due.ensures.0 ∙ ap (λ b. on b (dues i)) (sym w.if-is_of.true ∙ c.is_of.ensures), omega (arith, is, w.claim_at-due.ensures.1))
+    = elim c.if-is_of.branch [
+      | then-is_of w ↦ let is = ap (λ (u : Units). u.0) w.due-is in
+          (is ∙ w.claim_at-due.ensures.0 ∙ ap (λ b. on b (dues i)) (sym w.if-is_of.true ∙ c.is_of.ensures), omega (arith, is, w.claim_at-due.ensures.1))
       | else-is_of w ↦ let is = ap (λ (u : Units). u.0) w.due-is in
-      (is ∙ ap (λ b. on b (dues i)) (sym w.if-is_of.false ∙ c.is_of.ensures), omega (arith, is)) ] in
+          (is ∙ ap (λ b. on b (dues i)) (sym w.if-is_of.false ∙ c.is_of.ensures), omega (arith, is))
+    ] in
     omega (arith, granted.1, c.loop-i.invariant.3, below)
 
 pub overflow_add-i : goal.overflow_add-i
 overflow_add-i c =
     let going : (c.loop-i.i < c.args.jobs) × (c.loop-i.total.0 ≤ c.args.v.0)
     = let a = c.args in
-      let tests = both (ltb c.loop-i.i a.jobs) (leb c.loop-i.total.0 a.v.0) c.loop-i-test.true in
-      (ltb-true _ _ tests.0, leb-true _ _ tests.1) in
+    let tests = both (ltb c.loop-i.i a.jobs) (leb c.loop-i.total.0 a.v.0) c.loop-i-test.true in
+    (ltb-true _ _ tests.0, leb-true _ _ tests.1) in
     let below : c.loop-i.i < most_jobs = omega (arith, going.0, c.requires.0) in
     omega (arith, below)
 
@@ -143,30 +144,34 @@ pub loop-i-smaller : goal.loop-i-smaller
 loop-i-smaller c =
     let going : (c.loop-i.i < c.args.jobs) × (c.loop-i.total.0 ≤ c.args.v.0)
     = let a = c.args in
-      let tests = both (ltb c.loop-i.i a.jobs) (leb c.loop-i.total.0 a.v.0) c.loop-i-test.true in
-      (ltb-true _ _ tests.0, leb-true _ _ tests.1) in
+    let tests = both (ltb c.loop-i.i a.jobs) (leb c.loop-i.total.0 a.v.0) c.loop-i-test.true in
+    (ltb-true _ _ tests.0, leb-true _ _ tests.1) in
     omega (arith, going.0)
 
 pub loop-i-preserved : goal.loop-i-preserved
 loop-i-preserved c =
     let going : (c.loop-i.i < c.args.jobs) × (c.loop-i.total.0 ≤ c.args.v.0)
     = let a = c.args in
-      let tests = both (ltb c.loop-i.i a.jobs) (leb c.loop-i.total.0 a.v.0) c.loop-i-test.true in
-      (ltb-true _ _ tests.0, leb-true _ _ tests.1) in
+    let tests = both (ltb c.loop-i.i a.jobs) (leb c.loop-i.total.0 a.v.0) c.loop-i-test.true in
+    (ltb-true _ _ tests.0, leb-true _ _ tests.1) in
     let class : ℕ → Bool
     = class_in true c.args.clock.0 c.args.grades.now c.args.releases.now c.args.deadlines.now in
     let dues : ℕ → ℕ
     = due_in c.args.whole c.args.spans c.args.goals.now c.args.carried.now c.args.table.now in
     let i : ℕ = c.loop-i.i in
     let granted : (c.if-is_of.due.0 ≡ on (class i) (dues i)) × (c.if-is_of.due.0 ≤ unknown)
-    = elim c.if-is_of.branch [ then-is_of w ↦ let is = ap (λ (u : Units). u.0) w.due-is in
-      (is ∙ w.claim_at-due.ensures.0 ∙ ap (λ b. on b (dues i)) (sym w.if-is_of.true ∙ c.is_of.ensures), omega (arith, is, w.claim_at-due.ensures.1))
+    = elim c.if-is_of.branch [
+      | then-is_of w ↦ let is = ap (λ (u : Units). u.0) w.due-is in
+          (is ∙ w.claim_at-due.ensures.0 ∙ ap (λ b. on b (dues i)) (sym w.if-is_of.true ∙ c.is_of.ensures), omega (arith, is, w.claim_at-due.ensures.1))
       | else-is_of w ↦ let is = ap (λ (u : Units). u.0) w.due-is in
-      (is ∙ ap (λ b. on b (dues i)) (sym w.if-is_of.false ∙ c.is_of.ensures), omega (arith, is)) ] in
+          (is ∙ ap (λ b. on b (dues i)) (sym w.if-is_of.false ∙ c.is_of.ensures), omega (arith, is))
+    ] in
     let right : (k : ℕ) → KnownDue c.args.claims.now dues k → KnownDue c.if-is_of.claims dues k
     = λ k was. let now = c.loop-i.invariant.4 k was in
-      elim c.if-is_of.branch [ then-is_of w ↦ same_known dues k w.claims-is (noted dues c.loop-i.claims i _ k w.claim_at-due.ensures.0 now)
-      | else-is_of w ↦ same_known dues k w.claims-is now ] in
+    elim c.if-is_of.branch [
+      | then-is_of w ↦ same_known dues k w.claims-is (noted dues c.loop-i.claims i _ k w.claim_at-due.ensures.0 now)
+      | else-is_of w ↦ same_known dues k w.claims-is now
+    ] in
     let loop = c.loop-i in (
       omega (arith, going.0),
       filled_next _ loop.i _ loop.invariant.1 granted.0,

@@ -1,23 +1,11 @@
 -- `dispatch::essential::grant_hi` meets its contract: after i iterations what is due to the HI jobs among the first i is
 -- written and added up, and every claim that was right still is.
-use mathlib.Core.Path.{◌≡◌, refl, sym, ◌∙◌, ap}
-use mathlib.Core.Bool.{Bool, true, false, ◌&&◌, and-true}
-use mathlib.Core.Logic.{⊎_elim}
-use Prim.Native.Nat.{ℕ, ◌*◌, ◌-◌, ◌≤◌, ◌<◌}
-use native.Mathlib.Omega.{arith}
-use borrow.Author.Rules.{rules}
-use borrow.Author.Tests.{ltb-true, ltb-false, leb-true, le-leb}
-use lib.Dec.{leb, ltb}
-use lib.ListN.{length}
+use mathlib.Core.Path.{◌≡◌}
+use mathlib.Core.Bool.{true}
+use Prim.Native.Nat.{ℕ, ◌*◌, ◌-◌, ◌≤◌}
 use Rattle.base.specs.Fill.{filled}
 use Rattle.base.specs.Sum.{sum, on}
-use Rattle.base.proofs.FillLaws.{filled_start, filled_next, filled_length}
-use Rattle.base.proofs.Logic.{both}
-use Rattle.base.proofs.SumLaws.{sum_start, sum_step}
-use Rattle.plan.specs.Edition.{most_jobs}
-use Rattle.plan.specs.declared.kinds.Units.{Units}
 use Rattle.dispatch.specs.Inner.Turns.{class_in, due_in, unknown, KnownDue}
-use Rattle.dispatch.proofs.TurnLaws.{same_known, noted}
 use Rattle.dispatch.proofs.essential.grant_hi.Given as goal
 
 abbrev pub invariant-loop-i : goal.invariant-loop-i

@@ -1,12 +1,10 @@
 -- `dispatch::essential::serve_hi` meets its contract: what is due to the HI jobs, if it fits, is what they are served; if
 -- it does not, or was not looked at, they are served in turns.
-use mathlib.Core.Path.{◌≡◌, refl, sym, ◌∙◌, ap}
+use mathlib.Core.Path.{◌≡◌, refl, ◌∙◌, ap}
 use mathlib.Core.Bool.{Bool, true}
 use mathlib.Core.List.{List}
-use mathlib.Core.Logic.{⊎_elim}
-use Prim.Native.Nat.{ℕ, ◌-◌, ◌%◌, ◌≤◌, ◌<◌}
+use Prim.Native.Nat.{ℕ, ◌-◌, ◌%◌, ◌<◌}
 use native.Mathlib.Omega.{arith}
-use borrow.Author.Rules.{rules}
 use lib.ListN.{length, get_or}
 use Rattle.base.specs.Fill.{filled}
 use Rattle.base.specs.Sum.{sum, on}
@@ -44,10 +42,12 @@ clear_grants-requires c =
     = due_in c.args.whole c.args.spans c.args.goals.now c.args.carried.now c.args.table.now in
     let blank : List ℕ = filled (λ k. 0) c.args.jobs c.args.grants.now in
     let as_before : (filled (λ k. 0) c.args.jobs c.if-slow-claims.grants ≡ blank) × (length c.if-slow-claims.grants ≡ length c.args.grants.now)
-    = elim c.if-slow-claims.branch [ then-slow-claims+else-total-v w ↦ let cleared =
-      granted_cleared (λ k. on (class k) (dues k)) c.args.v.0 c.args.jobs c.args.grants.now w.grant_hi-total.ensures.0 in
-      (ap (filled (λ k. 0) c.args.jobs) w.grants-is ∙ cleared.0, ap length w.grants-is ∙ cleared.1)
-      | else-slow-claims w ↦ (ap (filled (λ k. 0) c.args.jobs) w.grants-is, ap length w.grants-is) ] in
+    = elim c.if-slow-claims.branch [
+      | then-slow-claims+else-total-v w ↦ let cleared =
+          granted_cleared (λ k. on (class k) (dues k)) c.args.v.0 c.args.jobs c.args.grants.now w.grant_hi-total.ensures.0 in
+          (ap (filled (λ k. 0) c.args.jobs) w.grants-is ∙ cleared.0, ap length w.grants-is ∙ cleared.1)
+      | else-slow-claims w ↦ (ap (filled (λ k. 0) c.args.jobs) w.grants-is, ap length w.grants-is)
+    ] in
     omega (arith, as_before.1, c.requires.2)
 
 pub serve_gathered-requires : goal.serve_gathered-requires
@@ -55,16 +55,20 @@ serve_gathered-requires c =
     let dues : ℕ → ℕ
     = due_in c.args.whole c.args.spans c.args.goals.now c.args.carried.now c.args.table.now in
     let right : (k : ℕ) → KnownDue c.args.claims.now dues k → KnownDue c.if-slow-claims.claims dues k
-    = λ k. elim c.if-slow-claims.branch [ then-slow-claims+else-total-v w ↦ λ known. same_known dues k w.claims-is (w.grant_hi-total.ensures.1 k known)
-      | else-slow-claims w ↦ λ known. same_known dues k w.claims-is known ] in
+    = λ k. elim c.if-slow-claims.branch [
+      | then-slow-claims+else-total-v w ↦ λ known. same_known dues k w.claims-is (w.grant_hi-total.ensures.1 k known)
+      | else-slow-claims w ↦ λ known. same_known dues k w.claims-is known
+    ] in
     let class : ℕ → Bool
     = class_in true c.args.clock.0 c.args.grades.now c.args.releases.now c.args.deadlines.now in
     let blank : List ℕ = filled (λ k. 0) c.args.jobs c.args.grants.now in
     let as_before : (filled (λ k. 0) c.args.jobs c.if-slow-claims.grants ≡ blank) × (length c.if-slow-claims.grants ≡ length c.args.grants.now)
-    = elim c.if-slow-claims.branch [ then-slow-claims+else-total-v w ↦ let cleared =
-      granted_cleared (λ k. on (class k) (dues k)) c.args.v.0 c.args.jobs c.args.grants.now w.grant_hi-total.ensures.0 in
-      (ap (filled (λ k. 0) c.args.jobs) w.grants-is ∙ cleared.0, ap length w.grants-is ∙ cleared.1)
-      | else-slow-claims w ↦ (ap (filled (λ k. 0) c.args.jobs) w.grants-is, ap length w.grants-is) ] in
+    = elim c.if-slow-claims.branch [
+      | then-slow-claims+else-total-v w ↦ let cleared =
+          granted_cleared (λ k. on (class k) (dues k)) c.args.v.0 c.args.jobs c.args.grants.now w.grant_hi-total.ensures.0 in
+          (ap (filled (λ k. 0) c.args.jobs) w.grants-is ∙ cleared.0, ap length w.grants-is ∙ cleared.1)
+      | else-slow-claims w ↦ (ap (filled (λ k. 0) c.args.jobs) w.grants-is, ap length w.grants-is)
+    ] in
     let cleared : c.clear_grants.new.grants ≡ blank = c.clear_grants.ensures ∙ as_before.0 in
     let pre = c.requires in
     let a = c.args in
@@ -86,19 +90,21 @@ shape_of-grants c =
     = due_in c.args.whole c.args.spans c.args.goals.now c.args.carried.now c.args.table.now in
     let blank : List ℕ = filled (λ k. 0) c.args.jobs c.args.grants.now in
     let as_before : (filled (λ k. 0) c.args.jobs c.if-slow-claims.grants ≡ blank) × (length c.if-slow-claims.grants ≡ length c.args.grants.now)
-    = elim c.if-slow-claims.branch [ then-slow-claims+else-total-v w ↦ let cleared =
-      granted_cleared (λ k. on (class k) (dues k)) c.args.v.0 c.args.jobs c.args.grants.now w.grant_hi-total.ensures.0 in
-      (ap (filled (λ k. 0) c.args.jobs) w.grants-is ∙ cleared.0, ap length w.grants-is ∙ cleared.1)
-      | else-slow-claims w ↦ (ap (filled (λ k. 0) c.args.jobs) w.grants-is, ap length w.grants-is) ] in
+    = elim c.if-slow-claims.branch [
+      | then-slow-claims+else-total-v w ↦ let cleared =
+          granted_cleared (λ k. on (class k) (dues k)) c.args.v.0 c.args.jobs c.args.grants.now w.grant_hi-total.ensures.0 in
+          (ap (filled (λ k. 0) c.args.jobs) w.grants-is ∙ cleared.0, ap length w.grants-is ∙ cleared.1)
+      | else-slow-claims w ↦ (ap (filled (λ k. 0) c.args.jobs) w.grants-is, ap length w.grants-is)
+    ] in
     let cleared : c.clear_grants.new.grants ≡ blank = c.clear_grants.ensures ∙ as_before.0 in
     let none : (k : ℕ) → k < c.args.jobs → get_or blank k 0 ≡ 0
     = λ k h. filled_at (λ k. 0) c.args.jobs c.args.grants.now k (omega (arith, c.requires.2)) h in
     let had : (c.serve_gathered.new.grants ≡ serve dues c.args.v.0 (queue class rank c.args.jobs) blank) × (c.serve_gathered.result.0 ≡ c.args.v.0 - sum (λ k. on (class k) (dues k)) c.args.jobs)
     = let a = c.args in
-      let told =
-      c.serve_gathered.ensures.1 class rank a.jobs c.gather-count.ensures.1
-      (λ k h e. ap (λ row. get_or row k 0) cleared ∙ none k h) in
-      (told.0 ∙ ap (serve dues a.v.0 (queue class rank a.jobs)) cleared, told.1) in
+    let told =
+    c.serve_gathered.ensures.1 class rank a.jobs c.gather-count.ensures.1
+    (λ k h e. ap (λ row. get_or row k 0) cleared ∙ none k h) in
+    (told.0 ∙ ap (serve dues a.v.0 (queue class rank a.jobs)) cleared, told.1) in
     ap length had.0 ∙ serve_length _ _ _ _ ∙ filled_length _ _ _
 
 pub returns : goal.returns
@@ -106,24 +112,28 @@ returns c =
     let dues : ℕ → ℕ
     = due_in c.args.whole c.args.spans c.args.goals.now c.args.carried.now c.args.table.now in
     let right : (k : ℕ) → KnownDue c.args.claims.now dues k → KnownDue c.if-slow-claims.claims dues k
-    = λ k. elim c.if-slow-claims.branch [ then-slow-claims+else-total-v w ↦ λ known. same_known dues k w.claims-is (w.grant_hi-total.ensures.1 k known)
-      | else-slow-claims w ↦ λ known. same_known dues k w.claims-is known ] in
+    = λ k. elim c.if-slow-claims.branch [
+      | then-slow-claims+else-total-v w ↦ λ known. same_known dues k w.claims-is (w.grant_hi-total.ensures.1 k known)
+      | else-slow-claims w ↦ λ known. same_known dues k w.claims-is known
+    ] in
     let class : ℕ → Bool
     = class_in true c.args.clock.0 c.args.grades.now c.args.releases.now c.args.deadlines.now in
     let rank : ℕ → ℕ = rank_in c.args.grades.now c.args.deadlines.now in
     let blank : List ℕ = filled (λ k. 0) c.args.jobs c.args.grants.now in
     let as_before : (filled (λ k. 0) c.args.jobs c.if-slow-claims.grants ≡ blank) × (length c.if-slow-claims.grants ≡ length c.args.grants.now)
-    = elim c.if-slow-claims.branch [ then-slow-claims+else-total-v w ↦ let cleared =
-      granted_cleared (λ k. on (class k) (dues k)) c.args.v.0 c.args.jobs c.args.grants.now w.grant_hi-total.ensures.0 in
-      (ap (filled (λ k. 0) c.args.jobs) w.grants-is ∙ cleared.0, ap length w.grants-is ∙ cleared.1)
-      | else-slow-claims w ↦ (ap (filled (λ k. 0) c.args.jobs) w.grants-is, ap length w.grants-is) ] in
+    = elim c.if-slow-claims.branch [
+      | then-slow-claims+else-total-v w ↦ let cleared =
+          granted_cleared (λ k. on (class k) (dues k)) c.args.v.0 c.args.jobs c.args.grants.now w.grant_hi-total.ensures.0 in
+          (ap (filled (λ k. 0) c.args.jobs) w.grants-is ∙ cleared.0, ap length w.grants-is ∙ cleared.1)
+      | else-slow-claims w ↦ (ap (filled (λ k. 0) c.args.jobs) w.grants-is, ap length w.grants-is)
+    ] in
     let cleared : c.clear_grants.new.grants ≡ blank = c.clear_grants.ensures ∙ as_before.0 in
     let none : (k : ℕ) → k < c.args.jobs → get_or blank k 0 ≡ 0
     = λ k h. filled_at (λ k. 0) c.args.jobs c.args.grants.now k (omega (arith, c.requires.2)) h in
     let had : (c.serve_gathered.new.grants ≡ serve dues c.args.v.0 (queue class rank c.args.jobs) blank) × (c.serve_gathered.result.0 ≡ c.args.v.0 - sum (λ k. on (class k) (dues k)) c.args.jobs)
     = let a = c.args in
-      let told =
-      c.serve_gathered.ensures.1 class rank a.jobs c.gather-count.ensures.1
-      (λ k h e. ap (λ row. get_or row k 0) cleared ∙ none k h) in
-      (told.0 ∙ ap (serve dues a.v.0 (queue class rank a.jobs)) cleared, told.1) in
+    let told =
+    c.serve_gathered.ensures.1 class rank a.jobs c.gather-count.ensures.1
+    (λ k h e. ap (λ row. get_or row k 0) cleared ∙ none k h) in
+    (told.0 ∙ ap (serve dues a.v.0 (queue class rank a.jobs)) cleared, told.1) in
     (had.0, had.1, c.serve_gathered.ensures.0 ∙ c.gather-count.ensures.0, right)

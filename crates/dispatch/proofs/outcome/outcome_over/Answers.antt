@@ -4,7 +4,6 @@ use mathlib.Core.Path.{◌≡◌, sym, ◌∙◌, ap}
 use mathlib.Core.Logic.{◌≢◌}
 use Prim.Native.Nat.{◌<◌}
 use native.Mathlib.Omega.{arith}
-use borrow.Author.Rules.{rules}
 use borrow.Author.Tests.{not-true, not-false}
 use lib.ListN.{get_or}
 use Rattle.plan.specs.Edition.{most_jobs}
@@ -21,7 +20,7 @@ pub returns-then-not-is_sound : goal.returns-then-not-is_sound
 returns-then-not-is_sound c =
     let tested : c.is_sound.result ≡ sound_at (plan_on c.args.o c.args.grades.now c.args.releases.now c.args.sizes.now c.args.deadlines.now) c.args.run.clock.0 c.args.run.carried
     = c.is_sound.ensures ∙ ap is_sound c.readiness_of.ensures
-      ∙ readiness_sound (plan_on c.args.o c.args.grades.now c.args.releases.now c.args.sizes.now c.args.deadlines.now) c.args.run.clock.0 c.args.run.carried in
+    ∙ readiness_sound (plan_on c.args.o c.args.grades.now c.args.releases.now c.args.sizes.now c.args.deadlines.now) c.args.run.clock.0 c.args.run.carried in
     let e = c.args in
     columns.unsound_ends e.o e.grades.now e.releases.now e.sizes.now e.deadlines.now e.run e.position (sym tested ∙ not-true _ (ap not c.if-not-is_sound.true))
 
@@ -29,7 +28,7 @@ pub returns-then-o-position : goal.returns-then-o-position
 returns-then-o-position c =
     let tested : c.is_sound.result ≡ sound_at (plan_on c.args.o c.args.grades.now c.args.releases.now c.args.sizes.now c.args.deadlines.now) c.args.run.clock.0 c.args.run.carried
     = c.is_sound.ensures ∙ ap is_sound c.readiness_of.ensures
-      ∙ readiness_sound (plan_on c.args.o c.args.grades.now c.args.releases.now c.args.sizes.now c.args.deadlines.now) c.args.run.clock.0 c.args.run.carried in
+    ∙ readiness_sound (plan_on c.args.o c.args.grades.now c.args.releases.now c.args.sizes.now c.args.deadlines.now) c.args.run.clock.0 c.args.run.carried in
     let e = c.args in
     columns.uncounted_ends e.o e.grades.now e.releases.now e.sizes.now e.deadlines.now e.run e.position (sym tested ∙ not-false _ (ap not c.if-not-is_sound.false)) c.if-o-position.true
 
@@ -37,7 +36,7 @@ pub offset_bounds-carried-position : goal.offset_bounds-carried-position
 offset_bounds-carried-position c =
     let tested : c.is_sound.result ≡ sound_at (plan_on c.args.o c.args.grades.now c.args.releases.now c.args.sizes.now c.args.deadlines.now) c.args.run.clock.0 c.args.run.carried
     = c.is_sound.ensures ∙ ap is_sound c.readiness_of.ensures
-      ∙ readiness_sound (plan_on c.args.o c.args.grades.now c.args.releases.now c.args.sizes.now c.args.deadlines.now) c.args.run.clock.0 c.args.run.carried in
+    ∙ readiness_sound (plan_on c.args.o c.args.grades.now c.args.releases.now c.args.sizes.now c.args.deadlines.now) c.args.run.clock.0 c.args.run.carried in
     let sound : columns.Sound c.args.o c.args.grades.now c.args.releases.now c.args.sizes.now c.args.deadlines.now c.args.run c.args.position
     = sym tested ∙ not-false _ (ap not c.if-not-is_sound.false) in
     let has_entry : c.args.position < most_jobs
@@ -48,7 +47,7 @@ pub bounds-carried-position : goal.bounds-carried-position
 bounds-carried-position c =
     let tested : c.is_sound.result ≡ sound_at (plan_on c.args.o c.args.grades.now c.args.releases.now c.args.sizes.now c.args.deadlines.now) c.args.run.clock.0 c.args.run.carried
     = c.is_sound.ensures ∙ ap is_sound c.readiness_of.ensures
-      ∙ readiness_sound (plan_on c.args.o c.args.grades.now c.args.releases.now c.args.sizes.now c.args.deadlines.now) c.args.run.clock.0 c.args.run.carried in
+    ∙ readiness_sound (plan_on c.args.o c.args.grades.now c.args.releases.now c.args.sizes.now c.args.deadlines.now) c.args.run.clock.0 c.args.run.carried in
     let sound : columns.Sound c.args.o c.args.grades.now c.args.releases.now c.args.sizes.now c.args.deadlines.now c.args.run c.args.position
     = sym tested ∙ not-false _ (ap not c.if-not-is_sound.false) in
     let has_entry : c.args.position < most_jobs
@@ -59,7 +58,7 @@ pub offset_bounds-sizes-position : goal.offset_bounds-sizes-position
 offset_bounds-sizes-position c =
     let tested : c.is_sound.result ≡ sound_at (plan_on c.args.o c.args.grades.now c.args.releases.now c.args.sizes.now c.args.deadlines.now) c.args.run.clock.0 c.args.run.carried
     = c.is_sound.ensures ∙ ap is_sound c.readiness_of.ensures
-      ∙ readiness_sound (plan_on c.args.o c.args.grades.now c.args.releases.now c.args.sizes.now c.args.deadlines.now) c.args.run.clock.0 c.args.run.carried in
+    ∙ readiness_sound (plan_on c.args.o c.args.grades.now c.args.releases.now c.args.sizes.now c.args.deadlines.now) c.args.run.clock.0 c.args.run.carried in
     let sound : columns.Sound c.args.o c.args.grades.now c.args.releases.now c.args.sizes.now c.args.deadlines.now c.args.run c.args.position
     = sym tested ∙ not-false _ (ap not c.if-not-is_sound.false) in
     let has_entry : c.args.position < most_jobs
@@ -70,7 +69,7 @@ pub bounds-sizes-position : goal.bounds-sizes-position
 bounds-sizes-position c =
     let tested : c.is_sound.result ≡ sound_at (plan_on c.args.o c.args.grades.now c.args.releases.now c.args.sizes.now c.args.deadlines.now) c.args.run.clock.0 c.args.run.carried
     = c.is_sound.ensures ∙ ap is_sound c.readiness_of.ensures
-      ∙ readiness_sound (plan_on c.args.o c.args.grades.now c.args.releases.now c.args.sizes.now c.args.deadlines.now) c.args.run.clock.0 c.args.run.carried in
+    ∙ readiness_sound (plan_on c.args.o c.args.grades.now c.args.releases.now c.args.sizes.now c.args.deadlines.now) c.args.run.clock.0 c.args.run.carried in
     let sound : columns.Sound c.args.o c.args.grades.now c.args.releases.now c.args.sizes.now c.args.deadlines.now c.args.run c.args.position
     = sym tested ∙ not-false _ (ap not c.if-not-is_sound.false) in
     let has_entry : c.args.position < most_jobs
@@ -81,7 +80,7 @@ pub returns-then-had-size : goal.returns-then-had-size
 returns-then-had-size c =
     let tested : c.is_sound.result ≡ sound_at (plan_on c.args.o c.args.grades.now c.args.releases.now c.args.sizes.now c.args.deadlines.now) c.args.run.clock.0 c.args.run.carried
     = c.is_sound.ensures ∙ ap is_sound c.readiness_of.ensures
-      ∙ readiness_sound (plan_on c.args.o c.args.grades.now c.args.releases.now c.args.sizes.now c.args.deadlines.now) c.args.run.clock.0 c.args.run.carried in
+    ∙ readiness_sound (plan_on c.args.o c.args.grades.now c.args.releases.now c.args.sizes.now c.args.deadlines.now) c.args.run.clock.0 c.args.run.carried in
     let sound : columns.Sound c.args.o c.args.grades.now c.args.releases.now c.args.sizes.now c.args.deadlines.now c.args.run c.args.position
     = sym tested ∙ not-false _ (ap not c.if-not-is_sound.false) in
     let had : c.as_units-had.result.0 ≡ get_or c.args.run.carried c.args.position 0
@@ -95,7 +94,7 @@ pub bounds-ended-position : goal.bounds-ended-position
 bounds-ended-position c =
     let tested : c.is_sound.result ≡ sound_at (plan_on c.args.o c.args.grades.now c.args.releases.now c.args.sizes.now c.args.deadlines.now) c.args.run.clock.0 c.args.run.carried
     = c.is_sound.ensures ∙ ap is_sound c.readiness_of.ensures
-      ∙ readiness_sound (plan_on c.args.o c.args.grades.now c.args.releases.now c.args.sizes.now c.args.deadlines.now) c.args.run.clock.0 c.args.run.carried in
+    ∙ readiness_sound (plan_on c.args.o c.args.grades.now c.args.releases.now c.args.sizes.now c.args.deadlines.now) c.args.run.clock.0 c.args.run.carried in
     let sound : columns.Sound c.args.o c.args.grades.now c.args.releases.now c.args.sizes.now c.args.deadlines.now c.args.run c.args.position
     = sym tested ∙ not-false _ (ap not c.if-not-is_sound.false) in
     let has_entry : c.args.position < most_jobs
@@ -106,7 +105,7 @@ pub returns-then-ended-position : goal.returns-then-ended-position
 returns-then-ended-position c =
     let tested : c.is_sound.result ≡ sound_at (plan_on c.args.o c.args.grades.now c.args.releases.now c.args.sizes.now c.args.deadlines.now) c.args.run.clock.0 c.args.run.carried
     = c.is_sound.ensures ∙ ap is_sound c.readiness_of.ensures
-      ∙ readiness_sound (plan_on c.args.o c.args.grades.now c.args.releases.now c.args.sizes.now c.args.deadlines.now) c.args.run.clock.0 c.args.run.carried in
+    ∙ readiness_sound (plan_on c.args.o c.args.grades.now c.args.releases.now c.args.sizes.now c.args.deadlines.now) c.args.run.clock.0 c.args.run.carried in
     let sound : columns.Sound c.args.o c.args.grades.now c.args.releases.now c.args.sizes.now c.args.deadlines.now c.args.run c.args.position
     = sym tested ∙ not-false _ (ap not c.if-not-is_sound.false) in
     let had : c.as_units-had.result.0 ≡ get_or c.args.run.carried c.args.position 0
@@ -122,7 +121,7 @@ pub offset_bounds-grades-position : goal.offset_bounds-grades-position
 offset_bounds-grades-position c =
     let tested : c.is_sound.result ≡ sound_at (plan_on c.args.o c.args.grades.now c.args.releases.now c.args.sizes.now c.args.deadlines.now) c.args.run.clock.0 c.args.run.carried
     = c.is_sound.ensures ∙ ap is_sound c.readiness_of.ensures
-      ∙ readiness_sound (plan_on c.args.o c.args.grades.now c.args.releases.now c.args.sizes.now c.args.deadlines.now) c.args.run.clock.0 c.args.run.carried in
+    ∙ readiness_sound (plan_on c.args.o c.args.grades.now c.args.releases.now c.args.sizes.now c.args.deadlines.now) c.args.run.clock.0 c.args.run.carried in
     let sound : columns.Sound c.args.o c.args.grades.now c.args.releases.now c.args.sizes.now c.args.deadlines.now c.args.run c.args.position
     = sym tested ∙ not-false _ (ap not c.if-not-is_sound.false) in
     let has_entry : c.args.position < most_jobs
@@ -133,7 +132,7 @@ pub bounds-grades-position : goal.bounds-grades-position
 bounds-grades-position c =
     let tested : c.is_sound.result ≡ sound_at (plan_on c.args.o c.args.grades.now c.args.releases.now c.args.sizes.now c.args.deadlines.now) c.args.run.clock.0 c.args.run.carried
     = c.is_sound.ensures ∙ ap is_sound c.readiness_of.ensures
-      ∙ readiness_sound (plan_on c.args.o c.args.grades.now c.args.releases.now c.args.sizes.now c.args.deadlines.now) c.args.run.clock.0 c.args.run.carried in
+    ∙ readiness_sound (plan_on c.args.o c.args.grades.now c.args.releases.now c.args.sizes.now c.args.deadlines.now) c.args.run.clock.0 c.args.run.carried in
     let sound : columns.Sound c.args.o c.args.grades.now c.args.releases.now c.args.sizes.now c.args.deadlines.now c.args.run c.args.position
     = sym tested ∙ not-false _ (ap not c.if-not-is_sound.false) in
     let has_entry : c.args.position < most_jobs
@@ -144,7 +143,7 @@ pub returns-then-grades-position : goal.returns-then-grades-position
 returns-then-grades-position c =
     let tested : c.is_sound.result ≡ sound_at (plan_on c.args.o c.args.grades.now c.args.releases.now c.args.sizes.now c.args.deadlines.now) c.args.run.clock.0 c.args.run.carried
     = c.is_sound.ensures ∙ ap is_sound c.readiness_of.ensures
-      ∙ readiness_sound (plan_on c.args.o c.args.grades.now c.args.releases.now c.args.sizes.now c.args.deadlines.now) c.args.run.clock.0 c.args.run.carried in
+    ∙ readiness_sound (plan_on c.args.o c.args.grades.now c.args.releases.now c.args.sizes.now c.args.deadlines.now) c.args.run.clock.0 c.args.run.carried in
     let sound : columns.Sound c.args.o c.args.grades.now c.args.releases.now c.args.sizes.now c.args.deadlines.now c.args.run c.args.position
     = sym tested ∙ not-false _ (ap not c.if-not-is_sound.false) in
     let had : c.as_units-had.result.0 ≡ get_or c.args.run.carried c.args.position 0
@@ -160,7 +159,7 @@ pub offset_bounds-deadlines-position : goal.offset_bounds-deadlines-position
 offset_bounds-deadlines-position c =
     let tested : c.is_sound.result ≡ sound_at (plan_on c.args.o c.args.grades.now c.args.releases.now c.args.sizes.now c.args.deadlines.now) c.args.run.clock.0 c.args.run.carried
     = c.is_sound.ensures ∙ ap is_sound c.readiness_of.ensures
-      ∙ readiness_sound (plan_on c.args.o c.args.grades.now c.args.releases.now c.args.sizes.now c.args.deadlines.now) c.args.run.clock.0 c.args.run.carried in
+    ∙ readiness_sound (plan_on c.args.o c.args.grades.now c.args.releases.now c.args.sizes.now c.args.deadlines.now) c.args.run.clock.0 c.args.run.carried in
     let sound : columns.Sound c.args.o c.args.grades.now c.args.releases.now c.args.sizes.now c.args.deadlines.now c.args.run c.args.position
     = sym tested ∙ not-false _ (ap not c.if-not-is_sound.false) in
     let has_entry : c.args.position < most_jobs
@@ -171,7 +170,7 @@ pub bounds-deadlines-position : goal.bounds-deadlines-position
 bounds-deadlines-position c =
     let tested : c.is_sound.result ≡ sound_at (plan_on c.args.o c.args.grades.now c.args.releases.now c.args.sizes.now c.args.deadlines.now) c.args.run.clock.0 c.args.run.carried
     = c.is_sound.ensures ∙ ap is_sound c.readiness_of.ensures
-      ∙ readiness_sound (plan_on c.args.o c.args.grades.now c.args.releases.now c.args.sizes.now c.args.deadlines.now) c.args.run.clock.0 c.args.run.carried in
+    ∙ readiness_sound (plan_on c.args.o c.args.grades.now c.args.releases.now c.args.sizes.now c.args.deadlines.now) c.args.run.clock.0 c.args.run.carried in
     let sound : columns.Sound c.args.o c.args.grades.now c.args.releases.now c.args.sizes.now c.args.deadlines.now c.args.run c.args.position
     = sym tested ∙ not-false _ (ap not c.if-not-is_sound.false) in
     let has_entry : c.args.position < most_jobs
@@ -182,7 +181,7 @@ pub returns-then-deadline-clock : goal.returns-then-deadline-clock
 returns-then-deadline-clock c =
     let tested : c.is_sound.result ≡ sound_at (plan_on c.args.o c.args.grades.now c.args.releases.now c.args.sizes.now c.args.deadlines.now) c.args.run.clock.0 c.args.run.carried
     = c.is_sound.ensures ∙ ap is_sound c.readiness_of.ensures
-      ∙ readiness_sound (plan_on c.args.o c.args.grades.now c.args.releases.now c.args.sizes.now c.args.deadlines.now) c.args.run.clock.0 c.args.run.carried in
+    ∙ readiness_sound (plan_on c.args.o c.args.grades.now c.args.releases.now c.args.sizes.now c.args.deadlines.now) c.args.run.clock.0 c.args.run.carried in
     let sound : columns.Sound c.args.o c.args.grades.now c.args.releases.now c.args.sizes.now c.args.deadlines.now c.args.run c.args.position
     = sym tested ∙ not-false _ (ap not c.if-not-is_sound.false) in
     let had : c.as_units-had.result.0 ≡ get_or c.args.run.carried c.args.position 0
@@ -198,7 +197,7 @@ pub returns : goal.returns
 returns c =
     let tested : c.is_sound.result ≡ sound_at (plan_on c.args.o c.args.grades.now c.args.releases.now c.args.sizes.now c.args.deadlines.now) c.args.run.clock.0 c.args.run.carried
     = c.is_sound.ensures ∙ ap is_sound c.readiness_of.ensures
-      ∙ readiness_sound (plan_on c.args.o c.args.grades.now c.args.releases.now c.args.sizes.now c.args.deadlines.now) c.args.run.clock.0 c.args.run.carried in
+    ∙ readiness_sound (plan_on c.args.o c.args.grades.now c.args.releases.now c.args.sizes.now c.args.deadlines.now) c.args.run.clock.0 c.args.run.carried in
     let sound : columns.Sound c.args.o c.args.grades.now c.args.releases.now c.args.sizes.now c.args.deadlines.now c.args.run c.args.position
     = sym tested ∙ not-false _ (ap not c.if-not-is_sound.false) in
     let had : c.as_units-had.result.0 ≡ get_or c.args.run.carried c.args.position 0

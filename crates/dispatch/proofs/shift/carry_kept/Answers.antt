@@ -4,7 +4,6 @@ use mathlib.Core.Bool.{Bool, true, false}
 use mathlib.Core.List.{List}
 use Prim.Native.Nat.{ℕ, ◌+◌, ◌<◌}
 use native.Mathlib.Omega.{arith}
-use borrow.Author.Rules.{rules}
 use lib.ListN.{get_or, replicate, length-replicate}
 use Rattle.base.specs.Fill.{filled}
 use Rattle.base.proofs.FillLaws.{filled_at}
@@ -38,8 +37,7 @@ share_slot-slow-requires c =
     let deadlines : List ℕ = c.args.deadlines.now in
     let run : Run = run_at c.args.at c.args.carried.now c.args.ended.now in
     let q : Plan = plan_on o grades releases sizes deadlines in
-    let parts : SlotSound q run = slot_sound_lem q run c.requires.0 in
-    (
+    let parts : SlotSound q run = slot_sound_lem q run c.requires.0 in (
       c.requires.1,
       λ k l. rw (← (deadline_on o grades releases sizes deadlines k l)) (parts.rules.deadlines k l),
       c.requires.3,
@@ -61,14 +59,13 @@ carry_grants-requires c =
     let settled : List ℕ = c.settle.new.settled in
     let settled_is : (k : ℕ) → k < counted q → get_or settled k 0 ≡ settled_of q run k
     = λ k l. ap (λ r. get_or r k 0) c.settle.ensures
-      ∙ filled_at (settled_in run.ended sizes run.carried) most_jobs (replicate most_jobs 0) k (rw (length-replicate {A = ℕ} most_jobs 0) (omega arith)) (omega arith)
-      ∙ ap (λ s. settled_by (ended_of run k) s (carried_of run k)) (sym (size_on o grades releases sizes deadlines k l)) in
+    ∙ filled_at (settled_in run.ended sizes run.carried) most_jobs (replicate most_jobs 0) k (rw (length-replicate {A = ℕ} most_jobs 0) (omega arith)) (omega arith)
+    ∙ ap (λ s. settled_by (ended_of run k) s (carried_of run k)) (sym (size_on o grades releases sizes deadlines k l)) in
     let left : List ℕ = c.share_slot-slow.new.grants in
     let grants-are : left ≡ granted q table run v grants
     = c.share_slot-slow.ensures.1
-      ∙ settled_granted q table run settled v settled_is grants c.requires.1 in
-    let jobs : c.counted_within-jobs.result ≡ counted q = c.counted_within-jobs.ensures in
-    (
+    ∙ settled_granted q table run settled v settled_is grants c.requires.1 in
+    let jobs : c.counted_within-jobs.result ≡ counted q = c.counted_within-jobs.ensures in (
       omega (arith, jobs),
       same_room jobs grants-are (rw (granted_length q table run v grants c.requires.1) c.requires.1),
       λ k l. same_sums (carried_of run k) k grants-are
@@ -91,15 +88,14 @@ returns c =
     let settled : List ℕ = c.settle.new.settled in
     let settled_is : (k : ℕ) → k < counted q → get_or settled k 0 ≡ settled_of q run k
     = λ k l. ap (λ r. get_or r k 0) c.settle.ensures
-      ∙ filled_at (settled_in run.ended sizes run.carried) most_jobs (replicate most_jobs 0) k (rw (length-replicate {A = ℕ} most_jobs 0) (omega arith)) (omega arith)
-      ∙ ap (λ s. settled_by (ended_of run k) s (carried_of run k)) (sym (size_on o grades releases sizes deadlines k l)) in
+    ∙ filled_at (settled_in run.ended sizes run.carried) most_jobs (replicate most_jobs 0) k (rw (length-replicate {A = ℕ} most_jobs 0) (omega arith)) (omega arith)
+    ∙ ap (λ s. settled_by (ended_of run k) s (carried_of run k)) (sym (size_on o grades releases sizes deadlines k l)) in
     let grants-are : left ≡ granted q table run v grants
     = c.share_slot-slow.ensures.1
-      ∙ settled_granted q table run settled v settled_is grants c.requires.1 in
+    ∙ settled_granted q table run settled v settled_is grants c.requires.1 in
     let slow_is : c.share_slot-slow.result ≡ slow_after q table run v
     = c.share_slot-slow.ensures.0 ∙ settled_mark q table run settled v settled_is in
-    let jobs : c.counted_within-jobs.result ≡ counted q = c.counted_within-jobs.ensures in
-    (
+    let jobs : c.counted_within-jobs.result ≡ counted q = c.counted_within-jobs.ensures in (
       slot_run q table run v grants c.requires.1 refl slow_is
           c.below_after-below.ensures grants-are
           (c.carry_grants.ensures ∙ ap (λ m. filled (λ k. carried_of run k + get_or left k 0) m run.carried) jobs),

@@ -1,26 +1,21 @@
 -- `dispatch::shift::carry_speeds` meets its contract: after k calls those that are left give the whole answer.
 use mathlib.Core.Path.{◌≡◌, refl, sym, ◌∙◌, ap}
-use mathlib.Core.Bool.{true}
 use mathlib.Core.List.{List}
 use Prim.Native.Nat.{ℕ, suc, ◌+◌, ◌*◌, ◌-◌, ◌≤◌}
 use native.Mathlib.Nat.{mul-le-mul, suc-mul}
 use native.Mathlib.Omega.{arith}
-use borrow.Author.Rules.{rules}
 use lib.ListN.{length, get_or, take, drop, replicate, length-replicate, length-set, length-take, length-drop}
 use Rattle.base.proofs.FillLaws.{filled_at, filled_length}
 use Rattle.base.specs.Below.{greatest}
 use Rattle.plan.specs.Edition.{most_jobs, most_speeds}
 use Rattle.plan.specs.Rules.{counted}
 use Rattle.plan.specs.declared.kinds.Plan.{Plan}
-use Rattle.dispatch.specs.declared.Run.{Run}
 use Rattle.dispatch.specs.Answers.{run_at}
 use Rattle.dispatch.specs.Step.{SlotEffect, slot_sound}
-use Rattle.dispatch.specs.Shift.{slots_from}
 use Rattle.dispatch.specs.Inner.Columns.{plan_on}
-use Rattle.dispatch.specs.Inner.Turns.{kept_goal, KeepsGoals}
+use Rattle.dispatch.specs.Inner.Turns.{kept_goal}
 use Rattle.dispatch.proofs.SlotsInTurn.{sound_stays, row_long, put_back_long, call_made, no_more_speeds}
 use Rattle.dispatch.proofs.SoundColumns.{last_on}
-use Rattle.dispatch.proofs.shift.carry_speeds.Invariants.{Calls}
 use Rattle.dispatch.proofs.shift.carry_speeds.Goals as goal
 
 pub last_of-last-requires : goal.last_of-last-requires
@@ -81,9 +76,9 @@ slice_bounds-row-count c =
     let jobs_are : jobs ≡ counted q = c.counted_within-jobs.ensures in
     let room : k * jobs + jobs ≤ length c.loop-k.rows
     = let all : suc k * jobs ≤ length c.args.speeds.now * jobs = mul-le-mul {n₁ = suc k} {m₁ = jobs} {n₂ = length c.args.speeds.now} {m₂ = jobs} (omega (arith, c.loop-k-test.true)) (omega arith) in
-      let lent : length c.args.speeds.now * jobs ≤ length c.args.rows.now
-      = omega (arith, c.requires.3, ap (λ n. length c.args.speeds.now * n) jobs_are) in
-      omega (arith, suc-mul k jobs, c.loop-k.invariant.rows_long) in
+    let lent : length c.args.speeds.now * jobs ≤ length c.args.rows.now
+    = omega (arith, c.requires.3, ap (λ n. length c.args.speeds.now * n) jobs_are) in
+    omega (arith, suc-mul k jobs, c.loop-k.invariant.rows_long) in
     omega (arith, room, c.loop-k.invariant.rows_long)
 
 pub slice_bounds-row-start : goal.slice_bounds-row-start
@@ -95,9 +90,9 @@ slice_bounds-row-start c =
     let jobs_are : jobs ≡ counted q = c.counted_within-jobs.ensures in
     let room : k * jobs + jobs ≤ length c.loop-k.rows
     = let all : suc k * jobs ≤ length c.args.speeds.now * jobs = mul-le-mul {n₁ = suc k} {m₁ = jobs} {n₂ = length c.args.speeds.now} {m₂ = jobs} (omega (arith, c.loop-k-test.true)) (omega arith) in
-      let lent : length c.args.speeds.now * jobs ≤ length c.args.rows.now
-      = omega (arith, c.requires.3, ap (λ n. length c.args.speeds.now * n) jobs_are) in
-      omega (arith, suc-mul k jobs, c.loop-k.invariant.rows_long) in
+    let lent : length c.args.speeds.now * jobs ≤ length c.args.rows.now
+    = omega (arith, c.requires.3, ap (λ n. length c.args.speeds.now * n) jobs_are) in
+    omega (arith, suc-mul k jobs, c.loop-k.invariant.rows_long) in
     omega (arith, room, c.loop-k.invariant.rows_long)
 
 pub slice_bounds-row-end : goal.slice_bounds-row-end
@@ -109,9 +104,9 @@ slice_bounds-row-end c =
     let jobs_are : jobs ≡ counted q = c.counted_within-jobs.ensures in
     let room : k * jobs + jobs ≤ length c.loop-k.rows
     = let all : suc k * jobs ≤ length c.args.speeds.now * jobs = mul-le-mul {n₁ = suc k} {m₁ = jobs} {n₂ = length c.args.speeds.now} {m₂ = jobs} (omega (arith, c.loop-k-test.true)) (omega arith) in
-      let lent : length c.args.speeds.now * jobs ≤ length c.args.rows.now
-      = omega (arith, c.requires.3, ap (λ n. length c.args.speeds.now * n) jobs_are) in
-      omega (arith, suc-mul k jobs, c.loop-k.invariant.rows_long) in
+    let lent : length c.args.speeds.now * jobs ≤ length c.args.rows.now
+    = omega (arith, c.requires.3, ap (λ n. length c.args.speeds.now * n) jobs_are) in
+    omega (arith, suc-mul k jobs, c.loop-k.invariant.rows_long) in
     omega (arith, room, c.loop-k.invariant.rows_long)
 
 pub next_slot-slot-requires : goal.next_slot-slot-requires
@@ -123,9 +118,9 @@ next_slot-slot-requires c =
     let k : ℕ = c.loop-k.k in
     let room : k * jobs + jobs ≤ length c.loop-k.rows
     = let all : suc k * jobs ≤ length c.args.speeds.now * jobs = mul-le-mul {n₁ = suc k} {m₁ = jobs} {n₂ = length c.args.speeds.now} {m₂ = jobs} (omega (arith, c.loop-k-test.true)) (omega arith) in
-      let lent : length c.args.speeds.now * jobs ≤ length c.args.rows.now
-      = omega (arith, c.requires.3, ap (λ n. length c.args.speeds.now * n) jobs_are) in
-      omega (arith, suc-mul k jobs, c.loop-k.invariant.rows_long) in
+    let lent : length c.args.speeds.now * jobs ≤ length c.args.rows.now
+    = omega (arith, c.requires.3, ap (λ n. length c.args.speeds.now * n) jobs_are) in
+    omega (arith, suc-mul k jobs, c.loop-k.invariant.rows_long) in
     let a = c.args in
     let inv = c.loop-k.invariant in (
       inv.sound,
@@ -154,9 +149,9 @@ loop-k-preserved c =
     let jobs_are : jobs ≡ counted q = c.counted_within-jobs.ensures in
     let room : k * jobs + jobs ≤ length c.loop-k.rows
     = let all : suc k * jobs ≤ length c.args.speeds.now * jobs = mul-le-mul {n₁ = suc k} {m₁ = jobs} {n₂ = length c.args.speeds.now} {m₂ = jobs} (omega (arith, c.loop-k-test.true)) (omega arith) in
-      let lent : length c.args.speeds.now * jobs ≤ length c.args.rows.now
-      = omega (arith, c.requires.3, ap (λ n. length c.args.speeds.now * n) jobs_are) in
-      omega (arith, suc-mul k jobs, c.loop-k.invariant.rows_long) in
+    let lent : length c.args.speeds.now * jobs ≤ length c.args.rows.now
+    = omega (arith, c.requires.3, ap (λ n. length c.args.speeds.now * n) jobs_are) in
+    omega (arith, suc-mul k jobs, c.loop-k.invariant.rows_long) in
     let loop = c.loop-k in
     let inv = loop.invariant in
     let a = c.args in

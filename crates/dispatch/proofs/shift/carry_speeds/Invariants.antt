@@ -1,25 +1,18 @@
 -- `dispatch::shift::carry_speeds` meets its contract: after k calls those that are left give the whole answer.
-use mathlib.Core.Path.{◌≡◌, refl, sym, ◌∙◌, ap}
+use mathlib.Core.Path.{◌≡◌}
 use mathlib.Core.Bool.{true}
 use mathlib.Core.List.{List}
-use Prim.Native.Nat.{ℕ, suc, ◌+◌, ◌*◌, ◌-◌, ◌≤◌}
-use native.Mathlib.Nat.{mul-le-mul, suc-mul}
-use native.Mathlib.Omega.{arith}
-use borrow.Author.Rules.{rules}
-use lib.ListN.{length, get_or, take, drop, replicate, length-replicate, length-set, length-take, length-drop}
-use Rattle.base.proofs.FillLaws.{filled_at, filled_length}
-use Rattle.base.specs.Below.{greatest}
-use Rattle.plan.specs.Edition.{most_jobs, most_speeds}
+use Prim.Native.Nat.{ℕ, ◌-◌, ◌≤◌}
+use lib.ListN.{length, drop}
+use Rattle.plan.specs.Edition.{most_jobs}
 use Rattle.plan.specs.Rules.{counted}
 use Rattle.plan.specs.declared.kinds.Plan.{Plan}
 use Rattle.dispatch.specs.declared.Run.{Run}
 use Rattle.dispatch.specs.Answers.{run_at}
-use Rattle.dispatch.specs.Step.{SlotEffect, slot_sound}
+use Rattle.dispatch.specs.Step.{slot_sound}
 use Rattle.dispatch.specs.Shift.{slots_from}
 use Rattle.dispatch.specs.Inner.Columns.{plan_on}
-use Rattle.dispatch.specs.Inner.Turns.{kept_goal, KeepsGoals}
-use Rattle.dispatch.proofs.SlotsInTurn.{sound_stays, row_long, put_back_long, call_made, no_more_speeds}
-use Rattle.dispatch.proofs.SoundColumns.{last_on}
+use Rattle.dispatch.specs.Inner.Turns.{KeepsGoals}
 use Rattle.dispatch.proofs.shift.carry_speeds.Given as goal
 
 -- After k calls: those at the speeds that are left give the whole answer, the run is sound, the buffers are as long as

@@ -2,16 +2,14 @@
 use mathlib.Core.Path.{◌≡◌, sym, ◌∙◌, ap}
 use mathlib.Core.Bool.{true}
 use mathlib.Core.List.{[]}
-use Prim.Native.Nat.{ℕ, ◌*◌, ◌-◌, ◌≤◌, ◌<◌}
+use Prim.Native.Nat.{ℕ, ◌-◌, ◌≤◌, ◌<◌}
 use native.Mathlib.Omega.{arith}
-use borrow.Author.Rules.{rules}
 use lib.ListN.{get_or}
-use Rattle.base.specs.Fill.{filled}
-use Rattle.base.specs.Sum.{sum, on}
+use Rattle.base.specs.Sum.{on}
 use Rattle.base.proofs.FillLaws.{filled_start, filled_next}
 use Rattle.base.proofs.SumLaws.{sum_start, sum_step}
 use Rattle.plan.specs.Edition.{most_jobs}
-use Rattle.dispatch.specs.Inner.Turns.{claim_in, unknown}
+use Rattle.dispatch.specs.Inner.Turns.{claim_in}
 use Rattle.dispatch.proofs.shift.claim_kept.Goals as goal
 
 pub loop-i-init : goal.loop-i-init
@@ -30,10 +28,10 @@ overflow_add-total c =
 pub loop-i-preserved : goal.loop-i-preserved
 loop-i-preserved c =
     let claims : ℕ → ℕ = let a = c.args in
-      claim_in a.clock.0 a.slow true 0 a.grades.now a.releases.now a.goals.now a.deadlines.now a.carried.now [] in
+    claim_in a.clock.0 a.slow true 0 a.grades.now a.releases.now a.goals.now a.deadlines.now a.carried.now [] in
     let claimed : c.claim_of-claim.result.0 ≡ claims c.loop-i.i = let a = c.args in
-      c.claim_of-claim.ensures.0
-      ∙ ap (λ b. on b (get_or a.goals.now c.loop-i.i 0 - get_or a.carried.now c.loop-i.i 0)) c.is_served-served.ensures in
+    c.claim_of-claim.ensures.0
+    ∙ ap (λ b. on b (get_or a.goals.now c.loop-i.i 0 - get_or a.carried.now c.loop-i.i 0)) c.is_served-served.ensures in
     let below : (c.loop-i.i < c.args.jobs) × (c.args.jobs ≤ most_jobs) = (c.loop-i-test.true, c.requires) in
     let loop = c.loop-i in (
       omega (arith, below.0, below.1),

@@ -1,16 +1,10 @@
 -- `dispatch::shift::claim_kept` meets its contract: after i iterations the first i claims are written and added up.
-use mathlib.Core.Path.{◌≡◌, sym, ◌∙◌, ap}
+use mathlib.Core.Path.{◌≡◌}
 use mathlib.Core.Bool.{true}
 use mathlib.Core.List.{[]}
-use Prim.Native.Nat.{ℕ, ◌*◌, ◌-◌, ◌≤◌, ◌<◌}
-use native.Mathlib.Omega.{arith}
-use borrow.Author.Rules.{rules}
-use lib.ListN.{get_or}
+use Prim.Native.Nat.{◌*◌, ◌-◌, ◌≤◌}
 use Rattle.base.specs.Fill.{filled}
-use Rattle.base.specs.Sum.{sum, on}
-use Rattle.base.proofs.FillLaws.{filled_start, filled_next}
-use Rattle.base.proofs.SumLaws.{sum_start, sum_step}
-use Rattle.plan.specs.Edition.{most_jobs}
+use Rattle.base.specs.Sum.{sum}
 use Rattle.dispatch.specs.Inner.Turns.{claim_in, unknown}
 use Rattle.dispatch.proofs.shift.claim_kept.Given as goal
 

@@ -1,7 +1,6 @@
 -- `dispatch::shift::claim_of` meets its contract: nothing for a job that is not served, otherwise what is left of its goal.
 use mathlib.Core.Path.{refl, ap}
 use native.Mathlib.Omega.{arith}
-use borrow.Author.Rules.{rules}
 use borrow.Author.Tests.{not-true, not-false}
 use Rattle.plan.specs.declared.kinds.Units.{Units}
 use mathlib.Core.Bool.{not}

@@ -1,10 +1,7 @@
 -- `dispatch::shift::fill_goals` meets its contract: after i iterations the first i goals are written.
-use mathlib.Core.Path.{◌≡◌, sym}
+use mathlib.Core.Path.{◌≡◌}
 use Prim.Native.Nat.{◌-◌, ◌≤◌}
-use native.Mathlib.Omega.{arith}
-use borrow.Author.Rules.{rules}
 use Rattle.base.specs.Fill.{filled}
-use Rattle.base.proofs.FillLaws.{filled_start, filled_next}
 use Rattle.dispatch.specs.Inner.Turns.{kept_goal}
 use Rattle.dispatch.proofs.shift.fill_goals.Given as goal
 

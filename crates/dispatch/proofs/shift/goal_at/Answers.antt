@@ -2,7 +2,6 @@
 -- sums to.
 use mathlib.Core.Path.{refl, ap}
 use native.Mathlib.Omega.{arith}
-use borrow.Author.Rules.{rules}
 use Rattle.plan.specs.declared.kinds.Units.{Units}
 use Rattle.dispatch.proofs.Sharing.{allotted}
 use Rattle.dispatch.proofs.shift.goal_at.Goals as goal

@@ -4,7 +4,6 @@ use mathlib.Core.Path.{◌≡◌, refl, sym, ◌∙◌}
 use mathlib.Core.List.{List}
 use Prim.Native.Nat.{ℕ}
 use native.Mathlib.Omega.{arith}
-use borrow.Author.Rules.{rules}
 use Rattle.plan.specs.declared.kinds.Outline.{Outline}
 use Rattle.plan.specs.declared.kinds.Plan.{Plan}
 use Rattle.dispatch.specs.declared.Run.{Run}
@@ -31,8 +30,7 @@ returns-then-clock-last c =
     let releases : List ℕ = c.args.releases.now in
     let sizes : List ℕ = c.args.sizes.now in
     let deadlines : List ℕ = c.args.deadlines.now in
-    let q : Plan = plan_on o grades releases sizes deadlines in
-    (
+    let q : Plan = plan_on o grades releases sizes deadlines in (
       slot_refused q table run v grants
           (sym (late_fault q table run v grants c.requires.0 c.requires.2 c.requires.3 (c.if-clock-last.true ∙ c.requires.1))) refl,
       c.requires.4,
@@ -50,8 +48,7 @@ returns-then-o-v c =
     let releases : List ℕ = c.args.releases.now in
     let sizes : List ℕ = c.args.sizes.now in
     let deadlines : List ℕ = c.args.deadlines.now in
-    let q : Plan = plan_on o grades releases sizes deadlines in
-    (
+    let q : Plan = plan_on o grades releases sizes deadlines in (
       slot_refused q table run v grants
           (sym (fast_fault q table run v grants c.requires.0 c.requires.2 c.requires.3
           (λ e. c.if-clock-last.false (e ∙ sym c.requires.1)) c.if-o-v.true)) refl,
@@ -74,8 +71,7 @@ carry_kept-at-requires c =
     let deadlines : List ℕ = c.args.deadlines.now in
     let table : List ℕ = c.args.table.now in
     let run : Run = run_at c.args.at c.args.carried.now c.args.ended.now in
-    let q : Plan = plan_on o grades releases sizes deadlines in
-    (
+    let q : Plan = plan_on o grades releases sizes deadlines in (
       c.requires.0,
       c.requires.3,
       c.if-o-v.false,
@@ -98,8 +94,7 @@ returns c =
     let grades : List ℕ = c.args.grades.now in
     let releases : List ℕ = c.args.releases.now in
     let deadlines : List ℕ = c.args.deadlines.now in
-    let q : Plan = plan_on o grades releases sizes deadlines in
-    (
+    let q : Plan = plan_on o grades releases sizes deadlines in (
       slot_done q table run v grants
           (sym (no_fault q table run v grants c.requires.0 c.requires.2 c.requires.3
           (λ e. c.if-clock-last.false (e ∙ sym c.requires.1)) c.if-o-v.false)) refl c.carry_kept-at.ensures.0 c.carry_kept-at.ensures.1,

@@ -1,7 +1,6 @@
 -- `dispatch::shift::renew_goals` meets its contract: goals that are kept for the intervals begun stay, others are written.
 use mathlib.Core.Path.{sym, ◌∙◌, ap}
 use native.Mathlib.Omega.{arith}
-use borrow.Author.Rules.{rules}
 use lib.ListN.{length, get_or}
 use Rattle.base.proofs.FillLaws.{filled_at, filled_length}
 use Rattle.dispatch.specs.Inner.Turns.{kept_goal}

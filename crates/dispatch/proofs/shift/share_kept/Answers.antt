@@ -6,7 +6,6 @@ use mathlib.Core.List.{List, []}
 use Prim.Native.Nat.{ℕ, ◌≤◌, ◌<◌, min}
 use native.Mathlib.Nat.{mul-one}
 use native.Mathlib.Omega.{arith}
-use borrow.Author.Rules.{rules}
 use lib.ListN.{get_or, replicate, length-replicate}
 use Rattle.base.specs.Fill.{filled}
 use Rattle.base.specs.Sum.{sum, on}
@@ -42,7 +41,7 @@ returns-then-total-most c =
     = claim_in run.clock.0 run.slow true 0 grades releases goals deadlines carried [] in
     let claimed : (k : ℕ) → k < n → get_or c.claim_kept-total.new.claims k 0 ≡ claim k
     = λ k l. ap (λ r. get_or r k 0) c.claim_kept-total.ensures.0
-      ∙ filled_at claim c.counted_within-jobs.result (replicate most_jobs 0) k (rw (length-replicate {A = ℕ} most_jobs 0) (omega arith)) (omega (arith, jobs)) in
+    ∙ filled_at claim c.counted_within-jobs.result (replicate most_jobs 0) k (rw (length-replicate {A = ℕ} most_jobs 0) (omega arith)) (omega (arith, jobs)) in
     let total : c.claim_kept-total.result.0 ≡ sum claim n = c.claim_kept-total.ensures.1 ∙ ap (sum claim) jobs in
     λ sizes right. let fits : sum claim n ≤ v = omega (arith, c.if-total-most.true, total, most) in
     let shared = shared_claims o grades releases sizes deadlines table run v refl
@@ -90,8 +89,7 @@ serve_in_turns-requires c =
     = claim_in run.clock.0 run.slow true 0 grades releases goals deadlines carried [] in
     let claimed : (k : ℕ) → k < n → get_or c.claim_kept-total.new.claims k 0 ≡ claim k
     = λ k l. ap (λ r. get_or r k 0) c.claim_kept-total.ensures.0
-      ∙ filled_at claim c.counted_within-jobs.result (replicate most_jobs 0) k (rw (length-replicate {A = ℕ} most_jobs 0) (omega arith)) (omega (arith, jobs)) in
-    (
+    ∙ filled_at claim c.counted_within-jobs.result (replicate most_jobs 0) k (rw (length-replicate {A = ℕ} most_jobs 0) (omega arith)) (omega (arith, jobs)) in (
       omega (arith, jobs),
       rw jobs c.requires.0,
       λ k l. c.requires.1 k (omega (arith, jobs)),

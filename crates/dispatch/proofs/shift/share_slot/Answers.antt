@@ -3,7 +3,6 @@
 use mathlib.Core.Bool.{true, true≢false}
 use mathlib.Core.List.{List}
 use Prim.Native.Nat.{ℕ}
-use borrow.Author.Rules.{rules}
 use Rattle.plan.specs.declared.kinds.Outline.{Outline}
 use Rattle.plan.specs.declared.kinds.Plan.{Plan}
 use Rattle.dispatch.specs.declared.Run.{Run}
@@ -38,8 +37,7 @@ share_kept-requires-2 c =
     let table : List ℕ = c.args.table.now in
     let run : Run = settled_run c.args.clock c.args.slow c.args.carried.now in
     let v : ℕ = c.args.v.0 in
-    let grants : List ℕ = c.args.grants.now in
-    (
+    let grants : List ℕ = c.args.grants.now in (
       shared_long q table run v grants (c.share_kept.ensures sizes c.requires.2) c.if-share_kept.false c.requires.0,
       c.requires.1,
     )

@@ -6,7 +6,6 @@ use mathlib.Core.List.{List}
 use Prim.Native.Nat.{ℕ, ◌*◌, ◌≤◌}
 use native.Mathlib.Nat.{mul-le-mul}
 use native.Mathlib.Omega.{arith}
-use borrow.Author.Rules.{rules}
 use borrow.Author.Tests.{not-true, not-false, ltb-false}
 use lib.Dec.{ltb}
 use lib.ListN.{length}
@@ -135,8 +134,8 @@ carry_speeds-next-requires c =
     = λ found e. ap (λ n. ltb (length table) places || ltb (length rows) (length speeds * n) || ltb (length numbers) (length speeds)) (sym jobs) ∙ e in
     let long : (places ≤ length table) × (row_start q (length speeds) ≤ length rows) × (length speeds ≤ length numbers)
     = let last = neither (ltb (length table) places || ltb (length rows) (row_start q (length speeds))) (ltb (length numbers) (length speeds)) (tested _ c.if-table-rows.false) in
-      let first = neither (ltb (length table) places) (ltb (length rows) (row_start q (length speeds))) last.0 in
-      (ltb-false (length table) places first.0, ltb-false (length rows) (row_start q (length speeds)) first.1, ltb-false (length numbers) (length speeds) last.1) in
+    let first = neither (ltb (length table) places) (ltb (length rows) (row_start q (length speeds))) last.0 in
+    (ltb-false (length table) places first.0, ltb-false (length rows) (row_start q (length speeds)) first.1, ltb-false (length numbers) (length speeds) last.1) in
     (sound, long.0, few, long.1, long.2)
 
 pub returns : goal.returns

@@ -1,10 +1,8 @@
 -- `dispatch::slot::carry_grants` meets its contract: after i iterations the first i grants are carried.
 use mathlib.Core.Path.{◌≡◌, sym, ◌∙◌, ap}
-use Prim.Native.Nat.{◌+◌, ◌-◌, ◌≤◌}
+use Prim.Native.Nat.{◌+◌}
 use native.Mathlib.Omega.{arith}
-use borrow.Author.Rules.{rules}
 use lib.ListN.{get_or}
-use Rattle.base.specs.Fill.{filled}
 use Rattle.base.proofs.FillLaws.{filled_start, filled_next, filled_rest}
 use Rattle.dispatch.proofs.slot.carry_grants.Goals as goal
 

@@ -1,10 +1,7 @@
 -- `dispatch::slot::grant_claims` meets its contract: after i iterations the first i claims are written.
 use mathlib.Core.Path.{◌≡◌, refl, sym, ◌∙◌, ap}
-use Prim.Native.Nat.{◌-◌, ◌≤◌}
 use native.Mathlib.Omega.{arith}
-use borrow.Author.Rules.{rules}
 use lib.ListN.{length, get_or}
-use Rattle.base.specs.Fill.{filled}
 use Rattle.base.proofs.FillLaws.{filled_start, filled_next, filled_length}
 use Rattle.dispatch.proofs.slot.grant_claims.Goals as goal
 

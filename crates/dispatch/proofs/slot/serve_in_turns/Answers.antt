@@ -1,6 +1,6 @@
 -- `dispatch::slot::serve_in_turns` meets its contract: the HI jobs are served, and then the others with what is left.
 use mathlib.Core.Path.{◌≡◌, sym, ◌∙◌, ap}
-use mathlib.Core.Bool.{Bool, true, false}
+use mathlib.Core.Bool.{Bool, false}
 use mathlib.Core.List.{List}
 use Prim.Native.Nat.{ℕ, ◌%◌, ◌<◌}
 use native.Mathlib.Omega.{arith}
@@ -22,8 +22,7 @@ pub serve_hi-rest-requires : goal.serve_hi-rest-requires
 serve_hi-rest-requires c =
     let live : ℕ → Bool
     = in_window_in c.args.clock.0 c.args.releases.now c.args.deadlines.now in
-    let is_hi : ℕ → Bool = λ k. eqb (get_or c.args.grades.now k 0) hi in
-    (
+    let is_hi : ℕ → Bool = λ k. eqb (get_or c.args.grades.now k 0) hi in (
       c.requires.0,
       search rules,
       c.requires.1,

@@ -1,12 +1,8 @@
 -- `dispatch::slot::settle` meets its contract: after i iterations the first i entries are written.
-use mathlib.Core.Path.{◌≡◌, sym, ◌∙◌}
-use Prim.Native.Nat.{◌-◌, ◌≤◌}
+use mathlib.Core.Path.{◌≡◌, sym}
 use native.Mathlib.Omega.{arith}
-use borrow.Author.Rules.{rules}
-use Rattle.base.specs.Fill.{filled}
 use Rattle.base.proofs.FillLaws.{filled_start, filled_next}
 use Rattle.plan.specs.Edition.{most_jobs}
-use Rattle.dispatch.specs.Inner.Turns.{settled_in}
 use Rattle.dispatch.proofs.slot.settle.Goals as goal
 
 pub loop-i-init : goal.loop-i-init

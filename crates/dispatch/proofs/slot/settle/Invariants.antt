@@ -1,10 +1,7 @@
 -- `dispatch::slot::settle` meets its contract: after i iterations the first i entries are written.
-use mathlib.Core.Path.{◌≡◌, sym, ◌∙◌}
+use mathlib.Core.Path.{◌≡◌}
 use Prim.Native.Nat.{◌-◌, ◌≤◌}
-use native.Mathlib.Omega.{arith}
-use borrow.Author.Rules.{rules}
 use Rattle.base.specs.Fill.{filled}
-use Rattle.base.proofs.FillLaws.{filled_start, filled_next}
 use Rattle.plan.specs.Edition.{most_jobs}
 use Rattle.dispatch.specs.Inner.Turns.{settled_in}
 use Rattle.dispatch.proofs.slot.settle.Given as goal

@@ -4,7 +4,6 @@ use mathlib.Core.Path.{refl, sym}
 use mathlib.Core.Bool.{true≢false}
 use mathlib.Core.List.{List}
 use Prim.Native.Nat.{ℕ}
-use borrow.Author.Rules.{rules}
 use Rattle.plan.specs.declared.kinds.Outline.{Outline}
 use Rattle.plan.specs.declared.kinds.Plan.{Plan}
 use Rattle.dispatch.specs.declared.Run.{Run}
@@ -21,8 +20,7 @@ share_under-requires c =
     let releases : List ℕ = c.args.releases.now in
     let sizes : List ℕ = c.args.sizes.now in
     let deadlines : List ℕ = c.args.deadlines.now in
-    let q : Plan = plan_on o grades releases sizes deadlines in
-    (
+    let q : Plan = plan_on o grades releases sizes deadlines in (
       c.requires.0,
       c.requires.1,
       c.requires.2,
@@ -56,8 +54,7 @@ share_under-requires-2 c =
     let table : List ℕ = c.args.table.now in
     let run : Run = settled_run c.args.clock c.args.slow c.args.carried.now in
     let v : ℕ = c.args.v.0 in
-    let grants : List ℕ = c.args.grants.now in
-    (
+    let grants : List ℕ = c.args.grants.now in (
       shared_long q table run v grants c.share_under.ensures c.if-share_under.false c.requires.0,
       c.requires.1,
       c.requires.2,

@@ -3,7 +3,6 @@
 use mathlib.Core.Path.{refl, sym, ◌∙◌}
 use mathlib.Core.Bool.{true≢false}
 use native.Mathlib.Omega.{arith}
-use borrow.Author.Rules.{rules}
 use Rattle.dispatch.proofs.slot.spans_of.Goals as goal
 
 pub returns-then-slow : goal.returns-then-slow
@@ -15,8 +14,7 @@ overflow_cast-result c =
     omega (arith, c.begun_by.ensures.0)
 
 pub returns : goal.returns
-returns c =
-    (
+returns c = (
   λ slow. absurd (true≢false (sym slow ∙ c.if-slow.false)),
   λ p normal counts released due. (c.begun_by.ensures.1 p counts released due).0,
 )

@@ -1,10 +1,7 @@
 -- `dispatch::soundness::first_of` meets its contract:
 -- `so_far` is the least of the first i releases.
 use mathlib.Core.Path.{◌≡◌, sym, ◌∙◌, ap}
-use Prim.Native.Nat.{◌-◌, ◌≤◌}
 use native.Mathlib.Omega.{arith}
-use borrow.Author.Rules.{rules}
-use lib.ListN.{get_or}
 use Rattle.base.specs.Below.{least}
 use Rattle.base.proofs.Below.{least_start, least_one, least_next}
 use Rattle.dispatch.proofs.soundness.first_of.Goals as goal

@@ -1,12 +1,9 @@
 -- `dispatch::soundness::first_of` meets its contract:
 -- `so_far` is the least of the first i releases.
-use mathlib.Core.Path.{◌≡◌, sym, ◌∙◌, ap}
+use mathlib.Core.Path.{◌≡◌}
 use Prim.Native.Nat.{◌-◌, ◌≤◌}
-use native.Mathlib.Omega.{arith}
-use borrow.Author.Rules.{rules}
 use lib.ListN.{get_or}
 use Rattle.base.specs.Below.{least}
-use Rattle.base.proofs.Below.{least_start, least_one, least_next}
 use Rattle.dispatch.proofs.soundness.first_of.Given as goal
 
 abbrev pub invariant-loop-i : goal.invariant-loop-i

@@ -1,11 +1,8 @@
 -- `dispatch::soundness::jobs_sound` meets its contract. Loop invariant:
 -- `sound` is the test over the first i jobs.
-use mathlib.Core.Path.{◌≡◌, refl, sym, ◌∙◌, ap}
+use mathlib.Core.Path.{◌≡◌}
 use Prim.Native.Nat.{◌-◌, ◌≤◌}
-use native.Mathlib.Omega.{arith}
-use borrow.Author.Rules.{rules}
 use Rattle.base.specs.Below.{every}
-use Rattle.base.proofs.Below.{every_start, every_next}
 use Rattle.dispatch.specs.Inner.Readiness.{job_sound}
 use Rattle.dispatch.proofs.soundness.jobs_sound.Given as goal
 

@@ -1,10 +1,7 @@
 -- `dispatch::soundness::last_of` meets its contract:
 -- `so_far` is the greatest of the first i deadlines.
 use mathlib.Core.Path.{◌≡◌, sym, ◌∙◌, ap}
-use Prim.Native.Nat.{◌-◌, ◌≤◌}
 use native.Mathlib.Omega.{arith}
-use borrow.Author.Rules.{rules}
-use lib.ListN.{get_or}
 use Rattle.base.specs.Below.{greatest}
 use Rattle.base.proofs.Below.{greatest_start, greatest_next}
 use Rattle.dispatch.proofs.soundness.last_of.Goals as goal

@@ -3,7 +3,6 @@
 use mathlib.Core.Path.{◌≡◌, sym, ◌∙◌, ap, ap₂}
 use mathlib.Core.Bool.{true, ◌&&◌, ◌||◌}
 use Prim.Native.Nat.{min}
-use borrow.Author.Rules.{rules}
 use borrow.Author.Tests.{not-true, not-false}
 use lib.Dec.{ltb}
 use lib.ListN.{get_or}
@@ -17,7 +16,7 @@ pub returns-then-not-rules : goal.returns-then-not-rules
 returns-then-not-rules c =
     let rules : (c.rates_allowed.result && c.count_allowed.result && c.jobs_sound.result) ≡ rules_on c.args.o c.args.grades.now c.args.releases.now c.args.sizes.now c.args.deadlines.now c.args.clock.0 c.args.carried.now
     = ap₂ ◌&&◌ (ap₂ ◌&&◌ c.rates_allowed.ensures c.count_allowed.ensures)
-      (c.jobs_sound.ensures ∙ ap (every _) c.counted_within-jobs.ensures) in
+    (c.jobs_sound.ensures ∙ ap (every _) c.counted_within-jobs.ensures) in
     sym (told_broken c.args.o c.args.grades.now c.args.releases.now c.args.sizes.now c.args.deadlines.now c.args.clock.0 c.args.carried.now
     (sym rules ∙ not-true _ (ap not c.if-not-rules.true)))
 
@@ -37,7 +36,7 @@ pub returns-then-clock-last : goal.returns-then-clock-last
 returns-then-clock-last c =
     let rules : (c.rates_allowed.result && c.count_allowed.result && c.jobs_sound.result) ≡ rules_on c.args.o c.args.grades.now c.args.releases.now c.args.sizes.now c.args.deadlines.now c.args.clock.0 c.args.carried.now
     = ap₂ ◌&&◌ (ap₂ ◌&&◌ c.rates_allowed.ensures c.count_allowed.ensures)
-      (c.jobs_sound.ensures ∙ ap (every _) c.counted_within-jobs.ensures) in
+    (c.jobs_sound.ensures ∙ ap (every _) c.counted_within-jobs.ensures) in
     let rules-hold : rules_on c.args.o c.args.grades.now c.args.releases.now c.args.sizes.now c.args.deadlines.now c.args.clock.0 c.args.carried.now ≡ true
     = sym rules ∙ not-false _ (ap not c.if-not-rules.false) in
     let jobs : c.counted_within-jobs.result ≡ min c.args.o.count most_jobs = c.counted_within-jobs.ensures in
@@ -54,7 +53,7 @@ pub returns : goal.returns
 returns c =
     let rules : (c.rates_allowed.result && c.count_allowed.result && c.jobs_sound.result) ≡ rules_on c.args.o c.args.grades.now c.args.releases.now c.args.sizes.now c.args.deadlines.now c.args.clock.0 c.args.carried.now
     = ap₂ ◌&&◌ (ap₂ ◌&&◌ c.rates_allowed.ensures c.count_allowed.ensures)
-      (c.jobs_sound.ensures ∙ ap (every _) c.counted_within-jobs.ensures) in
+    (c.jobs_sound.ensures ∙ ap (every _) c.counted_within-jobs.ensures) in
     let rules-hold : rules_on c.args.o c.args.grades.now c.args.releases.now c.args.sizes.now c.args.deadlines.now c.args.clock.0 c.args.carried.now ≡ true
     = sym rules ∙ not-false _ (ap not c.if-not-rules.false) in
     let jobs : c.counted_within-jobs.result ≡ min c.args.o.count most_jobs = c.counted_within-jobs.ensures in

@@ -2,7 +2,6 @@
 use mathlib.Core.Path.{sym, ◌∙◌, ap}
 use mathlib.Core.Bool.{false}
 use borrow.Author.Tests.{not-true}
-use borrow.Author.Rules.{rules}
 use lib.ListN.{replicate}
 use Rattle.plan.specs.Edition.{most_jobs}
 use Rattle.plan.specs.declared.kinds.Slots.{Slots}

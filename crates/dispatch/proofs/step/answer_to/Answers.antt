@@ -1,7 +1,6 @@
 -- `dispatch::step::answer_to` meets its contract: the tests are in the order of the refusals.
 use mathlib.Core.Path.{◌≡◌, refl, sym, ◌∙◌}
 use mathlib.Core.Bool.{true, false}
-use borrow.Author.Rules.{rules}
 use borrow.Author.Tests.{not-true, not-false, lt-ltb, le-ltb}
 use Rattle.dispatch.specs.Inner.Readiness.{is_sound, is_over}
 use mathlib.Core.Path.{ap}

@@ -4,7 +4,6 @@ use mathlib.Core.Path.{◌≡◌, sym, ◌∙◌, ap, ap₂}
 use mathlib.Core.Bool.{true, false, ◌||◌}
 use mathlib.Core.List.{List}
 use Prim.Native.Nat.{ℕ, ◌≤◌}
-use borrow.Author.Rules.{rules}
 use borrow.Author.Tests.{not-true, not-false, ltb-false}
 use lib.Dec.{ltb, eqb}
 use lib.ListN.{length}
@@ -43,7 +42,7 @@ returns-then-not-is_done c =
     let q : Plan = plan_on o grades releases sizes deadlines in
     let by-readiness : answer_view c.answer_to-answer.result ≡ fault_by (readiness q run.clock.0 run.carried) (ltb (length table) places || ltb (length grants) (counted q)) (ltb o.n.0 v)
     = c.answer_to-answer.ensures
-      ∙ ap₂ (λ s n. fault_by s (ltb (length table) places || ltb (length grants) n) (ltb o.n.0 v)) c.readiness_of-readiness.ensures c.counted_within-jobs.ensures in
+    ∙ ap₂ (λ s n. fault_by s (ltb (length table) places || ltb (length grants) n) (ltb o.n.0 v)) c.readiness_of-readiness.ensures c.counted_within-jobs.ensures in
     let told : answer_view c.answer_to-answer.result ≡ slot_fault q table run v grants
     = by-readiness ∙ readiness_fault q table run v grants in
     let carried-over : (p : Plan) → Columns p o grades releases sizes deadlines → stepped p table run v grants ≡ stepped q table run v grants
@@ -67,12 +66,12 @@ carry_slot-next-requires c =
     let q : Plan = plan_on o grades releases sizes deadlines in
     let by-readiness : answer_view c.answer_to-answer.result ≡ fault_by (readiness q run.clock.0 run.carried) (ltb (length table) places || ltb (length grants) (counted q)) (ltb o.n.0 v)
     = c.answer_to-answer.ensures
-      ∙ ap₂ (λ s n. fault_by s (ltb (length table) places || ltb (length grants) n) (ltb o.n.0 v)) c.readiness_of-readiness.ensures c.counted_within-jobs.ensures in
+    ∙ ap₂ (λ s n. fault_by s (ltb (length table) places || ltb (length grants) n) (ltb o.n.0 v)) c.readiness_of-readiness.ensures c.counted_within-jobs.ensures in
     let none : is_none (answer_view c.answer_to-answer.result) ≡ true
     = sym c.is_done.ensures ∙ not-false _ (ap not c.if-not-is_done.false) in
     let going : (sound_at q run.clock.0 run.carried ≡ true) × ((ltb (length table) places || ltb (length grants) (counted q)) ≡ false) × (eqb run.clock.0 (last_deadline q) ≡ false) × (ltb o.n.0 v ≡ false)
     = readiness_clear q run.clock.0 run.carried (ltb (length table) places || ltb (length grants) (counted q)) (ltb o.n.0 v)
-      (ap is_none (sym by-readiness) ∙ none) in
+    (ap is_none (sym by-readiness) ∙ none) in
     let is-sound : slot_sound q run ≡ true = going.0 in
     let room : counted q ≤ length grants
     = ltb-false (length grants) (counted q) (neither (ltb (length table) places) _ going.1).1 in
@@ -93,7 +92,7 @@ returns c =
     let q : Plan = plan_on o grades releases sizes deadlines in
     let by-readiness : answer_view c.answer_to-answer.result ≡ fault_by (readiness q run.clock.0 run.carried) (ltb (length table) places || ltb (length grants) (counted q)) (ltb o.n.0 v)
     = c.answer_to-answer.ensures
-      ∙ ap₂ (λ s n. fault_by s (ltb (length table) places || ltb (length grants) n) (ltb o.n.0 v)) c.readiness_of-readiness.ensures c.counted_within-jobs.ensures in
+    ∙ ap₂ (λ s n. fault_by s (ltb (length table) places || ltb (length grants) n) (ltb o.n.0 v)) c.readiness_of-readiness.ensures c.counted_within-jobs.ensures in
     let told : answer_view c.answer_to-answer.result ≡ slot_fault q table run v grants
     = by-readiness ∙ readiness_fault q table run v grants in
     let carried-over : (p : Plan) → Columns p o grades releases sizes deadlines → stepped p table run v grants ≡ stepped q table run v grants

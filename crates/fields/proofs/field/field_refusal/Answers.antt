@@ -1,6 +1,5 @@
 -- `fields::field::field_refusal` meets its contract.
 use mathlib.Core.Path.{refl}
-use borrow.Author.Rules.{rules}
 use Rattle.fields.proofs.field.field_refusal.Goals as goal
 
 pub returns-in-Value : goal.returns-in-Value

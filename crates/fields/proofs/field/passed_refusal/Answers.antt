@@ -1,6 +1,5 @@
 -- `fields::field::passed_refusal` meets its contract.
 use mathlib.Core.Path.{refl}
-use borrow.Author.Rules.{rules}
 use Rattle.fields.proofs.field.passed_refusal.Goals as goal
 
 pub returns-in-Next : goal.returns-in-Next

@@ -1,14 +1,11 @@
 -- `fields::field::read_field` meets its contract:
 -- at index k, `value` is the value of the field's bytes from k on.
 use mathlib.Core.Path.{◌≡◌, refl, sym}
-use mathlib.Core.List.{List}
-use Prim.Native.Nat.{ℕ, suc, ◌+◌, ◌*◌, ◌-◌, ◌≤◌, ◌<◌, ◌^◌}
+use Prim.Native.Nat.{suc, ◌+◌, ◌*◌, ◌-◌, ◌≤◌, ◌<◌, ◌^◌}
 use native.Mathlib.Omega.{arith}
 use native.Mathlib.Nat.{one-le-pow, pow-suc, pow-le-pow_right, sub-zero, add-zero}
-use borrow.Author.Rules.{rules}
 use lib.Dec.{lit<}
-use lib.ListN.{get_or, take, drop}
-use Rattle.fields.specs.Bytes as rule
+use lib.ListN.{get_or, drop}
 use Rattle.fields.proofs.ByteLaws.{value_start, value_turn, within, room}
 use Rattle.fields.proofs.ParserLaws.{field_whole, field_cut}
 use Rattle.fields.proofs.field.read_field.Invariants.{Has}
@@ -19,11 +16,10 @@ returns-then-file-at c =
     (field_cut c.args.w c.args.file.now c.args.at (omega arith), one-le-pow c.args.w 256 (lit< tt))
 
 pub returns-then-file-at-2 : goal.returns-then-file-at-2
-returns-then-file-at-2 c =
-    (
-      field_cut c.args.w c.args.file.now c.args.at (omega arith),
-      one-le-pow c.args.w 256 (lit< tt),
-    )
+returns-then-file-at-2 c = (
+  field_cut c.args.w c.args.file.now c.args.at (omega arith),
+  one-le-pow c.args.w 256 (lit< tt),
+)
 
 pub loop-k-init : goal.loop-k-init
 loop-k-init c =
@@ -75,10 +71,10 @@ loop-k-preserved-then-k-gt0 c =
     = (c.shared_slice_known-1.given (c.args.at + (c.loop-k.k - 1))).fits in
     let turn : Has c.args.file.now c.args.at c.args.w (c.loop-k.k - 1) (c.loop-k.value + get_or c.args.file.now (c.args.at + (c.loop-k.k - 1)) 0 * c.loop-k.scale)
     = let a = c.args in
-      let l = c.loop-k in
-      let from : a.at + l.k ≡ suc (a.at + (l.k - 1)) = omega arith in
-      rw (one_more, scaled)
-      (value_turn a.file.now (a.at + (l.k - 1)) (a.w - l.k) (omega arith) (rw from at l.invariant.1.0), within (a.w - l.k) l.invariant.1.1 byte) in
+    let l = c.loop-k in
+    let from : a.at + l.k ≡ suc (a.at + (l.k - 1)) = omega arith in
+    rw (one_more, scaled)
+    (value_turn a.file.now (a.at + (l.k - 1)) (a.w - l.k) (omega arith) (rw from at l.invariant.1.0), within (a.w - l.k) l.invariant.1.1 byte) in
     (omega arith, turn, λ _. rw (scaled, one_more) (sym (pow-suc 256 _)))
 
 pub loop-k-preserved : goal.loop-k-preserved
@@ -89,10 +85,10 @@ loop-k-preserved c =
     let one_more : c.args.w - (c.loop-k.k - 1) ≡ suc (c.args.w - c.loop-k.k) = omega arith in
     let turn : Has c.args.file.now c.args.at c.args.w (c.loop-k.k - 1) (c.loop-k.value + get_or c.args.file.now (c.args.at + (c.loop-k.k - 1)) 0 * c.loop-k.scale)
     = let a = c.args in
-      let l = c.loop-k in
-      let from : a.at + l.k ≡ suc (a.at + (l.k - 1)) = omega arith in
-      rw (one_more, scaled)
-      (value_turn a.file.now (a.at + (l.k - 1)) (a.w - l.k) (omega arith) (rw from at l.invariant.1.0), within (a.w - l.k) l.invariant.1.1 byte) in
+    let l = c.loop-k in
+    let from : a.at + l.k ≡ suc (a.at + (l.k - 1)) = omega arith in
+    rw (one_more, scaled)
+    (value_turn a.file.now (a.at + (l.k - 1)) (a.w - l.k) (omega arith) (rw from at l.invariant.1.0), within (a.w - l.k) l.invariant.1.1 byte) in
     (omega arith, turn, λ more. absurd (omega arith))
 
 pub returns : goal.returns

@@ -1,16 +1,10 @@
 -- `fields::field::read_field` meets its contract:
 -- at index k, `value` is the value of the field's bytes from k on.
-use mathlib.Core.Path.{◌≡◌, refl, sym}
+use mathlib.Core.Path.{◌≡◌}
 use mathlib.Core.List.{List}
-use Prim.Native.Nat.{ℕ, suc, ◌+◌, ◌*◌, ◌-◌, ◌≤◌, ◌<◌, ◌^◌}
-use native.Mathlib.Omega.{arith}
-use native.Mathlib.Nat.{one-le-pow, pow-suc, pow-le-pow_right, sub-zero, add-zero}
-use borrow.Author.Rules.{rules}
-use lib.Dec.{lit<}
-use lib.ListN.{get_or, take, drop}
+use Prim.Native.Nat.{ℕ, ◌+◌, ◌-◌, ◌≤◌, ◌<◌, ◌^◌}
+use lib.ListN.{take, drop}
 use Rattle.fields.specs.Bytes as rule
-use Rattle.fields.proofs.ByteLaws.{value_start, value_turn, within, room}
-use Rattle.fields.proofs.ParserLaws.{field_whole, field_cut}
 use Rattle.fields.proofs.field.read_field.Given as goal
 
 -- `value` is the value of the last w − k bytes of the field, and is below 256^(w − k).

@@ -1,6 +1,5 @@
 -- `fields::opening::read_opening` meets its contract.
 use mathlib.Core.Path.{refl}
-use borrow.Author.Rules.{rules}
 use lib.Dec.{lit<}
 use Rattle.fields.specs.Answers.{field_view, passed_view, passed_refusal, is_compared}
 use Rattle.fields.proofs.ParserLaws.{so, small, refused}

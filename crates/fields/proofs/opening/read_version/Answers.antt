@@ -1,5 +1,4 @@
 -- `fields::opening::read_version` meets its contract.
-use borrow.Author.Rules.{rules}
 use lib.Dec.{lit<}
 use Rattle.fields.specs.Answers.{field_view}
 use Rattle.fields.proofs.ParserLaws.{so, small, failed, held}

@@ -1,6 +1,5 @@
 -- `fields::record::read_length` meets its contract.
 use mathlib.Core.Path.{refl}
-use borrow.Author.Rules.{rules}
 use borrow.Author.Tests.{eq-eqb, ne_eqb}
 use Rattle.fields.specs.Answers.{field_view, field_refusal}
 use Rattle.fields.proofs.ParserLaws.{so, refused}

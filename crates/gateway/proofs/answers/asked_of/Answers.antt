@@ -2,7 +2,6 @@
 use mathlib.Core.Path.{sym, ap}
 use Rattle.desk.specs.Answers.{shortage_view}
 use Rattle.gateway.specs.Calls.{third_of}
-use borrow.Author.Rules.{rules}
 use Rattle.gateway.proofs.answers.asked_of.Goals as goal
 
 pub returns-in-Pair : goal.returns-in-Pair

@@ -6,7 +6,6 @@ use lib.ListN.{length, length-set}
 use Rattle.hostmemory.specs.Memory.{plan_words, pair_words}
 use Rattle.gateway.specs.Calls.{shortage_call}
 use Rattle.gateway.proofs.Laws.{both_long}
-use borrow.Author.Rules.{rules}
 use Rattle.gateway.proofs.drawing.gateway_shortage.Goals as goal
 
 pub returns-then-plan-pair : goal.returns-then-plan-pair

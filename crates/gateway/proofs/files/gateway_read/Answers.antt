@@ -1,7 +1,6 @@
 -- `gateway::files::gateway_read` meets its contract: 22, otherwise the effect of the reader.
 use mathlib.Core.Path.{refl}
 use borrow.Author.Tests.{lt-ltb, le-ltb}
-use borrow.Author.Rules.{rules}
 use Rattle.gateway.specs.Calls.{read_call}
 use Rattle.gateway.proofs.files.gateway_read.Goals as goal
 

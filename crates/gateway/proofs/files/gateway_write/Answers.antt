@@ -2,7 +2,6 @@
 use mathlib.Core.Path.{refl}
 use borrow.Author.Tests.{lt-ltb, le-ltb}
 use Rattle.gateway.specs.Calls.{write_call}
-use borrow.Author.Rules.{rules}
 use Rattle.gateway.proofs.files.gateway_write.Goals as goal
 
 pub returns-then-plan-lt-PLAN : goal.returns-then-plan-lt-PLAN

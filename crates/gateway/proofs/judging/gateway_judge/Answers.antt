@@ -6,7 +6,6 @@ use lib.ListN.{length, length-set}
 use Rattle.hostmemory.specs.Memory.{plan_words, location_words}
 use Rattle.gateway.specs.Calls.{judge_call}
 use Rattle.gateway.proofs.Laws.{both_long}
-use borrow.Author.Rules.{rules}
 use Rattle.gateway.proofs.judging.gateway_judge.Goals as goal
 
 pub returns-then-plan-location : goal.returns-then-plan-location

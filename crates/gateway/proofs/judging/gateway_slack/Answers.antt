@@ -8,7 +8,7 @@ use mir.Facts.{to_z-of_z}
 use Rattle.hostmemory.specs.Memory.{plan_words, location_words}
 use Rattle.gateway.specs.Calls.{slack_call}
 use Rattle.gateway.proofs.Laws.{both_long}
-use borrow.Author.Rules.{rules, sfits_of}
+use borrow.Author.Rules.{sfits_of}
 use Rattle.gateway.proofs.judging.gateway_slack.Goals as goal
 
 pub returns-then-plan-location : goal.returns-then-plan-location

@@ -2,7 +2,6 @@
 use mathlib.Core.Path.{refl}
 use borrow.Author.Tests.{lt-ltb, le-ltb}
 use Rattle.gateway.specs.Calls.{export_call}
-use borrow.Author.Rules.{rules}
 use Rattle.gateway.proofs.lists.gateway_export.Goals as goal
 
 pub returns-then-list-lt-LIST : goal.returns-then-list-lt-LIST

@@ -1,7 +1,6 @@
 -- `gateway::lists::gateway_import` meets its contract: 22, otherwise the effect of the import.
 use mathlib.Core.Path.{refl}
 use borrow.Author.Tests.{lt-ltb, le-ltb}
-use borrow.Author.Rules.{rules}
 use Rattle.gateway.specs.Calls.{import_call}
 use Rattle.gateway.proofs.lists.gateway_import.Goals as goal
 

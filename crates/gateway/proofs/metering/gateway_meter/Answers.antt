@@ -1,6 +1,5 @@
 -- `gateway::metering::gateway_meter` meets its contract.
 use mathlib.Core.Path.{refl}
-use borrow.Author.Rules.{rules}
 use Rattle.gateway.specs.Calls.{speed_call}
 use Rattle.gateway.proofs.metering.gateway_meter.Goals as goal
 

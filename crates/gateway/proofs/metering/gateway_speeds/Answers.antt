@@ -1,6 +1,5 @@
 -- `gateway::metering::gateway_speeds` meets its contract.
 use mathlib.Core.Path.{refl}
-use borrow.Author.Rules.{rules}
 use Rattle.gateway.specs.Calls.{log_call}
 use Rattle.gateway.proofs.metering.gateway_speeds.Goals as goal
 

@@ -7,7 +7,6 @@ use lib.ListN.{length, length-set}
 use Rattle.hostmemory.specs.Memory.{plan_words, run_words, location_words}
 use Rattle.gateway.specs.Calls.{start_call}
 use Rattle.gateway.proofs.Laws.{all_long}
-use borrow.Author.Rules.{rules}
 use Rattle.gateway.proofs.slots.gateway_start.Goals as goal
 
 pub returns-then-plan-run : goal.returns-then-plan-run

@@ -3,7 +3,6 @@ use mathlib.Core.Path.{◌≡◌, refl, sym, ◌∙◌, ap}
 use mathlib.Core.Bool.{Bool, true}
 use mathlib.Core.List.{List}
 use Prim.Native.Nat.{ℕ}
-use borrow.Author.Rules.{rules}
 use borrow.Author.Tests.{not-true, not-false}
 use lib.ListN.{length, replicate, length-replicate}
 use Rattle.plan.specs.declared.kinds.Plan.{Plan}
@@ -51,24 +50,24 @@ pub returns-then-number : goal.returns-then-number
 returns-then-number c =
     let marks : marks_hold c.args.run.now ≡ true
     = sym c.marks_hold.ensures ∙ not-false _ (ap not c.if-not-marks_hold.false) in
-    let slot-effect : record { answer = answer_view c.slot_over-s.result.answer; run = run_at c.slot_over-s.result.next c.slot_over-s.new.carried (run_of c.args.run.now).ended; grants = c.slot_over-s.new.grants; } ≡ stepped (plan_of c.args.plan.now) c.args.table.now (run_of c.args.run.now) c.args.v c.args.grants.now
+    let slot-effect : record { answer = answer_view c.slot_over-s.result.answer; run = run_at c.slot_over-s.result.next c.slot_over-s.new.carried (run_of c.args.run.now).ended; grants = c.slot_over-s.new.grants } ≡ stepped (plan_of c.args.plan.now) c.args.table.now (run_of c.args.run.now) c.args.v c.args.grants.now
     = let a = c.args in
-      let p = plan_of a.plan.now in
-      let none : List ℕ = replicate most_jobs 0 in
-      let long : length none ≡ most_jobs = length-replicate {A = ℕ} most_jobs 0 in
-      ap (λ ended. record {
+    let p = plan_of a.plan.now in
+    let none : List ℕ = replicate most_jobs 0 in
+    let long : length none ≡ most_jobs = length-replicate {A = ℕ} most_jobs 0 in
+    ap (λ ended. record {
       answer = answer_view c.slot_over-s.result.answer;
       run = run_at c.slot_over-s.result.next c.slot_over-s.new.carried ended;
       grants = c.slot_over-s.new.grants;
-      }) (sym c.ended_in-ended.ensures)
-      ∙ c.slot_over-s.ensures p
-      (outlined p c.outline_in-o.ensures
-      (columns_read a.plan.now none none none none _ _ _ _ _ c.columns_in.ensures (not-false _ (ap not c.if-not-columns_in.false)) long long long long))
-      ∙ run-parts (plan_of a.plan.now) a.table.now a.v a.grants.now c.moment_in-at.ensures c.carried_in-carried.ensures c.ended_in-ended.ensures in
+    }) (sym c.ended_in-ended.ensures)
+    ∙ c.slot_over-s.ensures p
+    (outlined p c.outline_in-o.ensures
+    (columns_read a.plan.now none none none none _ _ _ _ _ c.columns_in.ensures (not-false _ (ap not c.if-not-columns_in.false)) long long long long))
+    ∙ run-parts (plan_of a.plan.now) a.table.now a.v a.grants.now c.moment_in-at.ensures c.carried_in-carried.ensures c.ended_in-ended.ensures in
     let slot-words : (left : List ℕ) → left ≡ run_put c.args.run.now (run_at c.slot_over-s.result.next c.slot_over-s.new.carried (run_of c.args.run.now).ended) → record { number = c.answer_number-number.result; run = left; grants = c.slot_over-s.new.grants } ≡ step_call c.args.plan.now c.args.table.now c.args.run.now c.args.v c.args.grants.now
     = λ left. let a = c.args in
-      step_words a.plan.now a.table.now a.run.now a.v a.grants.now c.if-plan-run.false
-      marks slot-effect c.answer_number-number.ensures in
+    step_words a.plan.now a.table.now a.run.now a.v a.grants.now c.if-plan-run.false
+    marks slot-effect c.answer_number-number.ensures in
     let a = c.args in
     refused_words a.plan.now a.table.now a.run.now a.v a.grants.now (slot-words _ refl) c.if-number.true
 
@@ -76,24 +75,24 @@ pub returns : goal.returns
 returns c =
     let marks : marks_hold c.args.run.now ≡ true
     = sym c.marks_hold.ensures ∙ not-false _ (ap not c.if-not-marks_hold.false) in
-    let slot-effect : record { answer = answer_view c.slot_over-s.result.answer; run = run_at c.slot_over-s.result.next c.slot_over-s.new.carried (run_of c.args.run.now).ended; grants = c.slot_over-s.new.grants; } ≡ stepped (plan_of c.args.plan.now) c.args.table.now (run_of c.args.run.now) c.args.v c.args.grants.now
+    let slot-effect : record { answer = answer_view c.slot_over-s.result.answer; run = run_at c.slot_over-s.result.next c.slot_over-s.new.carried (run_of c.args.run.now).ended; grants = c.slot_over-s.new.grants } ≡ stepped (plan_of c.args.plan.now) c.args.table.now (run_of c.args.run.now) c.args.v c.args.grants.now
     = let a = c.args in
-      let p = plan_of a.plan.now in
-      let none : List ℕ = replicate most_jobs 0 in
-      let long : length none ≡ most_jobs = length-replicate {A = ℕ} most_jobs 0 in
-      ap (λ ended. record {
+    let p = plan_of a.plan.now in
+    let none : List ℕ = replicate most_jobs 0 in
+    let long : length none ≡ most_jobs = length-replicate {A = ℕ} most_jobs 0 in
+    ap (λ ended. record {
       answer = answer_view c.slot_over-s.result.answer;
       run = run_at c.slot_over-s.result.next c.slot_over-s.new.carried ended;
       grants = c.slot_over-s.new.grants;
-      }) (sym c.ended_in-ended.ensures)
-      ∙ c.slot_over-s.ensures p
-      (outlined p c.outline_in-o.ensures
-      (columns_read a.plan.now none none none none _ _ _ _ _ c.columns_in.ensures (not-false _ (ap not c.if-not-columns_in.false)) long long long long))
-      ∙ run-parts (plan_of a.plan.now) a.table.now a.v a.grants.now c.moment_in-at.ensures c.carried_in-carried.ensures c.ended_in-ended.ensures in
+    }) (sym c.ended_in-ended.ensures)
+    ∙ c.slot_over-s.ensures p
+    (outlined p c.outline_in-o.ensures
+    (columns_read a.plan.now none none none none _ _ _ _ _ c.columns_in.ensures (not-false _ (ap not c.if-not-columns_in.false)) long long long long))
+    ∙ run-parts (plan_of a.plan.now) a.table.now a.v a.grants.now c.moment_in-at.ensures c.carried_in-carried.ensures c.ended_in-ended.ensures in
     let slot-words : (left : List ℕ) → left ≡ run_put c.args.run.now (run_at c.slot_over-s.result.next c.slot_over-s.new.carried (run_of c.args.run.now).ended) → record { number = c.answer_number-number.result; run = left; grants = c.slot_over-s.new.grants } ≡ step_call c.args.plan.now c.args.table.now c.args.run.now c.args.v c.args.grants.now
     = λ left. let a = c.args in
-      step_words a.plan.now a.table.now a.run.now a.v a.grants.now c.if-plan-run.false
-      marks slot-effect c.answer_number-number.ensures in
+    step_words a.plan.now a.table.now a.run.now a.v a.grants.now c.if-plan-run.false
+    marks slot-effect c.answer_number-number.ensures in
     let a = c.args in
     slot-words _
     (put_back a.run.now c.slot_over-s.result.next c.slot_over-s.new.carried marks

@@ -7,7 +7,6 @@ use Rattle.dispatch.specs.Step.{started, no_run}
 use Rattle.dispatch.proofs.StartEffect as fresh
 use Rattle.hostmemory.specs.Memory.{run_put}
 use Rattle.gateway.proofs.Laws.{starts, stays}
-use borrow.Author.Rules.{rules}
 use Rattle.gateway.proofs.slots.start_in.Goals as goal
 
 pub returns-then-is_accepted : goal.returns-then-is_accepted

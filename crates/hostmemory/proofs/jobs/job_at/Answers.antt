@@ -1,6 +1,5 @@
 -- `hostmemory::jobs::job_at` meets its contract.
 use mathlib.Core.Path.{refl}
-use borrow.Author.Rules.{rules}
 use Rattle.hostmemory.proofs.jobs.job_at.Goals as goal
 
 pub returns : goal.returns

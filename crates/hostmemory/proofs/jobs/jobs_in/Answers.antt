@@ -1,13 +1,11 @@
 -- `hostmemory::jobs::jobs_in` meets its contract. Loop invariant: the first i jobs are decoded.
 use mathlib.Core.Path.{◌≡◌, refl, sym, ◌∙◌, ap}
-use Prim.Native.Nat.{◌-◌, ◌≤◌}
 use native.Mathlib.Numerals.{add-one}
 use native.Mathlib.Omega.{arith}
-use lib.ListN.{length, take, length-set}
+use lib.ListN.{take, length-set}
 use lib.Seq.{take-suc-set, take_all}
 use Rattle.plan.specs.Edition.{most_jobs}
 use Rattle.hostmemory.specs.Memory.{jobs_to}
-use borrow.Author.Rules.{rules}
 use Rattle.hostmemory.proofs.jobs.jobs_in.Goals as goal
 
 pub loop-i-init : goal.loop-i-init

@@ -1,13 +1,9 @@
 -- `hostmemory::jobs::jobs_in` meets its contract. Loop invariant: the first i jobs are decoded.
-use mathlib.Core.Path.{◌≡◌, refl, sym, ◌∙◌, ap}
+use mathlib.Core.Path.{◌≡◌}
 use Prim.Native.Nat.{◌-◌, ◌≤◌}
-use native.Mathlib.Numerals.{add-one}
-use native.Mathlib.Omega.{arith}
-use lib.ListN.{length, take, length-set}
-use lib.Seq.{take-suc-set, take_all}
+use lib.ListN.{length, take}
 use Rattle.plan.specs.Edition.{most_jobs}
 use Rattle.hostmemory.specs.Memory.{jobs_to}
-use borrow.Author.Rules.{rules}
 use Rattle.hostmemory.proofs.jobs.jobs_in.Given as goal
 
 abbrev pub invariant-loop-i : goal.invariant-loop-i

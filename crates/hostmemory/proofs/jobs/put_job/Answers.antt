@@ -4,7 +4,6 @@ use Prim.Native.Nat.{suc, ◌+◌}
 use native.Mathlib.Omega.{arith}
 use native.Mathlib.Numerals.{add-one}
 use lib.ListN.{length-set}
-use borrow.Author.Rules.{rules}
 use Rattle.hostmemory.proofs.jobs.put_job.Goals as goal
 
 pub bounds-words-at-2 : goal.bounds-words-at-2

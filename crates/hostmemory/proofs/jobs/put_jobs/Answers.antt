@@ -1,12 +1,10 @@
 -- `hostmemory::jobs::put_jobs` meets its contract. Loop invariant:
 -- the words of the first i jobs are written.
 use mathlib.Core.Path.{◌≡◌, refl, ◌∙◌, ap}
-use Prim.Native.Nat.{◌-◌, ◌≤◌}
 use native.Mathlib.Numerals.{add-one}
 use native.Mathlib.Omega.{arith}
 use lib.ListN.{length}
 use lib.Seq.{sets, length-sets}
-use borrow.Author.Rules.{rules}
 use Rattle.plan.specs.Edition.{most_jobs}
 use Rattle.hostmemory.specs.Memory.{jobs_out}
 use Rattle.hostmemory.proofs.Writes.{jobs_next}
@@ -20,7 +18,7 @@ loop-i-init c =
 pub put_job-requires : goal.put_job-requires
 put_job-requires c =
     let long : length c.loop-i.words ≡ length c.args.words.now = let a = c.args in
-      ap length c.loop-i.invariant.1 ∙ length-sets a.words.now a.from (jobs_out a.jobs c.loop-i.i) in
+    ap length c.loop-i.invariant.1 ∙ length-sets a.words.now a.from (jobs_out a.jobs c.loop-i.i) in
     omega (arith, long)
 
 pub loop-i-preserved : goal.loop-i-preserved
@@ -32,7 +30,7 @@ loop-i-preserved c =
 pub shape_of-words : goal.shape_of-words
 shape_of-words c =
     let long : length c.loop-i.words ≡ length c.args.words.now = let a = c.args in
-      ap length c.loop-i.invariant.1 ∙ length-sets a.words.now a.from (jobs_out a.jobs c.loop-i.i) in
+    ap length c.loop-i.invariant.1 ∙ length-sets a.words.now a.from (jobs_out a.jobs c.loop-i.i) in
     long
 
 pub returns : goal.returns

@@ -2,7 +2,6 @@
 use mathlib.Core.Path.{refl}
 use borrow.Author.Tests.{lt-ltb, le-ltb}
 use Rattle.hostmemory.specs.Memory.{list_in, list_held}
-use borrow.Author.Rules.{rules}
 use Rattle.hostmemory.proofs.lists.list_of.Goals as goal
 
 pub returns-then-words-lt-LIST : goal.returns-then-words-lt-LIST

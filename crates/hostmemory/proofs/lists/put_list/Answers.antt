@@ -3,7 +3,6 @@
 use mathlib.Core.Path.{refl}
 use borrow.Author.Tests.{lt-ltb, le-ltb}
 use Rattle.hostmemory.specs.Memory.{list_put}
-use borrow.Author.Rules.{rules}
 use Rattle.hostmemory.proofs.lists.put_list.Goals as goal
 
 pub returns-then-words-lt-LIST : goal.returns-then-words-lt-LIST

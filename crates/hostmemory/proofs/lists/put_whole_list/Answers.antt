@@ -2,7 +2,6 @@
 use mathlib.Core.Path.{◌∙◌, ap}
 use lib.ListN.{length, length-set}
 use lib.Seq.{length-sets}
-use borrow.Author.Rules.{rules}
 use Rattle.hostmemory.proofs.lists.put_whole_list.Goals as goal
 
 pub shape_of-words : goal.shape_of-words

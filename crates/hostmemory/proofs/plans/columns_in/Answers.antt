@@ -1,18 +1,12 @@
 -- `hostmemory::plans::columns_in` meets its contract: too few words encode no job. Loop invariant: the
 -- columns of the first i jobs are written, and both disjunctions tell whether their words have room.
 use mathlib.Core.Path.{◌≡◌, refl, sym}
-use mathlib.Core.Bool.{◌&&◌}
-use Prim.Native.Nat.{◌-◌, ◌≤◌}
 use native.Mathlib.Omega.{arith}
-use borrow.Author.Rules.{rules}
-use lib.Dec.{ltb}
-use Rattle.base.specs.Below.{every}
-use Rattle.base.specs.Fill.{filled}
 use Rattle.base.proofs.Below.{every_start}
 use Rattle.base.proofs.FillLaws.{filled_start, filled_next}
 use Rattle.plan.specs.Rules.{counted}
-use Rattle.plan.specs.Columns.{column_values, in_column}
-use Rattle.hostmemory.specs.Memory.{plan_of, grade_word, release_word, size_word, deadline_word, grade_values, job_fits}
+use Rattle.plan.specs.Columns.{in_column}
+use Rattle.hostmemory.specs.Memory.{plan_of, grade_word, release_word, size_word, deadline_word}
 use Rattle.hostmemory.proofs.ColumnLaws.{fits_next, counted_short, counted_words}
 use Rattle.hostmemory.proofs.plans.columns_in.Goals as goal
 

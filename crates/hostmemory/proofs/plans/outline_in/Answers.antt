@@ -2,7 +2,6 @@
 use mathlib.Core.Path.{refl}
 use borrow.Author.Tests.{lt-ltb, le-ltb}
 use Rattle.hostmemory.specs.Memory.{plan_in, plan_of}
-use borrow.Author.Rules.{rules}
 use Rattle.hostmemory.proofs.plans.outline_in.Goals as goal
 
 pub returns-then-words-lt-PLAN : goal.returns-then-words-lt-PLAN

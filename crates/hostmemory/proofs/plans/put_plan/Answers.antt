@@ -3,7 +3,6 @@
 use mathlib.Core.Path.{refl}
 use borrow.Author.Tests.{lt-ltb, le-ltb}
 use Rattle.hostmemory.specs.Memory.{plan_put}
-use borrow.Author.Rules.{rules}
 use Rattle.hostmemory.proofs.plans.put_plan.Goals as goal
 
 pub returns-then-words-lt-PLAN : goal.returns-then-words-lt-PLAN

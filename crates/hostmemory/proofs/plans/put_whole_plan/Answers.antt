@@ -4,7 +4,6 @@ use native.Mathlib.Omega.{arith}
 use lib.ListN.{length, length-set}
 use lib.Seq.{length-sets}
 use Rattle.hostmemory.specs.Memory.{plan_out}
-use borrow.Author.Rules.{rules}
 use Rattle.hostmemory.proofs.plans.put_whole_plan.Goals as goal
 
 pub bounds-words-1 : goal.bounds-words-1

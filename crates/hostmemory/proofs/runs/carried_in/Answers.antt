@@ -2,7 +2,6 @@
 use mathlib.Core.Path.{refl}
 use borrow.Author.Tests.{lt-ltb, le-ltb}
 use Rattle.hostmemory.specs.Memory.{run_in, run_of}
-use borrow.Author.Rules.{rules}
 use Rattle.hostmemory.proofs.runs.carried_in.Goals as goal
 
 pub returns-then-words-lt-RUN : goal.returns-then-words-lt-RUN

@@ -1,12 +1,8 @@
 -- `hostmemory::runs::carried_of` meets its contract. Loop invariant: the first i words are copied.
-use mathlib.Core.Path.{◌≡◌, refl, sym, ◌∙◌, ap}
+use mathlib.Core.Path.{◌≡◌}
 use Prim.Native.Nat.{◌-◌, ◌≤◌}
-use native.Mathlib.Numerals.{add-one}
-use native.Mathlib.Omega.{arith}
-use lib.ListN.{length, take, length-set}
-use lib.Seq.{take-suc, take-suc-set, take_all}
+use lib.ListN.{length, take}
 use Rattle.plan.specs.Edition.{most_jobs}
-use borrow.Author.Rules.{rules}
 use Rattle.hostmemory.proofs.runs.carried_of.Given as goal
 
 abbrev pub invariant-loop-i : goal.invariant-loop-i

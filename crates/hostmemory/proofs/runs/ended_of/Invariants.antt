@@ -1,14 +1,10 @@
 -- `hostmemory::runs::ended_of` meets its contract. Loop invariant: the first i marks are read.
-use mathlib.Core.Path.{◌≡◌, refl, sym, ◌∙◌, ap}
-use mathlib.Core.List.{[], ◌∷◌, map, map-append}
+use mathlib.Core.Path.{◌≡◌}
+use mathlib.Core.List.{map}
 use Prim.Native.Nat.{◌-◌, ◌≤◌}
-use native.Mathlib.Numerals.{add-one}
-use native.Mathlib.Omega.{arith}
-use lib.ListN.{length, get_or, take, length-set}
-use lib.Seq.{take-suc, take-suc-set, take_all}
+use lib.ListN.{length, take}
 use Rattle.plan.specs.Edition.{most_jobs}
 use Rattle.hostmemory.specs.Memory.{is_set}
-use borrow.Author.Rules.{rules}
 use Rattle.hostmemory.proofs.runs.ended_of.Given as goal
 
 abbrev pub invariant-loop-i : goal.invariant-loop-i

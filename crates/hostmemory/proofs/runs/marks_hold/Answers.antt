@@ -2,7 +2,6 @@
 use mathlib.Core.Path.{refl}
 use borrow.Author.Tests.{lt-ltb, le-ltb}
 use Rattle.hostmemory.specs.Memory.{marks_hold}
-use borrow.Author.Rules.{rules}
 use Rattle.hostmemory.proofs.runs.marks_hold.Goals as goal
 
 pub returns-then-words-lt-RUN : goal.returns-then-words-lt-RUN

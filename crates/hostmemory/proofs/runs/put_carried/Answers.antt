@@ -1,12 +1,10 @@
 -- `hostmemory::runs::put_carried` meets its contract. Loop
 -- invariant: the first i carried units are written.
 use mathlib.Core.Path.{◌≡◌, refl, ◌∙◌, ap}
-use Prim.Native.Nat.{◌-◌, ◌≤◌}
 use native.Mathlib.Numerals.{add-one}
 use native.Mathlib.Omega.{arith}
 use lib.ListN.{length, take, get_or}
 use lib.Seq.{sets, length-sets, length-take-le, take-suc, take_all}
-use borrow.Author.Rules.{rules}
 use Rattle.plan.specs.Edition.{most_jobs}
 use Rattle.hostmemory.specs.Memory.{mark_words}
 use Rattle.base.proofs.Stores.{sets_snoc}

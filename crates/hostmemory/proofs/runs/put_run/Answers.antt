@@ -2,7 +2,6 @@
 use mathlib.Core.Path.{refl}
 use borrow.Author.Tests.{lt-ltb, le-ltb}
 use Rattle.hostmemory.specs.Memory.{run_put}
-use borrow.Author.Rules.{rules}
 use Rattle.hostmemory.proofs.runs.put_run.Goals as goal
 
 pub returns-then-words-lt-RUN : goal.returns-then-words-lt-RUN

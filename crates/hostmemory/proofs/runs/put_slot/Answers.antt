@@ -3,7 +3,6 @@
 use mathlib.Core.Path.{refl}
 use borrow.Author.Tests.{lt-ltb, le-ltb}
 use Rattle.hostmemory.specs.Memory.{slot_put}
-use borrow.Author.Rules.{rules}
 use Rattle.hostmemory.proofs.runs.put_slot.Goals as goal
 
 pub returns-then-words-lt-RUN : goal.returns-then-words-lt-RUN

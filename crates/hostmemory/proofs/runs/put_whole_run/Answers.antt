@@ -3,7 +3,6 @@ use mathlib.Core.Path.{◌∙◌, ap}
 use mathlib.Core.List.{map}
 use lib.Seq.{sets}
 use Rattle.hostmemory.specs.Memory.{ended_start, mark_out}
-use borrow.Author.Rules.{rules}
 use Rattle.hostmemory.proofs.runs.put_whole_run.Goals as goal
 
 pub returns : goal.returns

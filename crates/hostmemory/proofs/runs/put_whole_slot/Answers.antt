@@ -3,8 +3,6 @@ use mathlib.Core.Path.{refl, ◌∙◌, ap}
 use native.Mathlib.Omega.{arith}
 use lib.ListN.{length, length-set}
 use lib.Seq.{length-sets}
-use Rattle.hostmemory.specs.Memory.{slot_out}
-use borrow.Author.Rules.{rules}
 use Rattle.hostmemory.proofs.runs.put_whole_slot.Goals as goal
 
 pub bounds-words-1 : goal.bounds-words-1

@@ -1,6 +1,5 @@
 -- `hostmemory::runs::run_of` meets its contract: the run is made of its parts.
 use mathlib.Core.Path.{refl}
-use borrow.Author.Rules.{rules}
 use Rattle.hostmemory.proofs.runs.run_of.Goals as goal
 
 pub returns : goal.returns

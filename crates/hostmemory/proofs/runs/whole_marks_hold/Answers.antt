@@ -1,6 +1,5 @@
 -- `hostmemory::runs::whole_marks_hold` meets its contract: the code's test is the definition's.
 use mathlib.Core.Path.{refl}
-use borrow.Author.Rules.{rules}
 use Rattle.hostmemory.proofs.runs.whole_marks_hold.Goals as goal
 
 pub returns : goal.returns

@@ -2,7 +2,6 @@
 use mathlib.Core.Path.{sym}
 use mathlib.Core.List.{[], ◌∷◌}
 use native.Mathlib.Omega.{arith}
-use borrow.Author.Rules.{rules}
 use Rattle.text.specs.Inner.Growth.{Grown}
 use Rattle.text.proofs.Growth.{adds_grown, grown_twice, grown_same}
 use Rattle.joblist.proofs.ExportLaws.{doubled_other, doubled_quote}

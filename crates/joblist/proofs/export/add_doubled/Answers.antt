@@ -1,12 +1,8 @@
 -- `joblist::export::add_doubled` meets its contract. Loop invariant: the first k bytes are appended,
 -- each quote doubled.
 use mathlib.Core.Path.{sym, ap}
-use Prim.Native.Nat.{◌+◌, ◌*◌, ◌-◌, ◌≤◌}
 use native.Mathlib.Omega.{arith}
-use borrow.Author.Rules.{rules}
-use lib.ListN.{length, take}
 use lib.Seq.{take_all}
-use Rattle.text.specs.Inner.Growth.{Grown}
 use Rattle.text.proofs.Growth.{grown_by_none, grown_twice, grown_same}
 use Rattle.joblist.specs.Export.{doubled}
 use Rattle.joblist.proofs.ExportLaws.{doubled_none, doubled_next}

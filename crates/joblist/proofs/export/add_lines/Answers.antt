@@ -1,13 +1,9 @@
 -- `joblist::export::add_lines` meets its contract. Loop invariant: the lines of the first i jobs are
 -- appended.
 use mathlib.Core.Path.{◌≡◌, refl, sym, ap}
-use Prim.Native.Nat.{◌+◌, ◌*◌, ◌-◌, ◌≤◌}
 use native.Mathlib.Omega.{arith}
-use borrow.Author.Rules.{rules}
-use Rattle.text.specs.Inner.Growth.{Grown}
 use Rattle.text.proofs.Growth.{grown_by_none, grown_twice, grown_same}
 use Rattle.joblist.specs.Export.{lines_text}
-use Rattle.joblist.specs.Longest.{longest_line}
 use Rattle.joblist.proofs.ExportLaws.{lines_start, lines_next}
 use Rattle.joblist.proofs.export.add_lines.Goals as goal
 

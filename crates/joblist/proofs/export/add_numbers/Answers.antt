@@ -1,6 +1,5 @@
 -- `joblist::export::add_numbers` meets its contract, piece by piece.
 use native.Mathlib.Omega.{arith}
-use borrow.Author.Rules.{rules}
 use Rattle.text.proofs.Decimal.{decimal_length}
 use Rattle.text.proofs.Growth.{adds_grown, grown_twice}
 use Rattle.joblist.proofs.export.add_numbers.Goals as goal

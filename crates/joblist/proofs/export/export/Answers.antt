@@ -3,7 +3,6 @@ use mathlib.Core.Path.{◌≡◌, sym, ap}
 use mathlib.Core.Bool.{true}
 use Prim.Native.Nat.{◌≤◌}
 use native.Mathlib.Omega.{arith}
-use borrow.Author.Rules.{rules}
 use lib.ListN.{length, replicate}
 use lib.Seq.{length-take-le}
 use Rattle.plan.specs.Rules.{jobs_hold}
@@ -28,7 +27,7 @@ add_lines-length-requires c =
     let rules : Meets c.args.list = meets c.args.list holds in
     let headed : Grown (replicate longest_text 0) c.add-after_header.new.line 0 c.add-after_header.result header
     = let e = c.header-first.ensures in
-      grown_same e (adds_grown (omega (arith, ap length e)) c.add-after_header.ensures) in
+    grown_same e (adds_grown (omega (arith, ap length e)) c.add-after_header.ensures) in
     let m = rules in
     let g = headed in
     (omega (arith, g.end, g.room), m.few, small m)
@@ -39,10 +38,10 @@ returns-then-out-length c =
     let rules : Meets c.args.list = meets c.args.list holds in
     let headed : Grown (replicate longest_text 0) c.add-after_header.new.line 0 c.add-after_header.result header
     = let e = c.header-first.ensures in
-      grown_same e (adds_grown (omega (arith, ap length e)) c.add-after_header.ensures) in
+    grown_same e (adds_grown (omega (arith, ap length e)) c.add-after_header.ensures) in
     let whole : Grown (replicate longest_text 0) c.add_lines-length.new.text 0 c.add_lines-length.result (list_text c.args.list)
     = let m = rules in
-      grown_same (list_text_lem c.args.list m.few) (grown_twice headed c.add_lines-length.ensures.0) in
+    grown_same (list_text_lem c.args.list m.few) (grown_twice headed c.add_lines-length.ensures.0) in
     let w = whole in
     exported_short c.args.list c.args.out.now holds (omega (arith, w.end, c.if-out-length.true))
 
@@ -52,10 +51,10 @@ slice_bounds-text-end c =
     let rules : Meets c.args.list = meets c.args.list holds in
     let headed : Grown (replicate longest_text 0) c.add-after_header.new.line 0 c.add-after_header.result header
     = let e = c.header-first.ensures in
-      grown_same e (adds_grown (omega (arith, ap length e)) c.add-after_header.ensures) in
+    grown_same e (adds_grown (omega (arith, ap length e)) c.add-after_header.ensures) in
     let whole : Grown (replicate longest_text 0) c.add_lines-length.new.text 0 c.add_lines-length.result (list_text c.args.list)
     = let m = rules in
-      grown_same (list_text_lem c.args.list m.few) (grown_twice headed c.add_lines-length.ensures.0) in
+    grown_same (list_text_lem c.args.list m.few) (grown_twice headed c.add_lines-length.ensures.0) in
     let fits : c.add_lines-length.result ≤ longest_text
     = omega (arith, headed.end, rules.few, c.add_lines-length.ensures.1) in
     omega (arith, fits, whole.room)
@@ -66,10 +65,10 @@ slice_bounds-add-end-3 c =
     let rules : Meets c.args.list = meets c.args.list holds in
     let headed : Grown (replicate longest_text 0) c.add-after_header.new.line 0 c.add-after_header.result header
     = let e = c.header-first.ensures in
-      grown_same e (adds_grown (omega (arith, ap length e)) c.add-after_header.ensures) in
+    grown_same e (adds_grown (omega (arith, ap length e)) c.add-after_header.ensures) in
     let whole : Grown (replicate longest_text 0) c.add_lines-length.new.text 0 c.add_lines-length.result (list_text c.args.list)
     = let m = rules in
-      grown_same (list_text_lem c.args.list m.few) (grown_twice headed c.add_lines-length.ensures.0) in
+    grown_same (list_text_lem c.args.list m.few) (grown_twice headed c.add_lines-length.ensures.0) in
     let fits : c.add_lines-length.result ≤ longest_text
     = omega (arith, headed.end, rules.few, c.add_lines-length.ensures.1) in
     sym (length-take-le c.add_lines-length.result c.add_lines-length.new.text (omega (arith, fits, whole.room)))
@@ -80,8 +79,8 @@ returns c =
     let rules : Meets c.args.list = meets c.args.list holds in
     let headed : Grown (replicate longest_text 0) c.add-after_header.new.line 0 c.add-after_header.result header
     = let e = c.header-first.ensures in
-      grown_same e (adds_grown (omega (arith, ap length e)) c.add-after_header.ensures) in
+    grown_same e (adds_grown (omega (arith, ap length e)) c.add-after_header.ensures) in
     let whole : Grown (replicate longest_text 0) c.add_lines-length.new.text 0 c.add_lines-length.result (list_text c.args.list)
     = let m = rules in
-      grown_same (list_text_lem c.args.list m.few) (grown_twice headed c.add_lines-length.ensures.0) in
+    grown_same (list_text_lem c.args.list m.few) (grown_twice headed c.add_lines-length.ensures.0) in
     exported_whole c.args.list c.args.out.now holds whole c.if-out-length.false c.add.ensures

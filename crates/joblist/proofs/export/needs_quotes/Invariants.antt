@@ -1,14 +1,10 @@
 -- `joblist::export::needs_quotes` meets its contract. Loop invariant: what was found among the first k
 -- bytes, or what is to be found after them, is the answer.
-use mathlib.Core.Path.{◌≡◌, refl, sym, ◌∙◌, ap}
-use mathlib.Core.Bool.{◌||◌, or_assoc}
+use mathlib.Core.Path.{◌≡◌}
+use mathlib.Core.Bool.{◌||◌}
 use Prim.Native.Nat.{◌-◌, ◌≤◌}
-use native.Mathlib.Numerals.{add-one}
-use native.Mathlib.Omega.{arith}
-use borrow.Author.Rules.{rules}
 use lib.ListN.{length, drop}
 use Rattle.joblist.specs.Export.{needs_quotes}
-use Rattle.joblist.proofs.ExportLaws.{needs_next, needs_over}
 use Rattle.joblist.proofs.export.needs_quotes.Given as goal
 
 abbrev pub invariant-loop-k : goal.invariant-loop-k

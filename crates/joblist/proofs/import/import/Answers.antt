@@ -2,7 +2,6 @@
 use mathlib.Core.Path.{◌≡◌, refl, ◌∙◌, ap}
 use mathlib.Core.List.{[]}
 use native.Mathlib.Omega.{arith}
-use borrow.Author.Rules.{rules}
 use Rattle.plan.specs.Edition.{most_jobs}
 use Rattle.plan.specs.Refusal.{wrong_header}
 use Rattle.fields.specs.Answers.{passed_view, passed_refusal}
@@ -17,7 +16,7 @@ pub returns-in_default : goal.returns-in_default
 returns-in_default c =
     let read : passed_view c.read_exactly-headed.result ≡ exactly header wrong_header 0 c.args.text.now 0
     = c.read_exactly-headed.ensures
-      ∙ ap (λ h. exactly h wrong_header 0 c.args.text.now 0) c.header-first.ensures in
+    ∙ ap (λ h. exactly h wrong_header 0 c.args.text.now 0) c.header-first.ensures in
     c.refused.ensures
     ∙ import_no_header c.args.text.now
     (refused passed_view passed_refusal read c.in_default.is refl refl c.passed_refusal.ensures)
@@ -26,7 +25,7 @@ pub returns-in_default-passed : goal.returns-in_default-passed
 returns-in_default-passed c =
     let read : passed_view c.read_exactly-headed.result ≡ exactly header wrong_header 0 c.args.text.now 0
     = c.read_exactly-headed.ensures
-      ∙ ap (λ h. exactly h wrong_header 0 c.args.text.now 0) c.header-first.ensures in
+    ∙ ap (λ h. exactly h wrong_header 0 c.args.text.now 0) c.header-first.ensures in
     let text = c.args.text.now in
     let at = c.in-Next.at in
     c.refused-in_default-passed.ensures
@@ -38,7 +37,7 @@ pub returns-then-list-lt1 : goal.returns-then-list-lt1
 returns-then-list-lt1 c =
     let read : passed_view c.read_exactly-headed.result ≡ exactly header wrong_header 0 c.args.text.now 0
     = c.read_exactly-headed.ensures
-      ∙ ap (λ h. exactly h wrong_header 0 c.args.text.now 0) c.header-first.ensures in
+    ∙ ap (λ h. exactly h wrong_header 0 c.args.text.now 0) c.header-first.ensures in
     let text = c.args.text.now in
     let at = c.in-Next.at in
     let g = lines_got c.read_lines-lines.result (all_lines most_jobs [] text at) c.read_lines-lines.ensures c.in-Next-passed.is in
@@ -50,7 +49,7 @@ pub returns : goal.returns
 returns c =
     let read : passed_view c.read_exactly-headed.result ≡ exactly header wrong_header 0 c.args.text.now 0
     = c.read_exactly-headed.ensures
-      ∙ ap (λ h. exactly h wrong_header 0 c.args.text.now 0) c.header-first.ensures in
+    ∙ ap (λ h. exactly h wrong_header 0 c.args.text.now 0) c.header-first.ensures in
     let text = c.args.text.now in
     let at = c.in-Next.at in
     let g = lines_got c.read_lines-lines.result (all_lines most_jobs [] text at) c.read_lines-lines.ensures c.in-Next-passed.is in

@@ -1,6 +1,5 @@
 -- `joblist::import::no_jobs` meets its contract.
 use mathlib.Core.Path.{refl}
-use borrow.Author.Rules.{rules}
 use Rattle.joblist.proofs.import.no_jobs.Goals as goal
 
 pub returns : goal.returns

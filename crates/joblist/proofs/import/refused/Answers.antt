@@ -1,6 +1,5 @@
 -- `joblist::import::refused` meets its contract.
 use mathlib.Core.Path.{refl}
-use borrow.Author.Rules.{rules}
 use Rattle.joblist.proofs.import.refused.Goals as goal
 
 pub returns : goal.returns

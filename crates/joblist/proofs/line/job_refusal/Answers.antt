@@ -1,6 +1,5 @@
 -- `joblist::line::job_refusal` meets its contract.
 use mathlib.Core.Path.{refl}
-use borrow.Author.Rules.{rules}
 use Rattle.joblist.proofs.line.job_refusal.Goals as goal
 
 pub returns-in-Job : goal.returns-in-Job

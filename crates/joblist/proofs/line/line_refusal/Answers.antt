@@ -1,6 +1,5 @@
 -- `joblist::line::line_refusal` meets its contract.
 use mathlib.Core.Path.{refl}
-use borrow.Author.Rules.{rules}
 use Rattle.joblist.proofs.line.line_refusal.Goals as goal
 
 pub returns-in-Line : goal.returns-in-Line

@@ -1,7 +1,6 @@
 -- `joblist::line::read_job` meets its contract.
 use mathlib.Core.Path.{refl, ap₂}
 use mathlib.Core.Bool.{◌&&◌}
-use borrow.Author.Rules.{rules}
 use Rattle.fields.proofs.ParserLaws.{so, refused, failed, held}
 use Rattle.joblist.specs.Inner.Parts.{line_view, line_refusal}
 use Rattle.joblist.proofs.LineLaws.{job_no_line, job_name_byte, job_name_taken, job_grade, job_bounds, job_whole}

@@ -1,7 +1,6 @@
 -- `joblist::line::read_line` meets its contract.
 use mathlib.Core.Path.{refl}
 use native.Mathlib.Omega.{arith}
-use borrow.Author.Rules.{rules}
 use Rattle.fields.specs.Answers.{field_view, field_refusal}
 use Rattle.fields.proofs.ParserLaws.{so, refused, small}
 use Rattle.joblist.proofs.LineLaws.{line_no_name, line_no_grade, line_no_release, line_no_size, line_no_deadline, line_whole}

@@ -1,6 +1,5 @@
 -- `judge::answers::is_accepted` meets its contract: no refusal has the number of acceptance.
 use mathlib.Core.Path.{◌≡◌, refl, ◌∙◌, ap}
-use borrow.Author.Rules.{rules}
 use lib.Dec.{eqb}
 use Rattle.plan.specs.Report.{done_number, number_of, is_none}
 use Rattle.judge.specs.Answers.{verdict_view}

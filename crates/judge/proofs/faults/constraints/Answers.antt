@@ -2,7 +2,6 @@
 -- the rules before it have nothing to report.
 use mathlib.Core.Path.{refl, sym, ◌∙◌}
 use native.Mathlib.Omega.{arith}
-use borrow.Author.Rules.{rules}
 use Rattle.judge.specs.Verdict.{capacity_fault}
 use Rattle.plan.proofs.Reports.{or_none, stops, passes}
 use mathlib.Core.Path.{ap}

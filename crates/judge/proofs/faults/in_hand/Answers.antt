@@ -4,7 +4,6 @@ use mathlib.Core.Bool.{not}
 use mathlib.Core.List.{[], ◌∷◌}
 use Prim.Native.Nat.{◌-◌}
 use native.Mathlib.Omega.{arith}
-use borrow.Author.Rules.{rules}
 use borrow.Author.Tests.{lt-ltb, le-ltb}
 use Rattle.plan.specs.Refusal.{unsound, buffer_too_short}
 use Rattle.plan.specs.Table.{sound}
@@ -27,13 +26,13 @@ returns-then-count-eq0 c =
 pub returns-then-not-sound_within : goal.returns-then-not-sound_within
 returns-then-not-sound_within c =
     let tested : c.sound_within.result ≡ sound c.args.p c.args.table.now = let a = c.args in
-      c.sound_within.ensures ∙ sound_told a.p a.table.now (a.count - 1) (ap (λ n. n - 1) c.requires) in
+    c.sound_within.ensures ∙ sound_told a.p a.table.now (a.count - 1) (ap (λ n. n - 1) c.requires) in
     ap₂ (λ x y. or_else (fault x (buffer_too_short ∷ [])) (fault y (unsound ∷ []))) (sym (le-ltb _ _ c.if-table-lt-PLACES.false))
     (sym (ap not (sym tested) ∙ (ap not c.if-not-sound_within.true)))
 
 pub returns : goal.returns
 returns c =
     let tested : c.sound_within.result ≡ sound c.args.p c.args.table.now = let a = c.args in
-      c.sound_within.ensures ∙ sound_told a.p a.table.now (a.count - 1) (ap (λ n. n - 1) c.requires) in
+    c.sound_within.ensures ∙ sound_told a.p a.table.now (a.count - 1) (ap (λ n. n - 1) c.requires) in
     ap₂ (λ x y. or_else (fault x (buffer_too_short ∷ [])) (fault y (unsound ∷ []))) (sym (le-ltb _ _ c.if-table-lt-PLACES.false))
     (sym (ap not (sym tested) ∙ (ap not c.if-not-sound_within.false)))

@@ -2,10 +2,9 @@
 -- and a least slack that leads, with the intervals before l, to the figure of the whole column.
 use mathlib.Core.Path.{sym, ◌∙◌, ap, ap₂, ◌≡◌}
 use mathlib.Core.Bool.{cond}
-use Prim.Native.Nat.{◌+◌, ◌*◌, ◌-◌, ◌^◌, ◌≤◌, ◌<◌}
+use Prim.Native.Nat.{◌+◌, ◌*◌, ◌-◌, ◌^◌, ◌<◌}
 use native.Mathlib.Omega.{arith}
 use native.Mathlib.Nat.{mul-le-mul, mul-le-mul_right}
-use borrow.Author.Rules.{rules}
 use lib.IntN.{sub_ℕ}
 use lib.ListN.{get_or}
 use lib.Signed.{le_z}

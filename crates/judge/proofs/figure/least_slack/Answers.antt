@@ -1,18 +1,16 @@
 -- `judge::figure::least_slack` meets its contract. Loop invariant: after m boundaries, the column
 -- sums of the jobs due so far, and the least slack of the pairs with these boundaries.
 use mathlib.Core.Path.{sym, ◌≡◌}
-use Prim.Native.Nat.{ℕ, suc, ◌-◌, ◌≤◌}
+use Prim.Native.Nat.{ℕ, suc, ◌≤◌}
 use native.Mathlib.Numerals.{add-one}
 use native.Mathlib.Omega.{arith}
-use borrow.Author.Rules.{rules}
 use lib.ListN.{get_or}
 use Rattle.plan.specs.Boundaries.{boundary, intervals}
 use Rattle.judge.specs.Inner.Widths.{most_at_place}
 use Rattle.judge.specs.Verdict.{is_hi_deadline}
 use Rattle.judge.specs.Answers.{slack_view}
 use Rattle.judge.proofs.FloorPass.{ReadyFor, Summed, ready_from, summed_start, few_intervals, rows_fit, due_is, summed_next, column_fits}
-use Rattle.judge.specs.Slack.{LeastAmong}
-use Rattle.judge.proofs.SlackPass.{Before, tightest_start, tightest_next, tightest_end}
+use Rattle.judge.proofs.SlackPass.{tightest_start, tightest_next, tightest_end}
 use Rattle.judge.proofs.figure.least_slack.Goals as goal
 
 pub loop-m-init : goal.loop-m-init
@@ -40,7 +38,7 @@ pub add_rows-due-requires : goal.add_rows-due-requires
 add_rows-due-requires c =
     let ready : ReadyFor c.args.p c.args.table.now c.args.times.now c.hi_deadlines_of-deadlines.result c.args.spans
     = let a = c.args in
-      ready_from a.p a.table.now a.times.now c.hi_deadlines_of-deadlines.result a.spans c.requires c.hi_deadlines_of-deadlines.ensures in
+    ready_from a.p a.table.now a.times.now c.hi_deadlines_of-deadlines.result a.spans c.requires c.hi_deadlines_of-deadlines.ensures in
     let most : (q : ℕ) → get_or c.args.table.now q 0 ≤ most_at_place = λ q. omega (arith, c.shared_slice_known-1.given q) in
     rows_fit ready most c.loop-m-test.true c.loop-m.invariant.1
 
@@ -48,7 +46,7 @@ pub slice_bounds-column_taken_in-end : goal.slice_bounds-column_taken_in-end
 slice_bounds-column_taken_in-end c =
     let ready : ReadyFor c.args.p c.args.table.now c.args.times.now c.hi_deadlines_of-deadlines.result c.args.spans
     = let a = c.args in
-      ready_from a.p a.table.now a.times.now c.hi_deadlines_of-deadlines.result a.spans c.requires c.hi_deadlines_of-deadlines.ensures in
+    ready_from a.p a.table.now a.times.now c.hi_deadlines_of-deadlines.result a.spans c.requires c.hi_deadlines_of-deadlines.ensures in
     let most : (q : ℕ) → get_or c.args.table.now q 0 ≤ most_at_place = λ q. omega (arith, c.shared_slice_known-1.given q) in
     let summed : Summed c.args.p c.args.table.now (suc c.loop-m.m) c.add_rows-due.new.sums
     = summed_next ready most c.loop-m-test.true c.add_rows-due.new.sums c.loop-m.invariant.1 c.add_rows-due.ensures.1 c.add_rows-due.ensures.2 in
@@ -58,7 +56,7 @@ pub column_taken_in-best-requires : goal.column_taken_in-best-requires
 column_taken_in-best-requires c =
     let ready : ReadyFor c.args.p c.args.table.now c.args.times.now c.hi_deadlines_of-deadlines.result c.args.spans
     = let a = c.args in
-      ready_from a.p a.table.now a.times.now c.hi_deadlines_of-deadlines.result a.spans c.requires c.hi_deadlines_of-deadlines.ensures in
+    ready_from a.p a.table.now a.times.now c.hi_deadlines_of-deadlines.result a.spans c.requires c.hi_deadlines_of-deadlines.ensures in
     let most : (q : ℕ) → get_or c.args.table.now q 0 ≤ most_at_place = λ q. omega (arith, c.shared_slice_known-1.given q) in
     let summed : Summed c.args.p c.args.table.now (suc c.loop-m.m) c.add_rows-due.new.sums
     = summed_next ready most c.loop-m-test.true c.add_rows-due.new.sums c.loop-m.invariant.1 c.add_rows-due.ensures.1 c.add_rows-due.ensures.2 in
@@ -76,7 +74,7 @@ pub loop-m-preserved : goal.loop-m-preserved
 loop-m-preserved c =
     let ready : ReadyFor c.args.p c.args.table.now c.args.times.now c.hi_deadlines_of-deadlines.result c.args.spans
     = let a = c.args in
-      ready_from a.p a.table.now a.times.now c.hi_deadlines_of-deadlines.result a.spans c.requires c.hi_deadlines_of-deadlines.ensures in
+    ready_from a.p a.table.now a.times.now c.hi_deadlines_of-deadlines.result a.spans c.requires c.hi_deadlines_of-deadlines.ensures in
     let most : (q : ℕ) → get_or c.args.table.now q 0 ≤ most_at_place = λ q. omega (arith, c.shared_slice_known-1.given q) in
     let summed : Summed c.args.p c.args.table.now (suc c.loop-m.m) c.add_rows-due.new.sums
     = summed_next ready most c.loop-m-test.true c.add_rows-due.new.sums c.loop-m.invariant.1 c.add_rows-due.ensures.1 c.add_rows-due.ensures.2 in

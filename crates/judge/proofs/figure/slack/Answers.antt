@@ -1,6 +1,5 @@
 -- `judge::figure::slack` meets its contract.
 use mathlib.Core.Path.{sym}
-use borrow.Author.Rules.{rules}
 use lib.Seq.{length-take-le}
 use Rattle.judge.proofs.HandFault.{in_their_room}
 use Rattle.judge.proofs.figure.slack.Goals as goal

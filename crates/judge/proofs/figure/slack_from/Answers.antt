@@ -1,5 +1,4 @@
 -- `judge::figure::slack_from` meets its contract.
-use borrow.Author.Rules.{rules}
 use Rattle.judge.proofs.Signed.{small_difference, difference_fits}
 use mir.Facts.{to_z-of_z}
 use Rattle.judge.proofs.figure.slack_from.Goals as goal

@@ -1,7 +1,6 @@
 -- `judge::figure::slack_of` meets its contract.
 use mathlib.Core.Path.{◌∙◌, ap, ap₂}
 use Prim.Native.Nat.{◌*◌, ◌-◌}
-use borrow.Author.Rules.{rules}
 use lib.IntN.{sub_ℕ}
 use Rattle.judge.proofs.Signed.{kept_difference}
 use Rattle.judge.proofs.figure.slack_of.Goals as goal

@@ -2,10 +2,9 @@
 -- of the jobs due so far, and the lowest interval that violates rule 18 at one of these boundaries.
 use mathlib.Core.Path.{sym, ◌∙◌, ap₂, subst, ◌≡◌}
 use mathlib.Core.List.{[], ◌∷◌}
-use Prim.Native.Nat.{ℕ, suc, ◌-◌, ◌≤◌}
+use Prim.Native.Nat.{ℕ, suc, ◌≤◌}
 use native.Mathlib.Numerals.{add-one}
 use native.Mathlib.Omega.{arith}
-use borrow.Author.Rules.{rules}
 use lib.Dec.{ltb}
 use lib.ListN.{get_or}
 use Rattle.plan.specs.Refusal.{below_floor_rule}
@@ -41,7 +40,7 @@ pub add_rows-due-requires : goal.add_rows-due-requires
 add_rows-due-requires c =
     let ready : ReadyFor c.args.p c.args.table.now c.args.times.now c.hi_deadlines_of-deadlines.result c.args.spans
     = let a = c.args in
-      ready_from a.p a.table.now a.times.now c.hi_deadlines_of-deadlines.result a.spans c.requires c.hi_deadlines_of-deadlines.ensures in
+    ready_from a.p a.table.now a.times.now c.hi_deadlines_of-deadlines.result a.spans c.requires c.hi_deadlines_of-deadlines.ensures in
     let most : (q : ℕ) → get_or c.args.table.now q 0 ≤ most_at_place = λ q. omega (arith, c.shared_slice_known-1.given q) in
     rows_fit ready most c.loop-m-test.true c.loop-m.invariant.1
 
@@ -49,7 +48,7 @@ pub slice_bounds-lowered-end : goal.slice_bounds-lowered-end
 slice_bounds-lowered-end c =
     let ready : ReadyFor c.args.p c.args.table.now c.args.times.now c.hi_deadlines_of-deadlines.result c.args.spans
     = let a = c.args in
-      ready_from a.p a.table.now a.times.now c.hi_deadlines_of-deadlines.result a.spans c.requires c.hi_deadlines_of-deadlines.ensures in
+    ready_from a.p a.table.now a.times.now c.hi_deadlines_of-deadlines.result a.spans c.requires c.hi_deadlines_of-deadlines.ensures in
     let most : (q : ℕ) → get_or c.args.table.now q 0 ≤ most_at_place = λ q. omega (arith, c.shared_slice_known-1.given q) in
     let summed : Summed c.args.p c.args.table.now (suc c.loop-m.m) c.add_rows-due.new.sums
     = summed_next ready most c.loop-m-test.true c.add_rows-due.new.sums c.loop-m.invariant.1 c.add_rows-due.ensures.1 c.add_rows-due.ensures.2 in
@@ -59,7 +58,7 @@ pub lowered-here-requires : goal.lowered-here-requires
 lowered-here-requires c =
     let ready : ReadyFor c.args.p c.args.table.now c.args.times.now c.hi_deadlines_of-deadlines.result c.args.spans
     = let a = c.args in
-      ready_from a.p a.table.now a.times.now c.hi_deadlines_of-deadlines.result a.spans c.requires c.hi_deadlines_of-deadlines.ensures in
+    ready_from a.p a.table.now a.times.now c.hi_deadlines_of-deadlines.result a.spans c.requires c.hi_deadlines_of-deadlines.ensures in
     let most : (q : ℕ) → get_or c.args.table.now q 0 ≤ most_at_place = λ q. omega (arith, c.shared_slice_known-1.given q) in
     let summed : Summed c.args.p c.args.table.now (suc c.loop-m.m) c.add_rows-due.new.sums
     = summed_next ready most c.loop-m-test.true c.add_rows-due.new.sums c.loop-m.invariant.1 c.add_rows-due.ensures.1 c.add_rows-due.ensures.2 in
@@ -77,7 +76,7 @@ pub loop-m-preserved : goal.loop-m-preserved
 loop-m-preserved c =
     let ready : ReadyFor c.args.p c.args.table.now c.args.times.now c.hi_deadlines_of-deadlines.result c.args.spans
     = let a = c.args in
-      ready_from a.p a.table.now a.times.now c.hi_deadlines_of-deadlines.result a.spans c.requires c.hi_deadlines_of-deadlines.ensures in
+    ready_from a.p a.table.now a.times.now c.hi_deadlines_of-deadlines.result a.spans c.requires c.hi_deadlines_of-deadlines.ensures in
     let most : (q : ℕ) → get_or c.args.table.now q 0 ≤ most_at_place = λ q. omega (arith, c.shared_slice_known-1.given q) in
     let summed : Summed c.args.p c.args.table.now (suc c.loop-m.m) c.add_rows-due.new.sums
     = summed_next ready most c.loop-m-test.true c.add_rows-due.new.sums c.loop-m.invariant.1 c.add_rows-due.ensures.1 c.add_rows-due.ensures.2 in
@@ -95,16 +94,16 @@ pub found_at-requires : goal.found_at-requires
 found_at-requires c =
     let whole : Lowest c.args.p c.args.table.now (suc (intervals c.args.p)) c.loop-m.low c.loop-m.until
     = let a = c.args in
-      let end : c.loop-m.m ≡ suc (intervals a.p) = omega (arith, c.requires.1, c.loop-m-test.false, c.loop-m.invariant.0) in
-      subst (λ n. Lowest a.p a.table.now n c.loop-m.low c.loop-m.until) end c.loop-m.invariant.2 in
+    let end : c.loop-m.m ≡ suc (intervals a.p) = omega (arith, c.requires.1, c.loop-m-test.false, c.loop-m.invariant.0) in
+    subst (λ n. Lowest a.p a.table.now n c.loop-m.low c.loop-m.until) end c.loop-m.invariant.2 in
     λ h. omega (arith, (whole.there (omega (arith, c.requires.1))).0, c.requires.1, c.requires.2)
 
 pub returns : goal.returns
 returns c =
     let whole : Lowest c.args.p c.args.table.now (suc (intervals c.args.p)) c.loop-m.low c.loop-m.until
     = let a = c.args in
-      let end : c.loop-m.m ≡ suc (intervals a.p) = omega (arith, c.requires.1, c.loop-m-test.false, c.loop-m.invariant.0) in
-      subst (λ n. Lowest a.p a.table.now n c.loop-m.low c.loop-m.until) end c.loop-m.invariant.2 in
+    let end : c.loop-m.m ≡ suc (intervals a.p) = omega (arith, c.requires.1, c.loop-m-test.false, c.loop-m.invariant.0) in
+    subst (λ n. Lowest a.p a.table.now n c.loop-m.low c.loop-m.until) end c.loop-m.invariant.2 in
     let a = c.args in
     c.found_at.ensures
     ∙ ap₂ (λ t n. fault (ltb c.loop-m.low n) (below_floor_rule ∷ c.loop-m.low ∷ get_or t c.loop-m.until 0 ∷ [])) c.requires.0 c.requires.1

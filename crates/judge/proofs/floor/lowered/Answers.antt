@@ -2,10 +2,9 @@
 -- lowest violating interval, from interval l on.
 use mathlib.Core.Path.{sym, ◌∙◌, ap, ◌≡◌}
 use mathlib.Core.Bool.{cond}
-use Prim.Native.Nat.{◌+◌, ◌*◌, ◌-◌, ◌≤◌, min}
+use Prim.Native.Nat.{◌+◌, ◌*◌, ◌-◌, min}
 use native.Mathlib.Omega.{arith}
 use native.Mathlib.Nat.{mul-le-mul_right}
-use borrow.Author.Rules.{rules}
 use borrow.Author.Tests.{not-true, not-false}
 use lib.Dec.{ltb}
 use lib.ListN.{get_or}

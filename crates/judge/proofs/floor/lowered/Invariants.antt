@@ -1,21 +1,12 @@
 -- `judge::floor::lowered` meets its contract. Loop invariant: the sum and the
 -- lowest violating interval, from interval l on.
-use mathlib.Core.Path.{sym, ◌∙◌, ap, ◌≡◌}
-use mathlib.Core.Bool.{cond}
-use Prim.Native.Nat.{◌+◌, ◌*◌, ◌-◌, ◌≤◌, min}
-use native.Mathlib.Omega.{arith}
-use native.Mathlib.Nat.{mul-le-mul_right}
-use borrow.Author.Rules.{rules}
-use borrow.Author.Tests.{not-true, not-false}
-use lib.Dec.{ltb}
+use mathlib.Core.Path.{◌≡◌}
+use Prim.Native.Nat.{◌+◌, ◌*◌, ◌-◌, ◌≤◌}
 use lib.ListN.{get_or}
 use Rattle.base.specs.Sum.{sum}
-use Rattle.base.proofs.SumLaws.{sum_start}
-use Rattle.plan.specs.Edition.{most_jobs, most_intervals}
+use Rattle.plan.specs.Edition.{most_jobs}
 use Rattle.judge.specs.Inner.Widths.{most_at_place}
 use Rattle.judge.specs.Inner.Columns.{lowest, asks_more}
-use Rattle.judge.proofs.Columns.{lowest_end, column_next, lesser_is}
-use mathlib.Core.Bool.{not}
 use Rattle.judge.proofs.floor.lowered.Given as goal
 
 abbrev pub invariant-loop-l : goal.invariant-loop-l

@@ -1,16 +1,9 @@
 -- `judge::pair::hi_units` meets its contract. Loop invariant: the sum over the first i jobs.
 use mathlib.Core.Path.{sym, ◌∙◌, ap, ◌≡◌}
-use mathlib.Core.Bool.{◌&&◌}
-use Prim.Native.Nat.{◌+◌, ◌*◌, ◌-◌, ◌≤◌}
 use native.Mathlib.Omega.{arith}
-use borrow.Author.Rules.{rules}
-use lib.Dec.{leb}
-use Rattle.plan.specs.Edition.{most_intervals}
-use Rattle.plan.specs.Rules.{counted, deadline, is_hi}
-use Rattle.base.specs.Sum.{sum, on, strided}
+use Rattle.plan.specs.Rules.{counted}
+use Rattle.base.specs.Sum.{sum}
 use Rattle.base.proofs.SumLaws.{sum_start}
-use Rattle.judge.specs.Constraints.{total}
-use Rattle.judge.specs.Inner.Widths.{most_at_place}
 use Rattle.judge.proofs.RunningSums.{sum_next}
 use Rattle.judge.proofs.pair.hi_units.Goals as goal
 

@@ -1,17 +1,12 @@
 -- `judge::pair::hi_units` meets its contract. Loop invariant: the sum over the first i jobs.
-use mathlib.Core.Path.{sym, ◌∙◌, ap, ◌≡◌}
+use mathlib.Core.Path.{◌≡◌}
 use mathlib.Core.Bool.{◌&&◌}
 use Prim.Native.Nat.{◌+◌, ◌*◌, ◌-◌, ◌≤◌}
-use native.Mathlib.Omega.{arith}
-use borrow.Author.Rules.{rules}
 use lib.Dec.{leb}
 use Rattle.plan.specs.Edition.{most_intervals}
-use Rattle.plan.specs.Rules.{counted, deadline, is_hi}
+use Rattle.plan.specs.Rules.{deadline, is_hi}
 use Rattle.base.specs.Sum.{sum, on, strided}
-use Rattle.base.proofs.SumLaws.{sum_start}
-use Rattle.judge.specs.Constraints.{total}
 use Rattle.judge.specs.Inner.Widths.{most_at_place}
-use Rattle.judge.proofs.RunningSums.{sum_next}
 use Rattle.judge.proofs.pair.hi_units.Given as goal
 
 abbrev pub invariant-loop-i : goal.invariant-loop-i

@@ -1,7 +1,6 @@
 -- `judge::pair::start_of` meets its contract.
 use mathlib.Core.Path.{sym, ◌∙◌, ap}
 use native.Mathlib.Omega.{arith}
-use borrow.Author.Rules.{rules}
 use lib.ListN.{get_or, get_or-eq_default}
 use Rattle.plan.specs.Rules.{counted}
 use Rattle.plan.specs.Boundaries.{boundaries}

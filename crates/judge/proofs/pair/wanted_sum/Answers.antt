@@ -3,7 +3,6 @@ use mathlib.Core.Path.{refl}
 use Prim.Native.Nat.{◌+◌, ◌*◌}
 use native.Mathlib.Omega.{arith}
 use native.Mathlib.Nat.{mul-le-mul_right}
-use borrow.Author.Rules.{rules}
 use Rattle.base.specs.Sum.{strided}
 use Rattle.base.proofs.SumLaws.{sum_bound}
 use Rattle.judge.specs.Inner.Widths.{most_at_place}

@@ -1,13 +1,12 @@
 -- `judge::rows::add_row` meets its contract. Loop invariant: the first j numbers of the row are added.
 use mathlib.Core.Path.{refl, sym, ◌∙◌, ap}
-use Prim.Native.Nat.{◌+◌, ◌-◌, ◌≤◌}
+use Prim.Native.Nat.{◌+◌}
 use native.Mathlib.Omega.{arith}
 use native.Mathlib.Nat.{add-zero}
-use borrow.Author.Rules.{rules}
 use borrow.Author.Tests.{not-true, not-false}
 use lib.ListN.{get_or}
 use Rattle.base.specs.Sum.{on}
-use Rattle.judge.proofs.Columns.{Added, added_start, added_next}
+use Rattle.judge.proofs.Columns.{added_start, added_next}
 use mathlib.Core.Bool.{not}
 use Rattle.judge.proofs.rows.add_row.Goals as goal
 

@@ -2,14 +2,12 @@
 -- first i that are due at `time` are added.
 use mathlib.Core.Path.{refl, sym, ◌∙◌, ap, ◌≡◌}
 use mathlib.Core.Bool.{not}
-use mathlib.Core.List.{List}
-use Prim.Native.Nat.{ℕ, ◌+◌, ◌*◌, ◌-◌, ◌≤◌, ◌<◌}
+use Prim.Native.Nat.{◌+◌, ◌*◌}
 use native.Mathlib.Omega.{arith}
 use native.Mathlib.Nat.{add-zero}
-use borrow.Author.Rules.{rules}
 use lib.Dec.{eqb}
 use lib.ListN.{length, get_or}
-use Rattle.base.specs.Sum.{sum, on}
+use Rattle.base.specs.Sum.{sum}
 use Rattle.base.proofs.SumLaws.{sum_start, sum_step, sum_bound}
 use Rattle.plan.specs.Edition.{most_intervals}
 use Rattle.judge.specs.Constraints.{units}

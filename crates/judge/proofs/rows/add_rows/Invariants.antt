@@ -1,21 +1,12 @@
 -- `judge::rows::add_rows` meets its contract. Loop invariant: the rows of the jobs among the
 -- first i that are due at `time` are added.
-use mathlib.Core.Path.{refl, sym, ◌∙◌, ap, ◌≡◌}
-use mathlib.Core.Bool.{not}
+use mathlib.Core.Path.{◌≡◌}
 use mathlib.Core.List.{List}
-use Prim.Native.Nat.{ℕ, ◌+◌, ◌*◌, ◌-◌, ◌≤◌, ◌<◌}
-use native.Mathlib.Omega.{arith}
-use native.Mathlib.Nat.{add-zero}
-use borrow.Author.Rules.{rules}
+use Prim.Native.Nat.{ℕ, ◌+◌, ◌-◌, ◌≤◌, ◌<◌}
 use lib.Dec.{eqb}
 use lib.ListN.{length, get_or}
 use Rattle.base.specs.Sum.{sum, on}
-use Rattle.base.proofs.SumLaws.{sum_start, sum_step, sum_bound}
-use Rattle.plan.specs.Edition.{most_intervals}
 use Rattle.judge.specs.Constraints.{units}
-use Rattle.judge.specs.Inner.Widths.{most_at_place}
-use Rattle.base.proofs.Choice.{on_at_most}
-use Rattle.judge.proofs.Columns.{none_due}
 use Rattle.judge.proofs.rows.add_rows.Given as goal
 
 -- The units that job k has in interval j if its deadline is `time`, otherwise 0.

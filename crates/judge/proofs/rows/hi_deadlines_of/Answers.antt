@@ -1,13 +1,10 @@
 -- `judge::rows::hi_deadlines_of` meets its contract. Loop invariant:
 -- the first i numbers of the row are written.
-use mathlib.Core.Path.{refl, ◌∙◌, ap, ◌≡◌}
+use mathlib.Core.Path.{refl, ◌∙◌, ap}
 use mathlib.Core.Bool.{cond, ◌&&◌}
-use Prim.Native.Nat.{ℕ, ◌-◌, ◌≤◌, ◌<◌}
 use native.Mathlib.Omega.{arith}
-use borrow.Author.Rules.{rules}
 use lib.Dec.{ltb}
-use lib.ListN.{length, get_or, length-set}
-use Rattle.plan.specs.Edition.{most_jobs}
+use lib.ListN.{length-set}
 use Rattle.plan.specs.Rules.{deadline, is_hi}
 use Rattle.judge.specs.Inner.Columns.{never, hi_deadline}
 use Rattle.judge.proofs.Columns.{stands_next}

@@ -1,16 +1,10 @@
 -- `judge::rows::hi_deadlines_of` meets its contract. Loop invariant:
 -- the first i numbers of the row are written.
-use mathlib.Core.Path.{refl, ◌∙◌, ap, ◌≡◌}
-use mathlib.Core.Bool.{cond, ◌&&◌}
+use mathlib.Core.Path.{◌≡◌}
 use Prim.Native.Nat.{ℕ, ◌-◌, ◌≤◌, ◌<◌}
-use native.Mathlib.Omega.{arith}
-use borrow.Author.Rules.{rules}
-use lib.Dec.{ltb}
-use lib.ListN.{length, get_or, length-set}
+use lib.ListN.{length, get_or}
 use Rattle.plan.specs.Edition.{most_jobs}
-use Rattle.plan.specs.Rules.{deadline, is_hi}
-use Rattle.judge.specs.Inner.Columns.{never, hi_deadline}
-use Rattle.judge.proofs.Columns.{stands_next}
+use Rattle.judge.specs.Inner.Columns.{hi_deadline}
 use Rattle.judge.proofs.rows.hi_deadlines_of.Given as goal
 
 abbrev pub invariant-loop-i : goal.invariant-loop-i

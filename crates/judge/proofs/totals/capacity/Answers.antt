@@ -3,7 +3,6 @@ use mathlib.Core.Path.{◌∙◌, ap, ◌≡◌}
 use Prim.Native.Nat.{◌*◌, ◌-◌}
 use native.Mathlib.Omega.{arith}
 use native.Mathlib.Nat.{mul-le-mul}
-use borrow.Author.Rules.{rules}
 use Rattle.plan.specs.declared.kinds.Units.{Units}
 use Rattle.plan.specs.declared.kinds.Slots.{Slots}
 use Rattle.judge.proofs.totals.capacity.Goals as goal

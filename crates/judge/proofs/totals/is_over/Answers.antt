@@ -1,9 +1,7 @@
 -- `judge::totals::is_over` meets its contract: a column is a sum with the row width as its stride.
 use mathlib.Core.Path.{◌∙◌, ap, ap₂}
 use Prim.Native.Nat.{◌*◌}
-use native.Mathlib.Omega.{arith}
 use native.Mathlib.Nat.{add_comm}
-use borrow.Author.Rules.{rules}
 use lib.Dec.{ltb}
 use lib.ListN.{get_or}
 use Rattle.plan.specs.Edition.{most_intervals}

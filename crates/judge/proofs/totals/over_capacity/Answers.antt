@@ -2,16 +2,10 @@
 -- invariant: rule 17 holds in the first j intervals.
 use mathlib.Core.Path.{sym, ◌∙◌, ap, ◌≡◌}
 use mathlib.Core.List.{[], ◌∷◌}
-use Prim.Native.Nat.{suc, ◌*◌, ◌-◌, ◌≤◌}
 use native.Mathlib.Numerals.{add-one}
 use native.Mathlib.Omega.{arith}
-use borrow.Author.Rules.{rules}
-use lib.Dec.{ltb}
-use lib.ListN.{get_or}
 use Rattle.plan.specs.Refusal.{over_capacity}
-use Rattle.base.specs.Sum.{sum}
-use Rattle.plan.specs.Report.{first, fault}
-use Rattle.judge.specs.Constraints.{units}
+use Rattle.plan.specs.Report.{fault}
 use Rattle.plan.proofs.Reports.{first_start, first_next, found_here}
 use Rattle.judge.proofs.totals.over_capacity.Goals as goal
 
@@ -37,12 +31,11 @@ loop-j-smaller c =
     omega (arith, c.loop-j-test.true)
 
 pub loop-j-preserved : goal.loop-j-preserved
-loop-j-preserved c =
-    (
-      omega (arith, c.loop-j-test.true),
-      first_next _ c.loop-j.j c.loop-j.invariant.1
-          (ap (λ b. fault b (over_capacity ∷ c.loop-j.j ∷ [])) (sym (rw add-one at c.is_over-over.ensures) ∙ c.if-over.false)),
-    )
+loop-j-preserved c = (
+  omega (arith, c.loop-j-test.true),
+  first_next _ c.loop-j.j c.loop-j.invariant.1
+      (ap (λ b. fault b (over_capacity ∷ c.loop-j.j ∷ [])) (sym (rw add-one at c.is_over-over.ensures) ∙ c.if-over.false)),
+)
 
 pub returns : goal.returns
 returns c =

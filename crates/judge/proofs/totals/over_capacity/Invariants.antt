@@ -1,18 +1,14 @@
 -- `judge::totals::over_capacity` meets its contract. Loop
 -- invariant: rule 17 holds in the first j intervals.
-use mathlib.Core.Path.{sym, ◌∙◌, ap, ◌≡◌}
+use mathlib.Core.Path.{◌≡◌}
 use mathlib.Core.List.{[], ◌∷◌}
 use Prim.Native.Nat.{suc, ◌*◌, ◌-◌, ◌≤◌}
-use native.Mathlib.Numerals.{add-one}
-use native.Mathlib.Omega.{arith}
-use borrow.Author.Rules.{rules}
 use lib.Dec.{ltb}
 use lib.ListN.{get_or}
 use Rattle.plan.specs.Refusal.{over_capacity}
 use Rattle.base.specs.Sum.{sum}
 use Rattle.plan.specs.Report.{first, fault}
 use Rattle.judge.specs.Constraints.{units}
-use Rattle.plan.proofs.Reports.{first_start, first_next, found_here}
 use Rattle.judge.proofs.totals.over_capacity.Given as goal
 
 abbrev pub invariant-loop-j : goal.invariant-loop-j

@@ -2,21 +2,19 @@
 use mathlib.Core.Path.{sym, ◌∙◌, ap, ◌≡◌}
 use mathlib.Core.Bool.{not}
 use mathlib.Core.List.{[], ◌∷◌}
-use Prim.Native.Nat.{◌-◌, ◌≤◌, ℕ, ◌+◌, ◌*◌}
+use Prim.Native.Nat.{ℕ, ◌+◌, ◌*◌}
 use native.Mathlib.Omega.{arith}
-use borrow.Author.Rules.{rules}
 use borrow.Author.Tests.{eq-eqb, ne_eqb}
-use lib.Dec.{eqb}
 use lib.ListN.{get_or}
 use Rattle.base.specs.Sum.{sum}
 use Rattle.base.proofs.SumLaws.{sum_ext}
 use Rattle.plan.specs.Refusal.{wrong_total}
-use Rattle.plan.specs.Rules.{counted, size}
+use Rattle.plan.specs.Rules.{counted}
 use Rattle.plan.proofs.BoundaryOrder.{boundaries_few}
 use Rattle.plan.specs.Edition.{most_intervals}
 use Rattle.plan.specs.Boundaries.{intervals}
 use Rattle.judge.specs.Verdict.{total_fault}
-use Rattle.plan.specs.Report.{first, fault}
+use Rattle.plan.specs.Report.{fault}
 use Rattle.judge.specs.Constraints.{total}
 use Rattle.plan.proofs.Reports.{first_start, first_next, found_here}
 use Rattle.judge.proofs.totals.wrong_total.Goals as goal
@@ -37,8 +35,8 @@ unfolding total_fault
 returns-then-total-size c =
     let summed : c.sum_of.result ≡ total c.args.p c.args.table.now c.loop-i.i
     = let a = c.args in
-      c.sum_of.ensures ∙ ap (sum _) c.requires
-      ∙ sum_ext _ _ (intervals a.p) (λ k l. ap (λ q. get_or a.table.now q 0) (summed_place_of c.loop-i.i k)) in
+    c.sum_of.ensures ∙ ap (sum _) c.requires
+    ∙ sum_ext _ _ (intervals a.p) (λ k l. ap (λ q. get_or a.table.now q 0) (summed_place_of c.loop-i.i k)) in
     found_here _ _ _ _ _ c.loop-i.invariant.1 (omega (arith, c.loop-i-test.true, c.counted_of-jobs.ensures))
     (ap (λ b. fault (not b) (wrong_total ∷ c.loop-i.i ∷ [])) (ne_eqb _ _ (λ e. c.if-total-size.true (summed ∙ e))))
 
@@ -50,9 +48,8 @@ pub loop-i-preserved : goal.loop-i-preserved
 loop-i-preserved c =
     let summed : c.sum_of.result ≡ total c.args.p c.args.table.now c.loop-i.i
     = let a = c.args in
-      c.sum_of.ensures ∙ ap (sum _) c.requires
-      ∙ sum_ext _ _ (intervals a.p) (λ k l. ap (λ q. get_or a.table.now q 0) (summed_place_of c.loop-i.i k)) in
-    (
+    c.sum_of.ensures ∙ ap (sum _) c.requires
+    ∙ sum_ext _ _ (intervals a.p) (λ k l. ap (λ q. get_or a.table.now q 0) (summed_place_of c.loop-i.i k)) in (
       omega (arith, c.loop-i-test.true),
       first_next _ c.loop-i.i c.loop-i.invariant.1
           (ap (λ b. fault (not b) (wrong_total ∷ c.loop-i.i ∷ [])) (eq-eqb _ _ (sym summed ∙ c.if-total-size.false))),

@@ -3,9 +3,8 @@
 use mathlib.Core.Path.{ap₂, refl, sym, ◌∙◌, ◌≡◌}
 use mathlib.Core.Bool.{Bool, not, ◌||◌}
 use mathlib.Core.List.{[], ◌∷◌, List}
-use Prim.Native.Nat.{◌-◌, ◌≤◌, ℕ}
+use Prim.Native.Nat.{ℕ}
 use native.Mathlib.Omega.{arith}
-use borrow.Author.Rules.{rules}
 use borrow.Author.Tests.{not-true, not-false}
 use lib.Dec.{eqb}
 use Rattle.plan.specs.Refusal.{outside_window}

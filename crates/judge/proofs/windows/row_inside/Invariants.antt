@@ -1,16 +1,11 @@
 -- `judge::windows::row_inside` meets its contract. Loop invariant: `inside` says
 -- whether rule 15 holds in the first j intervals.
-use mathlib.Core.Path.{sym, ◌∙◌, ap, ◌≡◌}
+use mathlib.Core.Path.{◌≡◌}
 use mathlib.Core.Bool.{◌||◌}
 use Prim.Native.Nat.{◌+◌, ◌-◌, ◌≤◌}
-use native.Mathlib.Numerals.{add-one}
-use native.Mathlib.Omega.{arith}
-use borrow.Author.Rules.{rules}
 use lib.Dec.{eqb}
 use lib.ListN.{get_or}
 use Rattle.base.specs.Below.{every}
-use Rattle.plan.specs.Rules.{release, deadline}
-use Rattle.base.proofs.Below.{every_start, every_next}
 use Rattle.judge.specs.Constraints.{within}
 use Rattle.judge.proofs.windows.row_inside.Given as goal
 

@@ -1,5 +1,4 @@
 -- `lines::pieces::add` meets its contract: there is room for the text.
-use borrow.Author.Rules.{rules}
 use Rattle.text.proofs.Growth.{adds_grown}
 use Rattle.lines.proofs.pieces.add.Goals as goal
 

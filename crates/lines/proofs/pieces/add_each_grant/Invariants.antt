@@ -1,14 +1,10 @@
 -- `lines::pieces::add_each_grant` meets its contract. Loop invariant: the
 -- grants of the first i jobs are appended.
-use mathlib.Core.Path.{◌≡◌, sym, ap}
+use mathlib.Core.Path.{◌≡◌}
 use Prim.Native.Nat.{◌+◌, ◌*◌, ◌-◌, ◌≤◌}
-use native.Mathlib.Omega.{arith}
-use borrow.Author.Rules.{rules}
-use Rattle.plan.specs.Rules.{name, counted}
+use Rattle.plan.specs.Rules.{counted}
 use Rattle.text.specs.Inner.Growth.{Grown}
-use Rattle.lines.specs.Lines.{grants_text, grant_text, grant_bytes}
-use Rattle.lines.proofs.Grants.{grants_start, grants_next}
-use Rattle.text.proofs.Growth.{grown_by_none, grown_twice, grown_same}
+use Rattle.lines.specs.Lines.{grants_text, grant_bytes}
 use Rattle.lines.proofs.pieces.add_each_grant.Given as goal
 
 abbrev pub invariant-loop-i : goal.invariant-loop-i

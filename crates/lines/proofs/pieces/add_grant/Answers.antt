@@ -1,7 +1,6 @@
 -- `lines::pieces::add_grant` meets its contract, piece by piece; a grant of 0 appends nothing.
 use native.Mathlib.Omega.{arith}
 use borrow.Author.Tests.{eq-eqb, ne_eqb}
-use borrow.Author.Rules.{rules}
 use Rattle.text.proofs.Growth.{grown_by_none, grown_twice}
 use Rattle.lines.proofs.pieces.add_grant.Goals as goal
 

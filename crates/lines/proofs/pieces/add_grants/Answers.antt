@@ -1,6 +1,5 @@
 -- `lines::pieces::add_grants` meets its contract: the grants, or a dash.
 use native.Mathlib.Omega.{arith}
-use borrow.Author.Rules.{rules}
 use Rattle.plan.specs.Rules.{counted}
 use Rattle.lines.specs.Lines.{grants_text}
 use Rattle.lines.proofs.Grants.{dash_for_none, kept_for_some}

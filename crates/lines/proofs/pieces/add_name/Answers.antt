@@ -1,5 +1,4 @@
 -- `lines::pieces::add_name` meets its contract: there is room for the name.
-use borrow.Author.Rules.{rules}
 use Rattle.text.proofs.Growth.{adds_grown}
 use Rattle.lines.proofs.pieces.add_name.Goals as goal
 

@@ -1,6 +1,5 @@
 -- `lines::pieces::add_number` meets its contract: there is room for as many digits as a 32-bit number can have.
 use native.Mathlib.Omega.{arith}
-use borrow.Author.Rules.{rules}
 use Rattle.text.proofs.Decimal.{decimal_length}
 use Rattle.text.proofs.Growth.{adds_grown}
 use Rattle.lines.proofs.pieces.add_number.Goals as goal

@@ -1,6 +1,5 @@
 -- `lines::pieces::add_times` meets its contract, piece by piece.
 use native.Mathlib.Omega.{arith}
-use borrow.Author.Rules.{rules}
 use Rattle.text.proofs.Growth.{grown_twice}
 use Rattle.lines.proofs.pieces.add_times.Goals as goal
 

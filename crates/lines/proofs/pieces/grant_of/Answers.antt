@@ -1,6 +1,5 @@
 -- `lines::pieces::grant_of` meets its contract: past its end a row reads as 0.
 use mathlib.Core.Path.{sym}
-use borrow.Author.Rules.{rules}
 use lib.ListN.{get_or-eq_default}
 use Rattle.lines.proofs.pieces.grant_of.Goals as goal
 

@@ -1,6 +1,5 @@
 -- `meter::reading::are_finite` meets its contract.
 use mathlib.Core.Path.{refl}
-use borrow.Author.Rules.{rules}
 use Rattle.meter.proofs.reading.are_finite.Goals as goal
 
 pub returns : goal.returns

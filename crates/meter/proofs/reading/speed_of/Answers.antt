@@ -1,7 +1,6 @@
 -- `meter::reading::speed_of` meets its contract.
 use mathlib.Core.Path.{◌≡◌, sym, ◌∙◌}
 use mathlib.Core.Bool.{true}
-use borrow.Author.Rules.{rules}
 use Rattle.fields.proofs.ParserLaws.{failed, held}
 use Rattle.meter.specs.Speed.{normal_allowed, are_finite}
 use Rattle.meter.proofs.SpeedLaws.{told_rate, told_no_number, told_of_numbers}

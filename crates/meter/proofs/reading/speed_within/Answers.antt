@@ -1,7 +1,6 @@
 -- `meter::reading::speed_within` meets its contract.
 use mathlib.Core.Path.{sym, ◌∙◌, ap}
 use mathlib.Core.Bool.{Bool, cond}
-use borrow.Author.Rules.{rules}
 use lib.Ieee.Scale.{finite}
 use Rattle.base.proofs.Logic.{and_right}
 use Rattle.plan.specs.Refusal.{wrong_lowest}

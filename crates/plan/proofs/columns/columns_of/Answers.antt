@@ -1,17 +1,11 @@
 -- `plan::columns::columns_of` meets its contract: after i iterations the columns hold the first i jobs,
 -- and `bits` has room in 32 bits exactly when their sizes have.
 use mathlib.Core.Path.{◌≡◌, refl, sym, ◌∙◌}
-use Prim.Native.Nat.{◌-◌, ◌≤◌}
 use native.Mathlib.Omega.{arith}
-use borrow.Author.Rules.{rules}
-use lib.Dec.{ltb}
-use Rattle.base.specs.Below.{every}
-use Rattle.base.specs.Fill.{filled}
 use Rattle.base.proofs.Below.{every_start, every_next}
 use Rattle.base.proofs.BitLaws.{or_below}
 use Rattle.base.proofs.FillLaws.{filled_start, filled_next}
-use Rattle.plan.specs.Rules.{job_of, release, size, deadline, counted}
-use Rattle.plan.specs.Columns.{column_values, in_column}
+use Rattle.plan.specs.Rules.{size, counted}
 use Rattle.plan.proofs.columns.columns_of.Goals as goal
 
 pub loop-i-init : goal.loop-i-init

@@ -2,11 +2,9 @@
 -- after i iterations `holds` is the rule over the first i jobs.
 use mathlib.Core.Path.{◌≡◌, sym, ◌∙◌, ap, ap₂}
 use mathlib.Core.Bool.{◌&&◌}
-use Prim.Native.Nat.{◌-◌, ◌≤◌}
 use native.Mathlib.Omega.{arith}
-use borrow.Author.Rules.{rules}
 use Rattle.base.specs.Below.{every}
-use Rattle.plan.specs.Rules.{bounds_hold, window_allowed, size_allowed, job_of, counted}
+use Rattle.plan.specs.Rules.{bounds_hold, counted}
 use Rattle.base.proofs.Below.{every_start, every_next}
 use Rattle.plan.proofs.rules.bounds_hold.Goals as goal
 
@@ -15,8 +13,7 @@ loop-i-init c =
     (omega arith, sym (every_start _))
 
 pub loop-i-preserved : goal.loop-i-preserved
-loop-i-preserved c =
-    (
+loop-i-preserved c = (
   omega arith,
   every_next _ c.loop-i.i c.loop-i.invariant.1
       (ap₂ ◌&&◌ c.window_allowed.ensures c.size_allowed.ensures),

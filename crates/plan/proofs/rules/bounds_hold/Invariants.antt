@@ -1,13 +1,10 @@
 -- `plan::rules::bounds_hold` meets its contract:
 -- after i iterations `holds` is the rule over the first i jobs.
-use mathlib.Core.Path.{◌≡◌, sym, ◌∙◌, ap, ap₂}
+use mathlib.Core.Path.{◌≡◌}
 use mathlib.Core.Bool.{◌&&◌}
 use Prim.Native.Nat.{◌-◌, ◌≤◌}
-use native.Mathlib.Omega.{arith}
-use borrow.Author.Rules.{rules}
 use Rattle.base.specs.Below.{every}
-use Rattle.plan.specs.Rules.{bounds_hold, window_allowed, size_allowed, job_of, counted}
-use Rattle.base.proofs.Below.{every_start, every_next}
+use Rattle.plan.specs.Rules.{window_allowed, size_allowed, job_of}
 use Rattle.plan.proofs.rules.bounds_hold.Given as goal
 
 abbrev pub invariant-loop-i : goal.invariant-loop-i

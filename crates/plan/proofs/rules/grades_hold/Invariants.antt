@@ -1,12 +1,9 @@
 -- `plan::rules::grades_hold` meets its contract:
 -- after i iterations `holds` is the rule over the first i jobs.
-use mathlib.Core.Path.{◌≡◌, sym, ◌∙◌, ap}
+use mathlib.Core.Path.{◌≡◌}
 use Prim.Native.Nat.{◌-◌, ◌≤◌}
-use native.Mathlib.Omega.{arith}
-use borrow.Author.Rules.{rules}
 use Rattle.base.specs.Below.{every}
-use Rattle.plan.specs.Rules.{grades_hold, grade_allowed, job_of, counted}
-use Rattle.base.proofs.Below.{every_start, every_next}
+use Rattle.plan.specs.Rules.{grade_allowed, job_of}
 use Rattle.plan.proofs.rules.grades_hold.Given as goal
 
 abbrev pub invariant-loop-i : goal.invariant-loop-i

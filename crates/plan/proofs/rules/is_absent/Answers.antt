@@ -1,12 +1,8 @@
 -- `plan::rules::is_absent` meets its contract:
 -- after k iterations `absent` says whether none of the first k numbers is x.
 use mathlib.Core.Path.{◌≡◌, refl, sym, ◌∙◌, ap}
-use mathlib.Core.Bool.{not}
-use Prim.Native.Nat.{◌-◌, ◌≤◌}
 use native.Mathlib.Omega.{arith}
-use borrow.Author.Rules.{rules}
-use lib.Dec.{eqb}
-use lib.ListN.{length, get_or}
+use lib.ListN.{length}
 use Rattle.base.specs.Below.{every}
 use Rattle.plan.specs.Rules.{is_absent}
 use Rattle.base.proofs.Below.{every_start, every_next}

@@ -1,15 +1,11 @@
 -- `plan::rules::is_absent` meets its contract:
 -- after k iterations `absent` says whether none of the first k numbers is x.
-use mathlib.Core.Path.{◌≡◌, refl, sym, ◌∙◌, ap}
+use mathlib.Core.Path.{◌≡◌}
 use mathlib.Core.Bool.{not}
 use Prim.Native.Nat.{◌-◌, ◌≤◌}
-use native.Mathlib.Omega.{arith}
-use borrow.Author.Rules.{rules}
 use lib.Dec.{eqb}
 use lib.ListN.{length, get_or}
 use Rattle.base.specs.Below.{every}
-use Rattle.plan.specs.Rules.{is_absent}
-use Rattle.base.proofs.Below.{every_start, every_next}
 use Rattle.plan.proofs.rules.is_absent.Given as goal
 
 abbrev pub invariant-loop-k : goal.invariant-loop-k

@@ -1,16 +1,11 @@
 -- `plan::rules::name_allowed` meets its contract: after k iterations `allowed` is the test
 -- of the lowest k bytes, and `rest` is the name without them.
-use mathlib.Core.Path.{◌≡◌, refl, sym, ◌∙◌, ap}
+use mathlib.Core.Path.{◌≡◌}
 use mathlib.Core.Bool.{◌&&◌}
-use Prim.Native.Nat.{ℕ, ◌+◌, ◌-◌, ◌/◌, ◌^◌, ◌≤◌}
-use native.Mathlib.Nat.{div-one, div-div-eq-div-mul, pow-suc}
-use native.Mathlib.Numerals.{add-one}
-use native.Mathlib.Omega.{arith}
-use borrow.Author.Rules.{rules}
+use Prim.Native.Nat.{◌-◌, ◌/◌, ◌^◌, ◌≤◌}
 use lib.Dec.{leb}
 use Rattle.base.specs.Below.{every}
-use Rattle.plan.specs.Rules.{name_allowed, byte_of}
-use Rattle.base.proofs.Below.{every_start, every_next}
+use Rattle.plan.specs.Rules.{byte_of}
 use Rattle.plan.proofs.rules.name_allowed.Given as goal
 
 abbrev pub invariant-loop-k : goal.invariant-loop-k

@@ -1,11 +1,7 @@
 -- `plan::rules::names_differ` meets its contract:
 -- after i iterations `differ` says whether the first i names are pairwise different.
 use mathlib.Core.Path.{◌≡◌, refl, sym, ◌∙◌, ap}
-use mathlib.Core.Bool.{not}
-use Prim.Native.Nat.{◌-◌, ◌≤◌}
 use native.Mathlib.Omega.{arith}
-use borrow.Author.Rules.{rules}
-use lib.Dec.{eqb}
 use lib.ListN.{length, get_or}
 use lib.Seq.{length-take-le}
 use Rattle.plan.specs.Edition.{most_jobs}

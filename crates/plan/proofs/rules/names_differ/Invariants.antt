@@ -1,18 +1,11 @@
 -- `plan::rules::names_differ` meets its contract:
 -- after i iterations `differ` says whether the first i names are pairwise different.
-use mathlib.Core.Path.{◌≡◌, refl, sym, ◌∙◌, ap}
+use mathlib.Core.Path.{◌≡◌}
 use mathlib.Core.Bool.{not}
 use Prim.Native.Nat.{◌-◌, ◌≤◌}
-use native.Mathlib.Omega.{arith}
-use borrow.Author.Rules.{rules}
 use lib.Dec.{eqb}
-use lib.ListN.{length, get_or}
-use lib.Seq.{length-take-le}
-use Rattle.plan.specs.Edition.{most_jobs}
+use lib.ListN.{get_or}
 use Rattle.base.specs.Below.{every}
-use Rattle.plan.specs.Rules.{names_differ, counted}
-use Rattle.plan.proofs.Names.{name_at_lem, absent_before}
-use Rattle.base.proofs.Below.{every_start, every_next, every_ext}
 use Rattle.plan.proofs.rules.names_differ.Given as goal
 
 abbrev pub invariant-loop-i : goal.invariant-loop-i

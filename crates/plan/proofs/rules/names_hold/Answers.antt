@@ -1,11 +1,9 @@
 -- `plan::rules::names_hold` meets its contract:
 -- after i iterations `holds` is the rule over the first i jobs.
 use mathlib.Core.Path.{◌≡◌, sym, ◌∙◌, ap}
-use Prim.Native.Nat.{◌-◌, ◌≤◌}
 use native.Mathlib.Omega.{arith}
-use borrow.Author.Rules.{rules}
 use Rattle.base.specs.Below.{every}
-use Rattle.plan.specs.Rules.{names_hold, name_allowed, job_of, counted}
+use Rattle.plan.specs.Rules.{names_hold, counted}
 use Rattle.base.proofs.Below.{every_start, every_next}
 use Rattle.plan.proofs.rules.names_hold.Goals as goal
 

@@ -1,18 +1,12 @@
 -- `plan::rules::names_of` meets its contract: after i iterations the first i entries are the names
 -- of the first i jobs, and the others are 0.
-use mathlib.Core.Path.{◌≡◌, refl, sym, ◌∙◌, ap}
+use mathlib.Core.Path.{◌≡◌}
 use mathlib.Core.List.{List}
-use Prim.Native.Nat.{ℕ, ◌+◌, ◌-◌, ◌≤◌, ◌<◌}
-use native.Mathlib.Omega.{arith}
-use borrow.Author.Rules.{rules}
-use lib.ListN.{length, get_or, set, length-map, length-set}
-use lib.Seq.{get_or-set_same, get_or-set_other, ext_get_or}
-use Rattle.base.proofs.Logic.{if_same, if_less}
-use Rattle.base.proofs.Padding.{get_d_replicate}
+use Prim.Native.Nat.{ℕ, ◌-◌, ◌≤◌, ◌<◌}
+use lib.ListN.{length, get_or}
 use Rattle.plan.specs.Edition.{most_jobs}
-use Rattle.plan.specs.Rules.{names, name, counted}
+use Rattle.plan.specs.Rules.{name}
 use Rattle.plan.specs.declared.kinds.Plan.{Plan}
-use Rattle.plan.proofs.Names.{name_at_lem, name_past, names_long}
 use Rattle.plan.proofs.rules.names_of.Given as goal
 
 -- The first i entries of a row are the names of the first i jobs, and the others are 0.

@@ -1,5 +1,4 @@
 -- `plan::rules::plan_jobs_hold` meets its contract: each conjunct is the rule over the plan's jobs.
-use borrow.Author.Rules.{rules}
 use Rattle.plan.proofs.rules.plan_jobs_hold.Goals as goal
 
 pub returns : goal.returns

@@ -1,5 +1,4 @@
 -- `plan::rules::rules_hold` meets its contract: rule 4, and the rules over the plan's jobs.
-use borrow.Author.Rules.{rules}
 use Rattle.plan.specs.Rules.{rules_hold}
 use Rattle.plan.proofs.rules.rules_hold.Goals as goal
 

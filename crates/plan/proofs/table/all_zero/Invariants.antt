@@ -1,14 +1,10 @@
 -- `plan::table::all_zero` meets its contract:
 -- at index q, `zero` says whether the entries from `start` up to q are 0.
-use mathlib.Core.Path.{◌≡◌, sym, ◌∙◌, ap}
+use mathlib.Core.Path.{◌≡◌}
 use Prim.Native.Nat.{◌+◌, ◌-◌, ◌≤◌}
-use native.Mathlib.Omega.{arith}
-use borrow.Author.Rules.{rules}
 use lib.Dec.{eqb}
 use lib.ListN.{get_or}
 use Rattle.base.specs.Below.{every}
-use Rattle.base.proofs.Below.{every_start, every_next}
-use Rattle.plan.proofs.Stray.{zero_past}
 use Rattle.plan.proofs.table.all_zero.Given as goal
 
 abbrev pub invariant-loop-q : goal.invariant-loop-q

@@ -2,11 +2,10 @@
 -- after i iterations `clear` says whether the first i rows are 0 after the intervals.
 use mathlib.Core.Path.{◌≡◌, sym, ◌∙◌, ap, ap₂}
 use mathlib.Core.Bool.{◌&&◌}
-use Prim.Native.Nat.{◌+◌, ◌*◌, ◌-◌, ◌≤◌}
+use Prim.Native.Nat.{◌+◌, ◌*◌, ◌-◌}
 use native.Mathlib.Omega.{arith}
-use borrow.Author.Rules.{rules}
-use lib.Dec.{lit<, eqb}
-use lib.ListN.{get_or, take}
+use lib.Dec.{lit<}
+use lib.ListN.{take}
 use Rattle.plan.specs.Edition.{most_jobs, most_intervals, places}
 use Rattle.base.specs.Below.{every}
 use Rattle.plan.specs.Table.{no_stray}

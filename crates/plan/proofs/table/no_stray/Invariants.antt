@@ -1,17 +1,11 @@
 -- `plan::table::no_stray` meets its contract:
 -- after i iterations `clear` says whether the first i rows are 0 after the intervals.
-use mathlib.Core.Path.{◌≡◌, sym, ◌∙◌, ap, ap₂}
-use mathlib.Core.Bool.{◌&&◌}
+use mathlib.Core.Path.{◌≡◌}
 use Prim.Native.Nat.{◌+◌, ◌*◌, ◌-◌, ◌≤◌}
-use native.Mathlib.Omega.{arith}
-use borrow.Author.Rules.{rules}
-use lib.Dec.{lit<, eqb}
-use lib.ListN.{get_or, take}
-use Rattle.plan.specs.Edition.{most_jobs, most_intervals, places}
+use lib.Dec.{eqb}
+use lib.ListN.{get_or}
+use Rattle.plan.specs.Edition.{most_intervals}
 use Rattle.base.specs.Below.{every}
-use Rattle.plan.specs.Table.{no_stray}
-use Rattle.base.proofs.Below.{every_start, every_next}
-use Rattle.plan.proofs.Stray.{stray_parts}
 use Rattle.plan.proofs.table.no_stray.Given as goal
 
 abbrev pub invariant-loop-i : goal.invariant-loop-i

@@ -1,6 +1,5 @@
 -- `plan::table::sound_within` meets its contract: soundness is the rules and no stray place.
 use native.Mathlib.Omega.{arith}
-use borrow.Author.Rules.{rules}
 use Rattle.plan.proofs.table.sound_within.Goals as goal
 
 pub no_stray-requires : goal.no_stray-requires

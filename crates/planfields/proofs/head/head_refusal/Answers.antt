@@ -1,6 +1,5 @@
 -- `planfields::head::head_refusal` meets its contract.
 use mathlib.Core.Path.{refl}
-use borrow.Author.Rules.{rules}
 use Rattle.planfields.proofs.head.head_refusal.Goals as goal
 
 pub returns-in-Head : goal.returns-in-Head

@@ -2,7 +2,6 @@
 use Rattle.planfields.proofs.HeadLaws.{head_unopened, head_no_normal, head_no_floor, head_rates, head_no_count, head_count_refused, head_whole}
 use mathlib.Core.Path.{refl}
 use native.Mathlib.Omega.{arith}
-use borrow.Author.Rules.{rules}
 use Rattle.fields.specs.Answers.{field_view, field_refusal, is_compared}
 use Rattle.fields.proofs.ParserLaws.{so, small, refused, failed, held}
 use mathlib.Core.Path.{ap}

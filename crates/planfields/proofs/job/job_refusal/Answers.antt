@@ -1,6 +1,5 @@
 -- `planfields::job::job_refusal` meets its contract.
 use mathlib.Core.Path.{refl}
-use borrow.Author.Rules.{rules}
 use Rattle.planfields.proofs.job.job_refusal.Goals as goal
 
 pub returns-in-Job : goal.returns-in-Job

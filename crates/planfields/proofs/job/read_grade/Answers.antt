@@ -1,6 +1,5 @@
 -- `planfields::job::read_grade` meets its contract.
 use native.Mathlib.Omega.{arith}
-use borrow.Author.Rules.{rules}
 use lib.Dec.{lit<}
 use Rattle.fields.specs.Answers.{field_view}
 use Rattle.fields.proofs.ParserLaws.{so, small, failed, held}

@@ -3,7 +3,6 @@ use Rattle.planfields.proofs.HeadLaws.{job_bounds, job_whole}
 use mathlib.Core.Path.{refl, ap₂}
 use mathlib.Core.Bool.{◌&&◌}
 use native.Mathlib.Omega.{arith}
-use borrow.Author.Rules.{rules}
 use Rattle.fields.specs.Answers.{field_view, field_refusal}
 use Rattle.planfields.specs.Records.{one_job}
 use Rattle.fields.proofs.ParserLaws.{so, small, refused, failed, held}

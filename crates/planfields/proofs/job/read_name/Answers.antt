@@ -1,6 +1,5 @@
 -- `planfields::job::read_name` meets its contract.
 use mathlib.Core.Path.{refl}
-use borrow.Author.Rules.{rules}
 use Rattle.fields.specs.Answers.{field_view, passed_view, passed_refusal}
 use Rattle.planfields.specs.Records.{job_name}
 use Rattle.fields.proofs.ParserLaws.{so, refused, failed, held}

@@ -1,6 +1,5 @@
 -- `planfields::numbers::read_interval` meets its contract.
 use borrow.Author.Tests.{le-ltb, lt-ltb}
-use borrow.Author.Rules.{rules}
 use lib.Dec.{lit<}
 use Rattle.fields.specs.Answers.{field_view}
 use Rattle.fields.proofs.ParserLaws.{so, small}

@@ -1,5 +1,4 @@
 -- `planfields::numbers::read_row_count` meets its contract.
-use borrow.Author.Rules.{rules}
 use Rattle.fields.specs.Answers.{field_view}
 use Rattle.fields.proofs.ParserLaws.{so, failed, held}
 use mathlib.Core.Path.{ap}

@@ -1,6 +1,5 @@
 -- `planfields::numbers::read_units` meets its contract.
 use borrow.Author.Tests.{eq-eqb, ne_eqb}
-use borrow.Author.Rules.{rules}
 use lib.Dec.{lit<}
 use Rattle.fields.specs.Answers.{field_view}
 use Rattle.fields.proofs.ParserLaws.{so, small}

@@ -1,5 +1,4 @@
 -- `planfile::lookup::count_in` meets its contract: `fill` reads the plan, whatever table it is lent.
-use borrow.Author.Rules.{rules}
 use Rattle.planfile.specs.Reader.{read_file}
 use Rattle.planfile.proofs.WholeFile.{count_read, count_refused}
 use Rattle.planfile.proofs.lookup.count_in.Goals as goal

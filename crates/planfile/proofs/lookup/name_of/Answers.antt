@@ -2,7 +2,6 @@
 use mathlib.Core.Path.{◌≡◌, sym, ◌∙◌, ap, ap₂}
 use Prim.Native.Nat.{◌+◌, ◌-◌, ◌≤◌, ◌<◌}
 use native.Mathlib.Omega.{arith}
-use borrow.Author.Rules.{rules}
 use lib.ListN.{length, take, drop}
 use Rattle.planfields.specs.Layout.{name_at}
 use Rattle.planfile.specs.Reader.{read_file, name_found, name_shown}
@@ -24,9 +23,9 @@ pub overflow_add-result : goal.overflow_add-result
 unfolding name_found
 overflow_add-result c =
     let below : c.args.position < count_of (read_file c.args.file.now) = let a = c.args in
-      found_below (read_file a.file.now) a.position (λ e. c.if-from-eq0.false (c.name_at-from.ensures ∙ e)) in
+    found_below (read_file a.file.now) a.position (λ e. c.if-from-eq0.false (c.name_at-from.ensures ∙ e)) in
     let from_is : c.name_at-from.result ≡ name_at c.args.position = let a = c.args in
-      c.name_at-from.ensures ∙ found_name (read_file a.file.now) a.position below in
+    c.name_at-from.ensures ∙ found_name (read_file a.file.now) a.position below in
     let inside : name_at c.args.position + 8 ≤ length c.args.file.now = let a = c.args in shown_inside a.file.now a.position below in
     record { fits = omega (arith, inside, from_is) }
 
@@ -34,9 +33,9 @@ pub slice_bounds-result-end-2 : goal.slice_bounds-result-end-2
 unfolding name_found
 slice_bounds-result-end-2 c =
     let below : c.args.position < count_of (read_file c.args.file.now) = let a = c.args in
-      found_below (read_file a.file.now) a.position (λ e. c.if-from-eq0.false (c.name_at-from.ensures ∙ e)) in
+    found_below (read_file a.file.now) a.position (λ e. c.if-from-eq0.false (c.name_at-from.ensures ∙ e)) in
     let from_is : c.name_at-from.result ≡ name_at c.args.position = let a = c.args in
-      c.name_at-from.ensures ∙ found_name (read_file a.file.now) a.position below in
+    c.name_at-from.ensures ∙ found_name (read_file a.file.now) a.position below in
     let inside : name_at c.args.position + 8 ≤ length c.args.file.now = let a = c.args in shown_inside a.file.now a.position below in
     omega (arith, inside, from_is)
 
@@ -44,9 +43,9 @@ pub returns : goal.returns
 unfolding name_shown name_found
 returns c =
     let below : c.args.position < count_of (read_file c.args.file.now) = let a = c.args in
-      found_below (read_file a.file.now) a.position (λ e. c.if-from-eq0.false (c.name_at-from.ensures ∙ e)) in
+    found_below (read_file a.file.now) a.position (λ e. c.if-from-eq0.false (c.name_at-from.ensures ∙ e)) in
     let from_is : c.name_at-from.result ≡ name_at c.args.position = let a = c.args in
-      c.name_at-from.ensures ∙ found_name (read_file a.file.now) a.position below in
+    c.name_at-from.ensures ∙ found_name (read_file a.file.now) a.position below in
     let a = c.args in
     let from = c.name_at-from.result in
     let eight : from + 8 - from ≡ 8 = omega arith in record {

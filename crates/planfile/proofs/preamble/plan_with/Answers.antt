@@ -1,6 +1,5 @@
 -- `planfile::preamble::plan_with` meets its contract.
 use mathlib.Core.Path.{refl}
-use borrow.Author.Rules.{rules}
 use Rattle.planfile.proofs.preamble.plan_with.Goals as goal
 
 pub returns : goal.returns

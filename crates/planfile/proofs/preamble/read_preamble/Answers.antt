@@ -2,7 +2,6 @@
 -- head, jobs and row count are read in this order, and a refusal ends the reading.
 use mathlib.Core.Path.{refl}
 use mathlib.Core.List.{[]}
-use borrow.Author.Rules.{rules}
 use Rattle.planfile.specs.Reader.{all_jobs}
 use Rattle.planfields.specs.Answers.{head_view, head_refusal, head_of}
 use Rattle.fields.proofs.ParserLaws.{so, refused, passed_refused}

@@ -4,7 +4,6 @@ use Rattle.planfile.specs.Reader.{read_file}
 use Rattle.plan.specs.Edition.{places}
 use lib.Seq.{length-take-le}
 use mathlib.Core.Path.{sym, ◌∙◌}
-use borrow.Author.Rules.{rules}
 use Rattle.planfile.proofs.reader.read.Goals as goal
 
 pub returns-then-table-lt-PLACES : goal.returns-then-table-lt-PLACES

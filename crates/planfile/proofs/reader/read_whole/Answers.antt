@@ -2,7 +2,6 @@
 use Rattle.planfile.proofs.WholeFile.{whole_read, whole_refused}
 use Rattle.planfile.specs.Reader.{read_file}
 use mathlib.Core.Path.{◌∙◌, ap}
-use borrow.Author.Rules.{rules}
 use lib.ListN.{replicate}
 use Rattle.planfile.proofs.reader.read_whole.Goals as goal
 

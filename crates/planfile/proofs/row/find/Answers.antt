@@ -1,7 +1,6 @@
 -- `planfile::row::find` meets its contract: as names are distinct,
 -- an index found from `start` on is the position; otherwise the search from 0 gives it.
 use native.Mathlib.Omega.{arith}
-use borrow.Author.Rules.{rules}
 use Rattle.planfile.proofs.PositionLaws.{position_first, position_only}
 use Rattle.planfile.proofs.row.find.Goals as goal
 

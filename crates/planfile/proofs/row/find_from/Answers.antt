@@ -1,11 +1,7 @@
 -- `planfile::row::find_from` meets its contract: no index from `start` up to k has the name.
-use mathlib.Core.Path.{◌≡◌}
-use Prim.Native.Nat.{ℕ, ◌-◌, ◌≤◌, ◌<◌}
 use mathlib.Core.Logic.{⊎_elim}
 use native.Mathlib.Nat.{eq-or-lt_of_le}
 use native.Mathlib.Omega.{arith}
-use borrow.Author.Rules.{rules}
-use lib.ListN.{length, get_or}
 use Rattle.planfile.proofs.row.find_from.Goals as goal
 
 pub loop-k-init : goal.loop-k-init

@@ -1,7 +1,6 @@
 -- `planfile::row::read_row` meets its contract.
 use mathlib.Core.Path.{refl, sym}
 use native.Mathlib.Omega.{arith}
-use borrow.Author.Rules.{rules}
 use Rattle.fields.specs.Answers.{field_view, field_refusal}
 use Rattle.plan.specs.Edition.{most_intervals}
 use Rattle.fields.proofs.ParserLaws.{so, small, refused}

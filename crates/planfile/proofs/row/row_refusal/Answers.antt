@@ -1,6 +1,5 @@
 -- `planfile::row::row_refusal` meets its contract.
 use mathlib.Core.Path.{refl}
-use borrow.Author.Rules.{rules}
 use Rattle.planfile.proofs.row.row_refusal.Goals as goal
 
 pub returns-in-Row : goal.returns-in-Row

@@ -1,12 +1,10 @@
 -- `planfile::store::store_rows` meets its contract:
 -- after k rows, reading the remaining ones gives the result of the whole.
 use mathlib.Core.Path.{◌≡◌, refl, sym, ◌∙◌, ap}
-use mathlib.Core.Logic.{⊎_elim}
-use Prim.Native.Nat.{◌-◌, ◌≤◌, ◌<◌}
+use Prim.Native.Nat.{◌<◌}
 use native.Mathlib.Nat.{sub-zero}
 use native.Mathlib.Omega.{arith}
-use borrow.Author.Rules.{rules}
-use lib.ListN.{length, set, length-set}
+use lib.ListN.{set, length-set}
 use lib.Seq.{set_out}
 use Rattle.plan.specs.Edition.{most_intervals, places}
 use Rattle.fields.specs.Parsers.{got}
@@ -42,8 +40,8 @@ offset_bounds-table-place c =
     let read_here : one_row most_intervals c.args.names.now c.args.spans c.loop-k.low c.args.file.now c.loop-k.next ≡ got (record { at = c.in-Row.row.at; units = c.in-Row.row.units }) c.in-Row.after
     = so row_view c.read_row-read.ensures c.in-Row.is in
     let inside : c.in-Row.row.at < places = let a = c.args in
-      let pre = c.requires in
-      omega (arith, pre.1, row_inside a.names.now a.spans c.loop-k.low a.file.now c.loop-k.next read_here pre.2) in
+    let pre = c.requires in
+    omega (arith, pre.1, row_inside a.names.now a.spans c.loop-k.low a.file.now c.loop-k.next read_here pre.2) in
     record { fits = omega (arith, inside) }
 
 pub bounds-table-place : goal.bounds-table-place
@@ -55,8 +53,8 @@ overflow_add-low c =
     let read_here : one_row most_intervals c.args.names.now c.args.spans c.loop-k.low c.args.file.now c.loop-k.next ≡ got (record { at = c.in-Row.row.at; units = c.in-Row.row.units }) c.in-Row.after
     = so row_view c.read_row-read.ensures c.in-Row.is in
     let inside : c.in-Row.row.at < places = let a = c.args in
-      let pre = c.requires in
-      omega (arith, pre.1, row_inside a.names.now a.spans c.loop-k.low a.file.now c.loop-k.next read_here pre.2) in
+    let pre = c.requires in
+    omega (arith, pre.1, row_inside a.names.now a.spans c.loop-k.low a.file.now c.loop-k.next read_here pre.2) in
     record { fits = omega (arith, inside) }
 
 pub loop-k-preserved : goal.loop-k-preserved
@@ -65,8 +63,9 @@ loop-k-preserved c =
     = so row_view c.read_row-read.ensures c.in-Row.is in
     let stored : c.if-place-table.table ≡ set c.loop-k.table c.in-Row.row.at c.in-Row.row.units
     = elim c.if-place-table.branch [
-          then-place-table w ↦ w.table-is
-        | else-place-table w ↦ w.table-is ∙ sym (set_out c.loop-k.table c.in-Row.row.at c.in-Row.row.units w.if-place-table.false) ] in
+      | then-place-table w ↦ w.table-is
+      | else-place-table w ↦ w.table-is ∙ sym (set_out c.loop-k.table c.in-Row.row.at c.in-Row.row.units w.if-place-table.false)
+    ] in
     let a = c.args in
     let l = c.loop-k in
     rw stored (omega arith, simp length-set l.invariant.1, left_next a.rows l.k most_intervals a.names.now a.spans l.low l.table a.file.now l.next l.invariant.2 (omega arith) read_here)

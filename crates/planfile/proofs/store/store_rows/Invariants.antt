@@ -1,19 +1,10 @@
 -- `planfile::store::store_rows` meets its contract:
 -- after k rows, reading the remaining ones gives the result of the whole.
-use mathlib.Core.Path.{◌≡◌, refl, sym, ◌∙◌, ap}
-use mathlib.Core.Logic.{⊎_elim}
-use Prim.Native.Nat.{◌-◌, ◌≤◌, ◌<◌}
-use native.Mathlib.Nat.{sub-zero}
-use native.Mathlib.Omega.{arith}
-use borrow.Author.Rules.{rules}
-use lib.ListN.{length, set, length-set}
-use lib.Seq.{set_out}
-use Rattle.plan.specs.Edition.{most_intervals, places}
-use Rattle.fields.specs.Parsers.{got}
-use Rattle.planfile.specs.Reader.{one_row, all_rows}
-use Rattle.planfile.specs.Inner.Parts.{row_view, row_refusal}
-use Rattle.fields.proofs.ParserLaws.{so, refused}
-use Rattle.planfile.proofs.Rows.{row_inside, left_next, left_stop, left_done}
+use mathlib.Core.Path.{◌≡◌}
+use Prim.Native.Nat.{◌-◌, ◌≤◌}
+use lib.ListN.{length}
+use Rattle.plan.specs.Edition.{most_intervals}
+use Rattle.planfile.specs.Reader.{all_rows}
 use Rattle.planfile.proofs.store.store_rows.Given as goal
 
 abbrev pub invariant-loop-k : goal.invariant-loop-k

@@ -1,14 +1,13 @@
 -- `planwriter::put::put` meets its contract: the k bytes of `rest`, then the bytes written so far,
 -- are the whole field.
-use mathlib.Core.List.{[], ◌++◌, append-nil}
+use mathlib.Core.List.{[], append-nil}
 use mathlib.Core.Path.{◌≡◌, refl, ◌∙◌, ap}
-use Prim.Native.Nat.{suc, ◌+◌, ◌-◌, ◌%◌, ◌≤◌, ◌<◌, ◌^◌}
+use Prim.Native.Nat.{suc, ◌+◌, ◌-◌, ◌%◌}
 use native.Mathlib.Nat.{add-zero, mod-lt}
 use native.Mathlib.Omega.{arith}
-use borrow.Author.Rules.{rules}
 use lib.Dec.{lit<}
 use lib.ListN.{length, drop, drop_of_length-le}
-use lib.Seq.{sets, length-sets}
+use lib.Seq.{length-sets}
 use Rattle.fields.specs.Bytes.{bytes}
 use Rattle.fields.proofs.ByteLaws.{length_bytes, bytes_turn}
 use Rattle.planwriter.proofs.Sets.{put_turn}
@@ -31,7 +30,7 @@ overflow_add-out c =
 pub bounds-out-at : goal.bounds-out-at
 bounds-out-at c =
     let out-long : length c.loop-k.out ≡ length c.args.out.now = let a = c.args in
-      ap length c.loop-k.invariant.2 ∙ length-sets a.out.now (a.at + c.loop-k.k) (drop c.loop-k.k (bytes a.w a.x)) in
+    ap length c.loop-k.invariant.2 ∙ length-sets a.out.now (a.at + c.loop-k.k) (drop c.loop-k.k (bytes a.w a.x)) in
     omega (arith, c.requires.0, out-long)
 
 pub loop-k-preserved : goal.loop-k-preserved
@@ -49,7 +48,7 @@ overflow_add-result c =
 pub shape_of-out : goal.shape_of-out
 shape_of-out c =
     let out-long : length c.loop-k.out ≡ length c.args.out.now = let a = c.args in
-      ap length c.loop-k.invariant.2 ∙ length-sets a.out.now (a.at + c.loop-k.k) (drop c.loop-k.k (bytes a.w a.x)) in
+    ap length c.loop-k.invariant.2 ∙ length-sets a.out.now (a.at + c.loop-k.k) (drop c.loop-k.k (bytes a.w a.x)) in
     out-long
 
 pub returns : goal.returns

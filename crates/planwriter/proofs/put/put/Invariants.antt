@@ -1,17 +1,11 @@
 -- `planwriter::put::put` meets its contract: the k bytes of `rest`, then the bytes written so far,
 -- are the whole field.
-use mathlib.Core.List.{[], ◌++◌, append-nil}
-use mathlib.Core.Path.{◌≡◌, refl, ◌∙◌, ap}
-use Prim.Native.Nat.{suc, ◌+◌, ◌-◌, ◌%◌, ◌≤◌, ◌<◌, ◌^◌}
-use native.Mathlib.Nat.{add-zero, mod-lt}
-use native.Mathlib.Omega.{arith}
-use borrow.Author.Rules.{rules}
-use lib.Dec.{lit<}
-use lib.ListN.{length, drop, drop_of_length-le}
-use lib.Seq.{sets, length-sets}
+use mathlib.Core.List.{◌++◌}
+use mathlib.Core.Path.{◌≡◌}
+use Prim.Native.Nat.{◌+◌, ◌≤◌, ◌<◌, ◌^◌}
+use lib.ListN.{drop}
+use lib.Seq.{sets}
 use Rattle.fields.specs.Bytes.{bytes}
-use Rattle.fields.proofs.ByteLaws.{length_bytes, bytes_turn}
-use Rattle.planwriter.proofs.Sets.{put_turn}
 use Rattle.planwriter.proofs.put.put.Given as goal
 
 abbrev pub invariant-loop-k : goal.invariant-loop-k

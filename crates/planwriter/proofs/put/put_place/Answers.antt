@@ -2,7 +2,6 @@
 use mathlib.Core.Path.{refl, sym, ap}
 use native.Mathlib.Omega.{arith}
 use native.Mathlib.Nat.{add-zero}
-use borrow.Author.Rules.{rules}
 use lib.ListN.{length}
 use Rattle.planwriter.proofs.JobAndRowBytes.{place_none, place_row, row_long}
 use Rattle.planwriter.proofs.put.put_place.Goals as goal

@@ -1,6 +1,5 @@
 -- `planwriter::put::put_row` meets its contract: each field is written after the one before.
 use mathlib.Core.Path.{refl, ◌∙◌}
-use borrow.Author.Rules.{rules}
 use Rattle.planfields.specs.Layout.{row_length}
 use Rattle.planwriter.proofs.Sets.{put_start}
 use Rattle.planwriter.proofs.JobAndRowBytes.{put_field, row_long}

@@ -5,7 +5,6 @@ use mathlib.Core.List.{◌++◌}
 use mathlib.Core.Path.{refl, ◌∙◌, ap, ap₂}
 use Prim.Native.Nat.{ℕ}
 use native.Mathlib.Omega.{arith}
-use borrow.Author.Rules.{rules}
 use lib.Seq.{sets}
 use Rattle.planwriter.specs.Writing.{body}
 use Rattle.planwriter.proofs.Sets.{put_start, put_on}

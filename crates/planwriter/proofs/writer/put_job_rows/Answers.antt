@@ -1,14 +1,12 @@
 -- `planwriter::writer::put_job_rows` meets its contract:
 -- after j iterations the rows of the first j places are written.
 use mathlib.Core.List.{[], ◌∷◌}
-use Prim.Native.Nat.{◌-◌, ◌≤◌}
 use native.Mathlib.Omega.{arith}
-use borrow.Author.Rules.{rules}
-use lib.ListN.{length, get_or, take}
+use lib.ListN.{get_or}
 use lib.Seq.{take_all}
 use Rattle.plan.specs.Edition.{most_intervals}
-use Rattle.planwriter.specs.Writing.{row_at, rows_bytes}
-use Rattle.planwriter.proofs.Sets.{Put, put_start, put_length, put_on}
+use Rattle.planwriter.specs.Writing.{row_at}
+use Rattle.planwriter.proofs.Sets.{put_start, put_length, put_on}
 use Rattle.planwriter.proofs.JobAndRowBytes.{rows_next, rows_fit, rows_none}
 use Rattle.planwriter.proofs.writer.put_job_rows.Goals as goal
 

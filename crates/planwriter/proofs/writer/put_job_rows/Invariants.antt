@@ -2,14 +2,10 @@
 -- after j iterations the rows of the first j places are written.
 use mathlib.Core.List.{[], ◌∷◌}
 use Prim.Native.Nat.{◌-◌, ◌≤◌}
-use native.Mathlib.Omega.{arith}
-use borrow.Author.Rules.{rules}
-use lib.ListN.{length, get_or, take}
-use lib.Seq.{take_all}
+use lib.ListN.{length, take}
 use Rattle.plan.specs.Edition.{most_intervals}
-use Rattle.planwriter.specs.Writing.{row_at, rows_bytes}
-use Rattle.planwriter.proofs.Sets.{Put, put_start, put_length, put_on}
-use Rattle.planwriter.proofs.JobAndRowBytes.{rows_next, rows_fit, rows_none}
+use Rattle.planwriter.specs.Writing.{rows_bytes}
+use Rattle.planwriter.proofs.Sets.{Put}
 use Rattle.planwriter.proofs.writer.put_job_rows.Given as goal
 
 abbrev pub invariant-loop-j : goal.invariant-loop-j

@@ -2,11 +2,9 @@
 -- after i iterations the first i jobs are written.
 use Rattle.plan.specs.Rules.{job_of}
 use mathlib.Core.Path.{◌≡◌, refl, ◌∙◌}
-use Prim.Native.Nat.{◌-◌, ◌≤◌}
 use native.Mathlib.Omega.{arith}
-use borrow.Author.Rules.{rules}
-use Rattle.planwriter.specs.Writing.{job_bytes, jobs_bytes}
-use Rattle.planwriter.proofs.Sets.{Put, put_start, put_length, put_on}
+use Rattle.planwriter.specs.Writing.{job_bytes}
+use Rattle.planwriter.proofs.Sets.{put_start, put_length, put_on}
 use Rattle.planwriter.proofs.JobAndRowBytes.{job_long, jobs_long, jobs_start, jobs_next}
 use Rattle.planwriter.proofs.writer.put_jobs.Goals as goal
 

@@ -1,10 +1,9 @@
 -- `planwriter::writer::rows_in` meets its contract:
 -- after q iterations the rows of the first q places are counted.
-use mathlib.Core.Path.{◌≡◌, ◌∙◌, ap}
-use Prim.Native.Nat.{◌+◌, ◌-◌, ◌≤◌}
+use mathlib.Core.Path.{◌∙◌, ap}
+use Prim.Native.Nat.{◌+◌}
 use native.Mathlib.Omega.{arith}
-use borrow.Author.Rules.{rules}
-use lib.ListN.{length, take, length-take}
+use lib.ListN.{take, length-take}
 use lib.Seq.{take_all}
 use Rattle.planwriter.specs.Writing.{row_count}
 use Rattle.planwriter.proofs.JobAndRowBytes.{count_start, count_next, count_few}

@@ -3,7 +3,6 @@ use mathlib.Core.Path.{◌≡◌, sym, ◌∙◌}
 use mathlib.Core.Bool.{true}
 use Prim.Native.Nat.{◌+◌, ◌*◌, ◌≤◌}
 use native.Mathlib.Omega.{arith}
-use borrow.Author.Rules.{rules}
 use lib.ListN.{length, take}
 use lib.Seq.{length-take-le}
 use Rattle.plan.specs.Edition.{most_jobs, places}
@@ -26,7 +25,7 @@ returns-then-table-lt-PLACES c =
 pub returns-then-not-sound_within : goal.returns-then-not-sound_within
 returns-then-not-sound_within c =
     let tested : c.sound_within.result ≡ sound c.args.p c.args.table.now = let a = c.args in
-      c.sound_within.ensures ∙ sound_told a.p a.table.now _ c.intervals_of-spans.ensures in
+    c.sound_within.ensures ∙ sound_told a.p a.table.now _ c.intervals_of-spans.ensures in
     writer_unsound c.args.p c.args.table.now c.args.out.now c.if-table-lt-PLACES.false (failed tested (ap not c.if-not-sound_within.true))
 
 pub slice_bounds-rows_in-end : goal.slice_bounds-rows_in-end
@@ -36,7 +35,7 @@ slice_bounds-rows_in-end c =
 pub rows_in-rows-requires : goal.rows_in-rows-requires
 rows_in-rows-requires c =
     let tested : c.sound_within.result ≡ sound c.args.p c.args.table.now = let a = c.args in
-      c.sound_within.ensures ∙ sound_told a.p a.table.now _ c.intervals_of-spans.ensures in
+    c.sound_within.ensures ∙ sound_told a.p a.table.now _ c.intervals_of-spans.ensures in
     let sound-here : sound c.args.p c.args.table.now ≡ true = held tested (ap not c.if-not-sound_within.false) in
     let writable-here : Writable c.args.p (take places c.args.table.now)
     = writable c.args.p c.args.table.now sound-here c.if-table-lt-PLACES.false in
@@ -45,7 +44,7 @@ rows_in-rows-requires c =
 pub overflow_mul-jobs : goal.overflow_mul-jobs
 overflow_mul-jobs c =
     let tested : c.sound_within.result ≡ sound c.args.p c.args.table.now = let a = c.args in
-      c.sound_within.ensures ∙ sound_told a.p a.table.now _ c.intervals_of-spans.ensures in
+    c.sound_within.ensures ∙ sound_told a.p a.table.now _ c.intervals_of-spans.ensures in
     let sound-here : sound c.args.p c.args.table.now ≡ true = held tested (ap not c.if-not-sound_within.false) in
     let writable-here : Writable c.args.p (take places c.args.table.now)
     = writable c.args.p c.args.table.now sound-here c.if-table-lt-PLACES.false in
@@ -56,7 +55,7 @@ overflow_mul-jobs c =
 pub overflow_add-follows : goal.overflow_add-follows
 overflow_add-follows c =
     let tested : c.sound_within.result ≡ sound c.args.p c.args.table.now = let a = c.args in
-      c.sound_within.ensures ∙ sound_told a.p a.table.now _ c.intervals_of-spans.ensures in
+    c.sound_within.ensures ∙ sound_told a.p a.table.now _ c.intervals_of-spans.ensures in
     let sound-here : sound c.args.p c.args.table.now ≡ true = held tested (ap not c.if-not-sound_within.false) in
     let writable-here : Writable c.args.p (take places c.args.table.now)
     = writable c.args.p c.args.table.now sound-here c.if-table-lt-PLACES.false in
@@ -67,7 +66,7 @@ overflow_add-follows c =
 pub overflow_add-follows-2 : goal.overflow_add-follows-2
 overflow_add-follows-2 c =
     let tested : c.sound_within.result ≡ sound c.args.p c.args.table.now = let a = c.args in
-      c.sound_within.ensures ∙ sound_told a.p a.table.now _ c.intervals_of-spans.ensures in
+    c.sound_within.ensures ∙ sound_told a.p a.table.now _ c.intervals_of-spans.ensures in
     let sound-here : sound c.args.p c.args.table.now ≡ true = held tested (ap not c.if-not-sound_within.false) in
     let writable-here : Writable c.args.p (take places c.args.table.now)
     = writable c.args.p c.args.table.now sound-here c.if-table-lt-PLACES.false in
@@ -78,7 +77,7 @@ overflow_add-follows-2 c =
 pub overflow_mul-follows : goal.overflow_mul-follows
 overflow_mul-follows c =
     let tested : c.sound_within.result ≡ sound c.args.p c.args.table.now = let a = c.args in
-      c.sound_within.ensures ∙ sound_told a.p a.table.now _ c.intervals_of-spans.ensures in
+    c.sound_within.ensures ∙ sound_told a.p a.table.now _ c.intervals_of-spans.ensures in
     let sound-here : sound c.args.p c.args.table.now ≡ true = held tested (ap not c.if-not-sound_within.false) in
     let writable-here : Writable c.args.p (take places c.args.table.now)
     = writable c.args.p c.args.table.now sound-here c.if-table-lt-PLACES.false in
@@ -89,7 +88,7 @@ overflow_mul-follows c =
 pub overflow_add-follows-4 : goal.overflow_add-follows-4
 overflow_add-follows-4 c =
     let tested : c.sound_within.result ≡ sound c.args.p c.args.table.now = let a = c.args in
-      c.sound_within.ensures ∙ sound_told a.p a.table.now _ c.intervals_of-spans.ensures in
+    c.sound_within.ensures ∙ sound_told a.p a.table.now _ c.intervals_of-spans.ensures in
     let sound-here : sound c.args.p c.args.table.now ≡ true = held tested (ap not c.if-not-sound_within.false) in
     let writable-here : Writable c.args.p (take places c.args.table.now)
     = writable c.args.p c.args.table.now sound-here c.if-table-lt-PLACES.false in
@@ -100,7 +99,7 @@ overflow_add-follows-4 c =
 pub overflow_add-length : goal.overflow_add-length
 overflow_add-length c =
     let tested : c.sound_within.result ≡ sound c.args.p c.args.table.now = let a = c.args in
-      c.sound_within.ensures ∙ sound_told a.p a.table.now _ c.intervals_of-spans.ensures in
+    c.sound_within.ensures ∙ sound_told a.p a.table.now _ c.intervals_of-spans.ensures in
     let sound-here : sound c.args.p c.args.table.now ≡ true = held tested (ap not c.if-not-sound_within.false) in
     let writable-here : Writable c.args.p (take places c.args.table.now)
     = writable c.args.p c.args.table.now sound-here c.if-table-lt-PLACES.false in
@@ -111,7 +110,7 @@ overflow_add-length c =
 pub returns-then-out-length : goal.returns-then-out-length
 returns-then-out-length c =
     let tested : c.sound_within.result ≡ sound c.args.p c.args.table.now = let a = c.args in
-      c.sound_within.ensures ∙ sound_told a.p a.table.now _ c.intervals_of-spans.ensures in
+    c.sound_within.ensures ∙ sound_told a.p a.table.now _ c.intervals_of-spans.ensures in
     let sound-here : sound c.args.p c.args.table.now ≡ true = held tested (ap not c.if-not-sound_within.false) in
     let writable-here : Writable c.args.p (take places c.args.table.now)
     = writable c.args.p c.args.table.now sound-here c.if-table-lt-PLACES.false in
@@ -128,7 +127,7 @@ slice_bounds-put_file-end c =
 pub put_file-requires : goal.put_file-requires
 put_file-requires c =
     let tested : c.sound_within.result ≡ sound c.args.p c.args.table.now = let a = c.args in
-      c.sound_within.ensures ∙ sound_told a.p a.table.now _ c.intervals_of-spans.ensures in
+    c.sound_within.ensures ∙ sound_told a.p a.table.now _ c.intervals_of-spans.ensures in
     let sound-here : sound c.args.p c.args.table.now ≡ true = held tested (ap not c.if-not-sound_within.false) in
     let writable-here : Writable c.args.p (take places c.args.table.now)
     = writable c.args.p c.args.table.now sound-here c.if-table-lt-PLACES.false in
@@ -141,7 +140,7 @@ put_file-requires c =
 pub returns : goal.returns
 returns c =
     let tested : c.sound_within.result ≡ sound c.args.p c.args.table.now = let a = c.args in
-      c.sound_within.ensures ∙ sound_told a.p a.table.now _ c.intervals_of-spans.ensures in
+    c.sound_within.ensures ∙ sound_told a.p a.table.now _ c.intervals_of-spans.ensures in
     let sound-here : sound c.args.p c.args.table.now ≡ true = held tested (ap not c.if-not-sound_within.false) in
     let writable-here : Writable c.args.p (take places c.args.table.now)
     = writable c.args.p c.args.table.now sound-here c.if-table-lt-PLACES.false in

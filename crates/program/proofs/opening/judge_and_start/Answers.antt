@@ -4,7 +4,6 @@ use mathlib.Core.Bool.{false, true≢false}
 use mathlib.Core.List.{[], ◌∷◌}
 use native.Mathlib.Omega.{arith}
 use borrow.Author.Tests.{not-true}
-use borrow.Author.Rules.{rules}
 use Rattle.plan.specs.Report.{Report, is_none, number_of}
 use Rattle.plan.specs.declared.kinds.Plan.{Plan}
 use Rattle.plan.proofs.Reports.{passes}

@@ -1,6 +1,5 @@
 -- `program::opening::open` meets its contract, by what the reader leaves.
 use mathlib.Core.Path.{refl}
-use borrow.Author.Rules.{rules}
 use Rattle.program.specs.Turns.{opened}
 use Rattle.program.proofs.opening.open.Goals as goal
 

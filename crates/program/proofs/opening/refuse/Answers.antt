@@ -1,6 +1,5 @@
 -- `program::opening::refuse` meets its contract.
 use mathlib.Core.Path.{ap}
-use borrow.Author.Rules.{rules}
 use Rattle.program.specs.Turns.{progress}
 use Rattle.program.specs.declared.Phase.TheVariants.{Over}
 use Rattle.program.proofs.opening.refuse.Goals as goal

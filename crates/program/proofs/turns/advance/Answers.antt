@@ -1,7 +1,6 @@
 -- `program::turns::advance` meets its contract: a case for each phase.
 use mathlib.Core.Path.{refl}
 use native.Mathlib.Omega.{arith}
-use borrow.Author.Rules.{rules}
 use Rattle.program.proofs.OutcomeLines.{printed_none}
 use Rattle.program.proofs.turns.advance.Goals as goal
 

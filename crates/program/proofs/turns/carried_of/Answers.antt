@@ -1,8 +1,7 @@
 -- `program::turns::carried_of` meets its contract: past its end a row reads as 0.
-use mathlib.Core.Path.{◌≡◌, sym, ◌∙◌}
+use mathlib.Core.Path.{◌≡◌, sym}
 use native.Mathlib.Omega.{arith}
-use borrow.Author.Rules.{rules}
-use lib.ListN.{length, length-map, get_or-eq_default}
+use lib.ListN.{length, get_or-eq_default}
 use Rattle.plan.specs.Edition.{most_jobs}
 use Rattle.program.proofs.turns.carried_of.Goals as goal
 

@@ -1,7 +1,6 @@
 -- `program::turns::job_line` meets its contract, by the job's outcome.
 use mathlib.Core.Path.{sym, ◌∙◌, ap}
 use native.Mathlib.Omega.{arith}
-use borrow.Author.Rules.{rules}
 use Rattle.plan.specs.Rules.{name}
 use Rattle.dispatch.specs.Dues.{carried_of}
 use Rattle.dispatch.specs.Step.{outcome}

@@ -1,8 +1,7 @@
 -- `program::turns::name_of` meets its contract: past the records a name reads as zeros.
-use mathlib.Core.Path.{◌≡◌, sym, ◌∙◌, ap}
+use mathlib.Core.Path.{◌≡◌, sym, ap}
 use native.Mathlib.Omega.{arith}
-use borrow.Author.Rules.{rules}
-use lib.ListN.{length, length-map, get_or-eq_default}
+use lib.ListN.{length, get_or-eq_default}
 use Rattle.plan.specs.Edition.{most_jobs}
 use Rattle.plan.specs.Rules.{no_job}
 use Rattle.plan.specs.declared.kinds.Job.{Job}

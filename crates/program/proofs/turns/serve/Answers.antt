@@ -1,6 +1,5 @@
 -- `program::turns::serve` meets its contract: the line of the step's answer.
 use mathlib.Core.Path.{refl}
-use borrow.Author.Rules.{rules}
 use Rattle.program.proofs.turns.serve.Goals as goal
 
 pub returns-in-Done : goal.returns-in-Done

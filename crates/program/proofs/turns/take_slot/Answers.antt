@@ -1,6 +1,5 @@
 -- `program::turns::take_slot` meets its contract, by the number of bytes read.
 use native.Mathlib.Omega.{arith}
-use borrow.Author.Rules.{rules}
 use Rattle.program.proofs.SlotTurn.{slot_none, slot_odd, slot_two}
 use Rattle.program.proofs.turns.take_slot.Goals as goal
 

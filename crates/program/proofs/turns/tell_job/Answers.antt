@@ -1,6 +1,5 @@
 -- `program::turns::tell_job` meets its contract.
 use mathlib.Core.Path.{ap}
-use borrow.Author.Rules.{rules}
 use Rattle.program.specs.Turns.{progress, job_turn}
 use Rattle.program.specs.declared.Phase.{Phase}
 use Rattle.program.proofs.turns.tell_job.Goals as goal

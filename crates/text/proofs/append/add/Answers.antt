@@ -1,6 +1,5 @@
 -- `text::append::add` meets its contract: with room for the piece it is copied, and otherwise nothing changes.
 use native.Mathlib.Omega.{arith}
-use borrow.Author.Rules.{rules}
 use Rattle.text.proofs.Growth.{adds_room, adds_none}
 use Rattle.text.proofs.append.add.Goals as goal
 

@@ -1,5 +1,4 @@
 -- `text::append::add_name` meets its contract.
-use borrow.Author.Rules.{rules}
 use Rattle.text.proofs.Growth.{adds_same}
 use Rattle.text.proofs.append.add_name.Goals as goal
 

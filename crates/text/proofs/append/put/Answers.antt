@@ -1,6 +1,6 @@
 -- `text::append::put` meets its contract. Loop invariant: the first k bytes of the text are copied.
 use mathlib.Core.Path.{◌≡◌, sym, ◌∙◌, ap}
-use Prim.Native.Nat.{◌+◌, ◌-◌, ◌≤◌}
+use Prim.Native.Nat.{◌+◌}
 use native.Mathlib.Numerals.{add-one}
 use native.Mathlib.Omega.{arith}
 use lib.ListN.{length, set, get_or}
@@ -14,7 +14,7 @@ loop-k-init c =
 pub bounds-out-at : goal.bounds-out-at
 bounds-out-at c =
     let room : length c.loop-k.out ≡ length c.args.out.now = let a = c.args in
-      ap length c.loop-k.invariant.1 ∙ length-paste a.out.now a.at a.text.now c.loop-k.k (omega arith) (omega arith) in
+    ap length c.loop-k.invariant.1 ∙ length-paste a.out.now a.at a.text.now c.loop-k.k (omega arith) (omega arith) in
     omega (arith, room)
 
 pub loop-k-preserved : goal.loop-k-preserved

@@ -2,7 +2,6 @@
 -- a 16-bit number times a 32-bit number fits in 64 bits.
 use native.Mathlib.Nat.{mul-le-mul}
 use native.Mathlib.Omega.{arith}
-use borrow.Author.Rules.{rules}
 use Rattle.plan.proofs.kinds.Rate.over.Goals as goal
 
 pub overflow_mul-result : goal.overflow_mul-result

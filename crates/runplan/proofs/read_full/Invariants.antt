@@ -1,0 +1,9 @@
+-- What came fits into the buffer, and each read leaves less room.
+use Rattle.std.proofs.Common.{length, ◌-◌, ◌≤◌}
+use Rattle.runplan.proofs.read_full.Given as goal
+
+abbrev pub invariant-loop-done : goal.invariant-loop-done
+invariant-loop-done l = l.done ≤ length l.buffer
+
+abbrev pub decreases-loop-done : goal.decreases-loop-done
+decreases-loop-done l = length l.initial.buffer - l.done
