@@ -732,14 +732,14 @@ fn stacks_of_slot(deepest: &mut Deepest, slot: &Lent) {
     assert!(slot.run[1] > 1 || (run == other_run && grants == other_grants), "{}", slot.name);
 }
 
-// Of the object that tools/lent-step makes. A plan, a run and a slice are handed over by their place.
+// Of the object that tools/lent-step makes. A plan and a run are handed over by their place, a slice by its place and its length.
 extern "C" {
     #[link_name = "hostmemory::plans::plan_of"]
-    fn plan_of(plan: *mut u64, words: *const [u64; 2]);
+    fn plan_of(plan: *mut u64, words: *const u64, length: usize);
     #[link_name = "hostmemory::runs::run_of"]
-    fn run_of(run: *mut u64, words: *const [u64; 2]);
+    fn run_of(run: *mut u64, words: *const u32, length: usize);
     #[link_name = "hostmemory::runs::put_run"]
-    fn put_run(words: *const [u64; 2], run: *const u64);
+    fn put_run(words: *mut u32, length: usize, run: *const u64);
     #[link_name = "lentrun::step_in"]
     fn step_in();
 }
@@ -748,19 +748,18 @@ extern "C" {
 fn lent_step(slot: &Lent) -> (usize, [u32; RUN_WORDS], [u32; MOST_JOBS]) {
     let (mut words, mut grants) = (slot.run, [7_u32; MOST_JOBS]);
     // With more room than they take.
-    let (mut answer, mut plan, mut run) = ([0_u64; 16], [0_u64; 2 * PLAN_WORDS], [0_u64; 2 * RUN_WORDS]);
+    let (mut plan, mut run) = ([0_u64; 2 * PLAN_WORDS], [0_u64; 2 * RUN_WORDS]);
     let table = [slot.table.as_ptr() as u64, slot.table.len() as u64];
     let row = [grants.as_mut_ptr() as u64, MOST_JOBS as u64];
-    let lent = [words.as_mut_ptr() as u64, RUN_WORDS as u64];
     // SAFETY: the functions take what is named here, and each pointer is valid for the length beside it.
     unsafe {
-        plan_of(plan.as_mut_ptr(), &[slot.plan.as_ptr() as u64, PLAN_WORDS as u64]);
-        run_of(run.as_mut_ptr(), &lent);
+        plan_of(plan.as_mut_ptr(), slot.plan.as_ptr(), PLAN_WORDS);
+        run_of(run.as_mut_ptr(), words.as_ptr(), RUN_WORDS);
     }
-    let in_hand = [answer.as_mut_ptr(), run.as_mut_ptr(), plan.as_mut_ptr()].map(|place| place as u64);
-    let arguments = [&in_hand[..], &[table.as_ptr() as u64, slot.speed.into(), row.as_ptr() as u64]].concat();
+    let in_hand = [run.as_mut_ptr(), plan.as_mut_ptr()].map(|place| place as u64);
+    let arguments = [&in_hand[..], &table, &[slot.speed.into()], &row].concat();
     let (_, bytes) = stack_of(step_in as *const (), &arguments);
     // SAFETY: as above.
-    unsafe { put_run(&lent, run.as_ptr()) };
+    unsafe { put_run(words.as_mut_ptr(), RUN_WORDS, run.as_ptr()) };
     (bytes, words, grants)
 }

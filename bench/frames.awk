@@ -4,7 +4,7 @@
 # circle.
 BEGIN {
     # Six words go to registers.
-    split("gateway_read 1 gateway_write 1 gateway_slack 1 gateway_start 2 gateway_step 3 gateway_shift 6", arguments, " ")
+    split("gateway_read 1 gateway_write 1 gateway_slack 1 gateway_start 2 gateway_step 3 gateway_shift 6 lentrun::step_in 1", arguments, " ")
     for (k = 1; k in arguments; k += 2) on_stack[arguments[k]] = 8 * arguments[k + 1]
 }
 /^[0-9a-f]+ <.*>:$/ { name = $0; sub(/^[^<]*</, "", name); sub(/>:$/, "", name); many++; names[many] = name; frame[name] = 8; next }

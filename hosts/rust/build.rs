@@ -1,5 +1,5 @@
 //! Tells the linker where `libgateway.a` is: in the folder that GATEWAY_ARCHIVE_FOLDER names, and if it names none, where
-//! `rt staticlib gateway` writes it.
+//! `tools/archive` writes it.
 
 use std::env;
 use std::path::PathBuf;
@@ -20,7 +20,7 @@ fn main() {
     let folder = env::var_os(FOLDER).map_or_else(|| PathBuf::from(WRITTEN_TO), PathBuf::from);
     let archive = folder.join("libgateway.a");
     if !folder.is_absolute() || !archive.is_file() {
-        eprintln!("there is no {}: run `rt staticlib gateway`, or let {FOLDER} name the archive's folder from the root on", archive.display());
+        eprintln!("there is no {}: run tools/archive, or let {FOLDER} name the archive's folder from the root on", archive.display());
         exit(1);
     }
     println!("cargo:rustc-link-search=native={}", folder.display());
