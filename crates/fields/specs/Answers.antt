@@ -7,7 +7,7 @@ use Rattle.fields.specs.declared.field.Field.TheVariants as field
 use Rattle.fields.specs.declared.field.Passed.{Passed}
 use Rattle.fields.specs.declared.field.Passed.TheVariants as passed
 use Rattle.fields.specs.declared.opening.LengthRule.{LengthRule}
-use Rattle.fields.specs.declared.opening.LengthRule.TheVariants as length
+use Rattle.fields.specs.declared.opening.LengthRule.TheVariants as length_rule
 use Rattle.fields.specs.Parsers as rule
 use Rattle.fields.specs.Parsers.{Parsed, got, no}
 
@@ -38,8 +38,8 @@ passed_refusal (passed.Refused refusal) = refusal
 
 -- Whether a length field is compared with the bytes after it.
 abbrev pub is_compared : LengthRule → Bool
-is_compared length.Compared = true
-is_compared length.Ignored = false
+is_compared length_rule.Compared = true
+is_compared length_rule.Ignored = false
 
 -- The contract of `read_byte`, `read_two`, `read_four` and `read_eight`: a field of w bytes, and its
 -- value, or 0 after a refusal, is below 256^w.
