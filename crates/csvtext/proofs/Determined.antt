@@ -62,7 +62,7 @@ some_grade_item file at from = by (grade_item from file at) refl
     by (got g next) e = (field.Value g next, (refl, grade_below file at from e))
     by (no refusal) e = (field.Refused refusal, (refl, lit< tt))
 
--- A number is at most `mostNumber`, so it has four bytes.
+-- A number is at most `most_number`, so it has four bytes.
 number_below : (file : Bytes) (at : Offset) (ends : Bytes) (from : Offset) {n next : ℕ} → number_item ends from file at ≡ got n next → n < 256 ^ 4
 unfolding number_item
 number_below file at ends from e =

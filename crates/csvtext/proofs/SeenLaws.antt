@@ -48,7 +48,7 @@ name_on (b ∷ l) s k h fits octets =
 pub seen_name : (l : List ℕ) → length l ≤ 8 → Octets l → (with_bytes nothing l).name ≡ value 0 l
 seen_name l h octets = name_on l nothing 0 (omega arith) (omega arith) octets
 
--- The number in decimal, told up to `mostNumber`.
+-- The number in decimal, told up to `most_number`.
 number_on : (l : List ℕ) (s : Seen) (x : ℕ) → s.number ≡ min x most_number → (with_bytes s l).number ≡ min (decimal_from x l) most_number
 unfolding with_bytes with_byte decimal_from
 number_on [] s x e = e

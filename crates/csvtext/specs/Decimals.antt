@@ -28,6 +28,6 @@ decimal_from so_far (b ∷ l) = decimal_from (so_far * 10 + (b - digit 0)) l
 abbrev pub most_number : ℕ
 most_number = 1_000_000_000
 
--- The number that a decimal stands for, at most `mostNumber`.
+-- The number that a decimal stands for, at most `most_number`.
 abbrev pub number_in : Bytes → ℕ
 number_in l = min (decimal_from 0 l) most_number

@@ -1,6 +1,6 @@
 -- When a timetable exists, in closed form: for each time D that is a HI deadline or the common release, and each
 -- time E that is a LO deadline or the common release, the link can carry what is asked of it by D and E.
--- (promises/proofs/Timetables, `closed-form-decides`: exactly then some table is accepted.)
+-- (promises/proofs/Timetables, `closed_form_decides`: exactly then some table is accepted.)
 use Rattle.std.specs.Prelude.{Bool, true, false, not, ◌&&◌, ◌||◌, [], ◌∷◌, ℕ, suc, ◌+◌, ◌*◌, ◌-◌, leb, ltb, eqb}
 use Rattle.base.specs.Sum.{sum, on}
 use Rattle.base.specs.Below.{every}

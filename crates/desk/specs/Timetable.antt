@@ -66,7 +66,7 @@ turns_at p back m draft = through (λ q. job_turn p back m (turn back (counted p
 unfoldable pub class_placed : (p : Plan) (back : Bool) (draft : Draft) → Draft
 class_placed p back draft = through (λ k. turns_at p back (suc (turn back (intervals p) k))) (intervals p) draft
 
--- The room of each interval before anything is placed, n times its length; then zeros to `mostIntervals` entries.
+-- The room of each interval before anything is placed, n times its length; then zeros to `most_intervals` entries.
 unfoldable pub all_room : Plan → List ℕ
 all_room p = filled (λ j. p.n.0 * interval_length p j) (intervals p) (replicate most_intervals 0)
 

@@ -56,7 +56,7 @@ fn place_units(
     table: &mut [u32],
 )
     requires { (m ≤ most_intervals) × (i < most_jobs) × (places ≤ length table.old) }
-    ensures { record { rooms = rooms.exit.now; table = table.new } ≡ (placing back m i units (record { rooms = rooms.entry.now; table = table.old })).draft }
+    ensures { record { rooms = rooms.new; table = table.new } ≡ (placing back m i units (record { rooms = rooms.old; table = table.old })).draft }
 {
     let mut rest = units;
     let mut k = 0;
@@ -84,7 +84,7 @@ fn place_due(
     table: &mut [u32],
 )
     requires { (m ≤ most_intervals) × (jobs ≤ most_jobs) × (places ≤ length table.old) }
-    ensures { (length table.new ≡ length table.old) × PlacesDue back m time jobs grades.now sizes.now deadlines.now (record { rooms = rooms.entry.now; table = table.old }) (record { rooms = rooms.exit.now; table = table.new }) }
+    ensures { (length table.new ≡ length table.old) × PlacesDue back m time jobs grades.now sizes.now deadlines.now (record { rooms = rooms.old; table = table.old }) (record { rooms = rooms.new; table = table.new }) }
 {
     let mut q = 0;
     while q < jobs {
@@ -110,7 +110,7 @@ pub(crate) fn place_class(
     table: &mut [u32],
 )
     requires { (spans < length times.now) × (spans ≤ most_intervals) × (jobs ≤ most_jobs) × (places ≤ length table.old) }
-    ensures { (length table.new ≡ length table.old) × PlacesClass back times.now spans jobs grades.now sizes.now deadlines.now (record { rooms = rooms.entry.now; table = table.old }) (record { rooms = rooms.exit.now; table = table.new }) }
+    ensures { (length table.new ≡ length table.old) × PlacesClass back times.now spans jobs grades.now sizes.now deadlines.now (record { rooms = rooms.old; table = table.old }) (record { rooms = rooms.new; table = table.new }) }
 {
     let mut k = 0;
     while k < spans {

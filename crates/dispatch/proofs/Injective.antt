@@ -9,7 +9,7 @@ use Rattle.dispatch.specs.declared.answers.Outcome.TheVariants.{Met, Ended, Disc
 use Rattle.dispatch.specs.Answers.{answer_view, outcome_view}
 use Rattle.dispatch.specs.Step.{Ending, met, ended_early, discarded, missed, still_open, refused}
 
--- A left inverse of `answerView`.
+-- A left inverse of `answer_view`.
 abbrev answer_of : Report → Answer
 answer_of [] = answer.Done
 answer_of (number ∷ rest) = answer.Refused number
@@ -22,7 +22,7 @@ answer_back (answer.Refused n) = refl
 pub answer_view_injective : (a b : Answer) → answer_view a ≡ answer_view b → a ≡ b
 answer_view_injective a b e = sym (answer_back a) ∙ ap answer_of e ∙ answer_back b
 
--- A left inverse of `outcomeView`.
+-- A left inverse of `outcome_view`.
 abbrev outcome_of : Ending → Outcome
 outcome_of met = Met
 outcome_of ended_early = Ended

@@ -1,5 +1,5 @@
 -- The answers of the calls in the rules' terms. Their views are injective
--- (`answerView-injective`, `outcomeView-injective`).
+-- (`answer_view_injective`, `outcome_view_injective`).
 use Rattle.std.specs.Prelude.{◌≡◌, Bool, List, [], ◌∷◌, ℕ}
 use Rattle.plan.specs.Kinds.{Position, Row, Speed, Table}
 use Rattle.plan.specs.Columns.{Columns}
@@ -35,7 +35,7 @@ outcome_view Missed = missed
 outcome_view Open = still_open
 outcome_view (Refused n) = refused n
 
--- The contract of `start`: the judge's verdict, with the started run or, after a refusal, `noRun`.
+-- The contract of `start`: the judge's verdict, with the started run or, after a refusal, `no_run`.
 abbrev pub Starts : (p : Plan) (table : Table) (r : Started) → Type 0
 Starts p table r = (verdict.verdict_view r.verdict ≡ judged p table) × (r.run ≡ start_from (judged p table) (started p) no_run)
 

@@ -21,7 +21,7 @@ abbrev pub field_value : Field → ℕ
 field_value (field.Value v next) = v
 field_value (field.Refused refusal) = 0
 
--- The refusal of a `Field`, or `noRefusal` if it is a value.
+-- The refusal of a `Field`, or `no_refusal` if it is a value.
 abbrev pub field_refusal : Field → Refusal
 field_refusal (field.Value v next) = no_refusal
 field_refusal (field.Refused refusal) = refusal
@@ -31,7 +31,7 @@ abbrev pub passed_view : Passed → Parsed (Unit {0})
 passed_view (passed.Next next) = got tt next
 passed_view (passed.Refused refusal) = no refusal
 
--- The refusal of a `Passed`, or `noRefusal` if it is an offset.
+-- The refusal of a `Passed`, or `no_refusal` if it is an offset.
 abbrev pub passed_refusal : Passed → Refusal
 passed_refusal (passed.Next next) = no_refusal
 passed_refusal (passed.Refused refusal) = refusal

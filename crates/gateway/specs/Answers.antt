@@ -57,9 +57,9 @@ abbrev pub HostEnds : (plan run : Words) (position : Position) (r : ℕ) → Typ
 HostEnds plan run position r = r ≡ outcome_call plan run position
 
 -- The contract of `gateway_import`: the number, the lent list and the offset.
-abbrev pub HostImports : (text : Bytes) (list : Words) (offset : Offset) (r : ℕ) (List-left : Words) (offset_left : Offset) → Type 0
-HostImports text list offset r List-left offset_left =
-    record { number = r; list = List-left; offset = offset_left } ≡ import_call text list offset
+abbrev pub HostImports : (text : Bytes) (list : Words) (offset : Offset) (r : ℕ) (list_left : Words) (offset_left : Offset) → Type 0
+HostImports text list offset r list_left offset_left =
+    record { number = r; list = list_left; offset = offset_left } ≡ import_call text list offset
 
 -- The contract of `gateway_export`: the number, the length and the output, whatever the length was before.
 abbrev pub HostExports : (list : Words) (out : Bytes) (length : ℕ) (r : ℕ) (out_left : Bytes) (length_left : ℕ) → Type 0

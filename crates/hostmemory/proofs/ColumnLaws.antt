@@ -15,7 +15,7 @@ use Rattle.base.proofs.Below.{every_next, every_at, every_all}
 use Rattle.base.proofs.BitLaws.{or_below}
 use Rattle.base.proofs.FillLaws.{filled_at}
 use Rattle.base.proofs.Logic.{if_true, if_less, both, below-or-last}
-use Rattle.base.proofs.Padding.{get_d_replicate}
+use Rattle.base.proofs.Padding.{get_or_replicate}
 use Rattle.plan.specs.Edition.{most_jobs, most_deadline, most_size}
 use Rattle.plan.specs.JobLists.{list_of}
 use Rattle.plan.specs.Rules.{no_job, no_plan, job_in, job_of, jobs_of, counted, release, size, deadline, lo, hi, grade_allowed, window_allowed, size_allowed, rates_hold, count_holds, grades_hold, bounds_hold}
@@ -80,7 +80,7 @@ list_name w narrow i = go (short_list w)
     none = lit< tt
 
     go : (t : Bool) → (job_in (cond t (list_of []) (list_in w)) i).name.0 < 256 ^ 8
-    go true = rw (get_d_replicate most_jobs i no_job) none
+    go true = rw (get_or_replicate most_jobs i no_job) none
     go false =
         if_less i most_jobs
         (λ h. rw (job_read w count_words most_jobs i h) (narrow (job_index count_words i)))

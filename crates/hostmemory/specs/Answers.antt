@@ -10,19 +10,19 @@ use Rattle.dispatch.specs.declared.Moment.{Moment}
 use Rattle.dispatch.specs.declared.Run.{Run}
 use Rattle.hostmemory.specs.Memory.{plan_of, list_put, plan_put, grade_word, release_word, size_word, deadline_word, words_fit, slot_put, run_put}
 
--- The contract of `put_plan`: the words at exit are `planPut` of those at entry.
+-- The contract of `put_plan`: the words at exit are `plan_put` of those at entry.
 abbrev pub PutsPlan : (words : Words) (p : Plan) (left : List ℕ) → Type 0
 PutsPlan words p left = left ≡ plan_put words p
 
--- The contract of `put_list`: the words at exit are `listPut` of those at entry.
+-- The contract of `put_list`: the words at exit are `list_put` of those at entry.
 abbrev pub PutsList : (words : Words) (list : JobList) (left : List ℕ) → Type 0
 PutsList words list left = left ≡ list_put words list
 
--- The contract of `put_run`: the words at exit are `runPut` of those at entry.
+-- The contract of `put_run`: the words at exit are `run_put` of those at entry.
 abbrev pub PutsRun : (words : Words) (run : Run) (left : List ℕ) → Type 0
 PutsRun words run left = left ≡ run_put words run
 
--- The contract of `put_slot`: the words at exit are `slotPut` of those at entry.
+-- The contract of `put_slot`: the words at exit are `slot_put` of those at entry.
 abbrev pub PutsSlot : (words : Words) (at : Moment) (carried : Row) (left : List ℕ) → Type 0
 PutsSlot words at carried left = left ≡ slot_put words at carried
 

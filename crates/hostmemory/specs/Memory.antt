@@ -30,7 +30,7 @@ head_words = rate_words + count_words
 abbrev pub job_words : ℕ
 job_words = 5
 
--- The number of words of a job list: the job count and `mostJobs` jobs.
+-- The number of words of a job list: the job count and `most_jobs` jobs.
 abbrev pub list_words : ℕ
 list_words = count_words + most_jobs * job_words
 
@@ -172,7 +172,7 @@ unfoldable pub jobs_out : (jobs : List Job) (n : ℕ) → List ℕ
 jobs_out jobs zero = []
 jobs_out jobs (suc n) = jobs_out jobs n ++ job_out (get_or jobs n no_job)
 
--- The words of a job list: the count and `mostJobs` jobs.
+-- The words of a job list: the count and `most_jobs` jobs.
 abbrev pub list_out : JobList → Words
 list_out l = l.count ∷ jobs_out l.jobs most_jobs
 
@@ -249,7 +249,7 @@ slot_put w at carried = cond (short_run w) w (sets w 0 (slot_out at carried))
 unfoldable pub run_put : (w : Words) (r : Run) → Words
 run_put w r = cond (short_run w) w (sets (sets w 0 (slot_out (moment_of r) r.carried)) ended_start (map mark_out r.ended))
 
--- The grades, releases and deadlines of some jobs have the widths of their types, and there are `mostJobs`
+-- The grades, releases and deadlines of some jobs have the widths of their types, and there are `most_jobs`
 -- records. All jobs of the code fit.
 pub record JobsFit (jobs : List Job) : Type 0 where
   pub all : length jobs ≡ most_jobs

@@ -15,7 +15,7 @@ use Rattle.plan.specs.JobLists.{names_of, list_of}
 use Rattle.plan.proofs.JobLists.{length_snoc, records_next, names_snoc}
 use Rattle.joblist.specs.Import.{one_job, all_lines}
 
--- `allLines` at the end of the text, with no room left, with a line whose job is read, and with one that
+-- `all_lines` at the end of the text, with no room left, with a line whose job is read, and with one that
 -- is refused.
 module _ (jobs : List Job) (text : List ℕ) (at : ℕ) where
   pub lines_over : (room : ℕ) → length text ≤ at → all_lines room jobs text at ≡ got jobs at

@@ -1,4 +1,4 @@
--- A number that counts as `mostNumber` breaks rule 9 as it would by itself: no verdict hangs on it, and what is
+-- A number that counts as `most_number` breaks rule 9 as it would by itself: no verdict hangs on it, and what is
 -- taken has its exact numbers.
 use mathlib.Core.Path.{◌≡◌, refl, sym, ◌∙◌, ap}
 use mathlib.Core.Bool.{◌&&◌, and-false}
@@ -23,7 +23,7 @@ size_as_exact u =
     (λ h. rw (exact u h) refl)
     (λ h. rw (most u h) (sym (ap (λ t. leb 1 u && t) (lt-leb u most_size (omega arith)) ∙ and-false (leb 1 u))))
 
--- A release counts the same before a deadline that does not count as `mostNumber`.
+-- A release counts the same before a deadline that does not count as `most_number`.
 before_as_exact : (from to : ℕ) → to < most_number → ltb (min from most_number) to ≡ ltb from to
 before_as_exact from to h =
     if_less from most_number

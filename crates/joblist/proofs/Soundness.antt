@@ -152,7 +152,7 @@ lines_fine (suc room) jobs text at all next e so = by (leb (length text) at) (λ
         let r = rest t.value t.next t.on (fine_next jobs t.value so (job_passes (names_of jobs) text at t.is)) in
         (r.0, omega (arith, r.1, length_snoc jobs t.value))
 
--- A list of fine jobs, from one to `mostJobs`, meets rules 5 to 9.
+-- A list of fine jobs, from one to `most_jobs`, meets rules 5 to 9.
 module _ (jobs : List Job) (so : Fine jobs) (some : 1 ≤ length jobs) (few : length jobs ≤ most_jobs) where
   pad : (i : ℕ) → get_or (list_of jobs).jobs i no_job ≡ job_at jobs i
   pad i = get_or_pad jobs (most_jobs - length jobs) i no_job

@@ -1,4 +1,4 @@
--- No exported text is longer than `longestText`, so an output of that many bytes is always enough.
+-- No exported text is longer than `longest_text`, so an output of that many bytes is always enough.
 use mathlib.Core.Path.{◌≡◌, refl}
 use mathlib.Core.Bool.{Bool, true, false, not, cond}
 use mathlib.Core.List.{List, [], ◌∷◌, ◌++◌}
@@ -59,7 +59,7 @@ line_length j r s d =
     rw (grade_plain j.grade, field_plain c (number_plain j.release.0), field_plain e (number_plain j.size.0), field_plain f (number_plain j.deadline.0))
     (simp length-append (omega (arith, field_length a, eight, grade_length j.grade, decimal_length j.release.0 r, decimal_length j.size.0 s, decimal_length j.deadline.0 d)))
 
--- The numbers of a counted job have at most `mostDigits` digits.
+-- The numbers of a counted job have at most `most_digits` digits.
 module _ (l : JobList) (m : Meets l) where
   numbers_short : (i : ℕ) → i < l.count → ((job_in l i).release.0 < 10 ^ most_digits) × ((job_in l i).size.0 < 10 ^ most_digits) × ((job_in l i).deadline.0 < 10 ^ most_digits)
   numbers_short i h =
@@ -77,7 +77,7 @@ module _ (l : JobList) (m : Meets l) where
       let s = numbers_short n (omega arith) in
       omega (arith, length-append (lines_text l n) (line_text (job_in l n)), lines_length n (omega arith), line_length (job_in l n) s.0 s.1 s.2)
 
--- The text of a list that meets rules 5 to 9 has at most `longestText` bytes.
+-- The text of a list that meets rules 5 to 9 has at most `longest_text` bytes.
 pub text_fits : (l : JobList) → jobs_hold l ≡ true → length (list_text l) ≤ longest_text
 unfolding list_text
 text_fits l e =

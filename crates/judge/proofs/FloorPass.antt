@@ -30,7 +30,7 @@ use Rattle.judge.specs.Verdict.{is_hi_deadline, is_pair, falls_short, floor_faul
 use Rattle.plan.specs.Report.{Report, fault, is_none, first}
 use Rattle.judge.specs.Inner.Columns.{never, hi_deadline, asks_more, lowest}
 use Rattle.plan.proofs.Soundness.{rules_bounded}
-use Rattle.base.proofs.Padding.{get_d_replicate}
+use Rattle.base.proofs.Padding.{get_or_replicate}
 use Rattle.plan.proofs.Reports.{none_empty, none_plain, none_first, first_found, found_here}
 use Rattle.base.proofs.Choice.{on_at_most}
 use Rattle.judge.proofs.Demand.{end_by_boundary, demand_is, early_pair, other_pair, true_pair}
@@ -251,7 +251,7 @@ pub record Summed (p : Plan) (table : List ℕ) (m : ℕ) (sums : List ℕ) : Ty
   pub columns : (j : ℕ) → j < intervals p → get_or sums j 0 ≡ column_sum p table m j
 
 pub summed_start : (p : Plan) (table : List ℕ) → Summed p table 0 (replicate most_intervals 0)
-summed_start p table = record { room = refl; columns = λ j b. get_d_replicate most_intervals j 0 ∙ sym (column_none p table j) }
+summed_start p table = record { room = refl; columns = λ j b. get_or_replicate most_intervals j 0 ∙ sym (column_none p table j) }
 
 pub few_intervals : (p : Plan) → intervals p ≤ most_intervals
 few_intervals p = omega (arith, boundaries_few p (counted p))

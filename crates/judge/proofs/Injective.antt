@@ -13,7 +13,7 @@ use Rattle.judge.specs.declared.answers.Slack.TheVariants.{NoneEssential, Least,
 use Rattle.judge.specs.declared.answers.Verdict.{Verdict}
 use Rattle.judge.specs.declared.answers.Verdict.TheVariants.{Accepted, BufferTooShort, Unsound, OutsideWindow, WrongTotal, OverCapacity, BelowFloor}
 
--- A left inverse of `verdictView`.
+-- A left inverse of `verdict_view`.
 abbrev verdict_of : Report → Verdict
 verdict_of [] = Accepted
 verdict_of (number ∷ []) = cond (eqb number buffer_too_short) BufferTooShort Unsound
@@ -32,7 +32,7 @@ verdict_back (BelowFloor l D) = refl
 pub verdict_view_injective : (v w : Verdict) → verdict_view v ≡ verdict_view w → v ≡ w
 verdict_view_injective v w e = sym (verdict_back v) ∙ ap verdict_of e ∙ verdict_back w
 
--- A left inverse of `slackView`.
+-- A left inverse of `slack_view`.
 abbrev slack_answer : Figure → Slack
 slack_answer none_essential = NoneEssential
 slack_answer (least s l D) = Least s l (record { 0 = D })

@@ -56,7 +56,7 @@ no_later_both s t i l D E a b =
     let deadline : D ≡ E = omega (arith, a.deadline slack interval, b.deadline (sym slack) (sym interval)) in
     cc
 
--- Of no pairs it is `noneEssential`; equivalent sets of pairs have the same.
+-- Of no pairs it is `none_essential`; equivalent sets of pairs have the same.
 pub among_none : (p : Plan) (table : List ℕ) (In : ℕ → ℕ → Type 0) → ((l k : ℕ) → In l k → ⊥) → LeastAmong p table In none_essential
 among_none p table In none = record { covers = none; reached = tt }
 
@@ -222,7 +222,7 @@ module _ (p : Plan) (table : List ℕ) where
       from i k (e, b, inl q) = below-or-last i n q (λ c. (e, b, inl c)) (λ c. (e, b, inr (c, omega arith)))
       from i k (e, b, inr q) = absurd (omega (arith, q.1))
 
-  -- `leastSlack` is the least slack of all pairs, with the first pair that has it.
+  -- `least_slack` is the least slack of all pairs, with the first pair that has it.
   pub first_of_all : LeastAmong p table (Pairs p) (least_slack p table)
   unfolding least_slack
   first_of_all =

@@ -36,7 +36,7 @@ below_zero a b = go (ltb a b) refl
     go false e = rw e (le-ltb (a - b) 0 (omega arith))
 
 module _ (p : Plan) (table : List ℕ) where
-  -- If the slack figure is `noneEssential`, there is no report 18.
+  -- If the slack figure is `none_essential`, there is no report 18.
   pub none_essential_never_short : slack_figure p table ≡ none_essential → floor_fault p table ≡ []
   unfolding slack_figure
   none_essential_never_short h =

@@ -15,7 +15,7 @@ use Rattle.judge.specs.Slack.{Figure, none_essential, least, refused, least_slac
 use Rattle.judge.proofs.LeastSlack.{Pairs, first_of_all}
 use Rattle.judge.proofs.NegativeSlack.{short_exactly_below_zero}
 
--- What a figure other than `noneEssential` has.
+-- What a figure other than `none_essential` has.
 abbrev Other : Figure → Type 0
 Other none_essential = ⊥
 Other (least s l D) = Unit {0}

@@ -93,7 +93,7 @@ module _ (p : Plan) (table sums times : List ℕ) (m : ℕ) (e : times ≡ bound
           below-or-last k m (omega (arith, x.2)) (λ y. (x.0, x.1, y))
           (λ y. absurd (true≢false (sym (both (ltb i k) (is_hi_deadline p (boundary p k)) x.0).1 ∙ ap (λ n. is_hi_deadline p (boundary p n)) y ∙ sym d)))
 
--- Before boundary 0 there is no pair; after the last boundary the figure is `leastSlack`.
+-- Before boundary 0 there is no pair; after the last boundary the figure is `least_slack`.
 pub tightest_start : (p : Plan) (table : List ℕ) → LeastAmong p table (Before p 0) none_essential
 tightest_start p table = among_none p table (Before p 0) (λ l k x. omega (arith, x.2))
 

@@ -39,7 +39,7 @@ abbrev pub taken : (p : Plan) (table : Table) (l : Interval) (m : ℕ) (so_far :
 taken p table l m so_far = cond (is_pair p l m) (lesser so_far (slack_of p table l (boundary p m)) l (boundary p m)) so_far
 
 -- The least slack over all intervals and later HI deadlines, with the first pair that has it;
--- `noneEssential` if there is no pair.
+-- `none_essential` if there is no pair.
 unfoldable pub least_slack : (p : Plan) (table : Table) → Figure
 least_slack p table = through (λ l. through (taken p table l) (suc (intervals p))) (intervals p) none_essential
 
@@ -65,14 +65,14 @@ Covered p table none_essential l k = ⊥
 Covered p table (least s i D) l k = NoLater s i D (slack_of p table l (boundary p k)) l (boundary p k)
 Covered p table (refused report) l k = ⊥
 
--- The figure is `noneEssential`, or its slack and deadline are
+-- The figure is `none_essential`, or its slack and deadline are
 -- those of its interval and a boundary that are a pair in `In`.
 abbrev pub Reached : Plan → List ℕ → (ℕ → ℕ → Type 0) → Figure → Type 0
 Reached p table In none_essential = Unit {0}
 Reached p table In (least s i D) = (k : ℕ) × In i k × (s ≡ slack_of p table i (boundary p k)) × (D ≡ boundary p k)
 Reached p table In (refused report) = ⊥
 
--- The figure is the least slack of the pairs in `In`, with the first pair that has it; `noneEssential`
+-- The figure is the least slack of the pairs in `In`, with the first pair that has it; `none_essential`
 -- if `In` has no pair.
 pub record LeastAmong (p : Plan) (table : List ℕ) (In : ℕ → ℕ → Type 0) (f : Figure) : Type 0 where
   pub covers : (l k : ℕ) → In l k → Covered p table f l k

@@ -1,10 +1,10 @@
--- `printedView` is injective: results with equal views are equal.
+-- `printed_view` is injective: results with equal views are equal.
 use mathlib.Core.Path.{◌≡◌, refl, sym, ◌∙◌, ap}
 use Rattle.lines.specs.Answers.{Answer, wrote, withheld, printed_view}
 use Rattle.lines.specs.declared.Printed.{Printed}
 use Rattle.lines.specs.declared.Printed.TheVariants.{Length, Refused}
 
--- The inverse of `printedView`.
+-- The inverse of `printed_view`.
 abbrev pub printed_of : Answer → Printed
 printed_of (wrote n) = Length n
 printed_of (withheld number) = Refused number

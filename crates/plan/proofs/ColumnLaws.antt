@@ -18,7 +18,7 @@ use Rattle.plan.specs.Rules.{window_allowed, size_allowed, jobs_of, release, siz
 use Rattle.plan.specs.Columns.{Columns, PutsColumns, column_values, in_column, sizes_fit}
 use Rattle.plan.specs.declared.kinds.Plan.{Plan}
 
--- A number below `columnValues` is what a column holds of it.
+-- A number below `column_values` is what a column holds of it.
 pub in_column_lem : (x : ℕ) → x < column_values → in_column x ≡ x
 in_column_lem x h = mod-eq_of_lt h
 

@@ -1,4 +1,4 @@
--- Laws of `noStray`: the table has no stray place exactly when each job's row is 0 after
+-- Laws of `no_stray`: the table has no stray place exactly when each job's row is 0 after
 -- the intervals and all rows after the jobs are 0.
 use mathlib.Core.Path.{◌≡◌, refl, sym, ◌∙◌, ap, ap₂}
 use mathlib.Core.Bool.{Bool, true, ◌&&◌, ◌||◌, or-false, or-true}
@@ -27,7 +27,7 @@ every_rows test width zero = rw mul-zero refl
 every_rows test width (suc n) =
     rw mul-suc (every_split test (width * n) width ∙ ap (λ b. b && every (λ j. test (width * n + j)) width) (every_rows test width n))
 
--- `noStray` over a prefix of length n, as a test of each place;
+-- `no_stray` over a prefix of length n, as a test of each place;
 -- past the end of the list a place reads as 0.
 stray_places : (width jobs spans q n : ℕ) (l : List ℕ)
     → no_stray width jobs spans q (take n l)
@@ -92,7 +92,7 @@ pub zero_past : (l : List ℕ) (start m n : ℕ) → m ≤ n → ((k : ℕ) → 
 zero_past l start m n h past =
     sym (every_cut _ m n h (λ k a b. ap (λ x. eqb x 0) (get_or-eq_default l 0 (past k a b))))
 
--- With the plan's own number of intervals, `soundWithin` is `sound`.
+-- With the plan's own number of intervals, `sound_within` is `sound`.
 pub sound_told : (p : Plan) (table : List ℕ) (spans : ℕ) → spans ≡ intervals p → sound_within (min spans most_intervals) p table ≡ sound p table
 unfolding sound
 sound_told p table spans e =

@@ -26,7 +26,7 @@ pub record Columns (p : Plan) (o : Outline) (grades releases sizes deadlines : L
 abbrev pub column_values : ℕ
 column_values = 2 ^ 32
 
--- A number as a column holds it: itself if it is below `columnValues`, otherwise its lowest 32 bits.
+-- A number as a column holds it: itself if it is below `column_values`, otherwise its lowest 32 bits.
 abbrev pub in_column : ℕ → ℕ
 in_column x = x % column_values
 

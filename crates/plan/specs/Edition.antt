@@ -29,7 +29,7 @@ most_deadline = 100_000
 abbrev pub most_size : ℕ
 most_size = 100_000_000
 
--- The number of the table's own places: `mostIntervals` for each of `mostJobs` jobs.
+-- The number of the table's own places: `most_intervals` for each of `most_jobs` jobs.
 abbrev pub places : ℕ
 places = most_jobs * most_intervals
 

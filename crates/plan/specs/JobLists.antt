@@ -9,7 +9,7 @@ use Rattle.plan.specs.declared.kinds.JobList.{JobList}
 abbrev pub names_of : List Job → List ℕ
 names_of jobs = map (λ (j : Job). j.name.0) jobs
 
--- Jobs, then zero records up to `mostJobs`.
+-- Jobs, then zero records up to `most_jobs`.
 abbrev pub records_of : List Job → List Job
 records_of jobs = jobs ++ replicate (most_jobs - length jobs) no_job
 

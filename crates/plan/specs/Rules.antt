@@ -16,11 +16,11 @@ lo = 0
 abbrev pub hi : ℕ
 hi = 1
 
--- Rule 4: 1 ≤ d < n, and n is at most `mostRate`.
+-- Rule 4: 1 ≤ d < n, and n is at most `most_rate`.
 abbrev pub rates_allowed : (n d : ℕ) → Bool
 rates_allowed n d = leb 1 d && ltb d n && leb n most_rate
 
--- Rule 5: there are 1 to `mostJobs` jobs.
+-- Rule 5: there are 1 to `most_jobs` jobs.
 abbrev pub count_allowed : ℕ → Bool
 count_allowed count = leb 1 count && leb count most_jobs
 
@@ -45,27 +45,27 @@ is_absent l x = every (λ k. not (eqb (get_or l k 0) x)) (length l)
 abbrev pub grade_allowed : ℕ → Bool
 grade_allowed g = eqb g lo || eqb g hi
 
--- Rule 9 for a window: the release is before the deadline, which is at most `mostDeadline`.
+-- Rule 9 for a window: the release is before the deadline, which is at most `most_deadline`.
 abbrev pub window_allowed : (from to : Time) → Bool
 window_allowed from to = ltb from to && leb to most_deadline
 
--- Rule 9 for a size: from 1 to `mostSize`.
+-- Rule 9 for a size: from 1 to `most_size`.
 abbrev pub size_allowed : ℕ → Bool
 size_allowed u = leb 1 u && leb u most_size
 
--- The zero record, which `jobIn` gives for an index without a record.
+-- The zero record, which `job_in` gives for an index without a record.
 abbrev pub no_job : Job
 no_job = record { name = record { 0 = 0 }; grade = 0; release = record { 0 = 0 }; size = record { 0 = 0 }; deadline = record { 0 = 0 } }
 
--- The plan of zeros, with `mostJobs` zero records, which comes with a refusal.
+-- The plan of zeros, with `most_jobs` zero records, which comes with a refusal.
 abbrev pub no_plan : Plan
 no_plan = record { n = record { 0 = 0 }; d = record { 0 = 0 }; count = 0; jobs = replicate most_jobs no_job }
 
--- The record of job i of a list, or `noJob` if there is none.
+-- The record of job i of a list, or `no_job` if there is none.
 abbrev pub job_in : (l : JobList) (i : Position) → Job
 job_in l i = get_or l.jobs i no_job
 
--- The number of counted jobs of a list: its count, but at most `mostJobs`.
+-- The number of counted jobs of a list: its count, but at most `most_jobs`.
 abbrev pub counted_in : JobList → ℕ
 counted_in l = min l.count most_jobs
 
@@ -101,7 +101,7 @@ is_hi p i = eqb (job_of p i).grade hi
 abbrev pub counted : Plan → ℕ
 counted p = counted_in (jobs_of p)
 
--- The names of the counted jobs, in order, then zeros to `mostJobs` entries.
+-- The names of the counted jobs, in order, then zeros to `most_jobs` entries.
 unfoldable pub names : Plan → List ℕ
 names p = map (λ (j : Job). j.name.0) (take (counted p) p.jobs) ++ replicate (most_jobs - counted p) 0
 

@@ -27,6 +27,6 @@ no_stray width jobs spans q (u ∷ l) =
 abbrev pub sound_within : (spans : ℕ) (p : Plan) (table : Table) → Bool
 sound_within spans p table = rules_hold p && no_stray most_intervals (counted p) spans 0 (take places table)
 
--- Soundness for judge and writer: `soundWithin` the plan's own intervals.
+-- Soundness for judge and writer: `sound_within` the plan's own intervals.
 unfoldable pub sound : (p : Plan) (table : Table) → Bool
 sound p table = sound_within (intervals p) p table

@@ -1,4 +1,4 @@
--- What a plan file of a version may hold. The room of a plan in hand (`mostJobs`, `mostIntervals`, `places`)
+-- What a plan file of a version may hold. The room of a plan in hand (`most_jobs`, `most_intervals`, `places`)
 -- is apart from it; it has a record for every job of a file (`count_fits`, proofs/VersionLimits).
 use Rattle.std.specs.Prelude.{Bool, ◌&&◌, ℕ, leb}
 use Rattle.plan.specs.Edition.{most_jobs, most_rows}

@@ -24,7 +24,7 @@ abbrev pub head_view : HeadRead → Parsed rule.Head
 head_view (head.Head h next) = got (head_of h) next
 head_view (head.Refused refusal) = no refusal
 
--- The refusal of a `HeadRead`, or `noRefusal` if it is a head.
+-- The refusal of a `HeadRead`, or `no_refusal` if it is a head.
 abbrev pub head_refusal : HeadRead → Refusal
 head_refusal (head.Head h next) = no_refusal
 head_refusal (head.Refused refusal) = refusal
@@ -34,7 +34,7 @@ abbrev pub job_view : JobRead → Parsed Job
 job_view (job.Job j next) = got j next
 job_view (job.Refused refusal) = no refusal
 
--- The refusal of a `JobRead`, or `noRefusal` if it is a job.
+-- The refusal of a `JobRead`, or `no_refusal` if it is a job.
 abbrev pub job_refusal : JobRead → Refusal
 job_refusal (job.Job j next) = no_refusal
 job_refusal (job.Refused refusal) = refusal

@@ -34,7 +34,7 @@ pub record JobsRead (file : List ℕ) (at : ℕ) (first : List ℕ) (count : ℕ
   pub made : plan ≡ record { n = blank.n; d = blank.d; count = blank.count; jobs = records_of jobs }
   pub left : all_jobs (count - i) jobs file next ≡ all_jobs count [] file at
 
--- `allJobs` with a next job that is read, with one that is refused, and with none left.
+-- `all_jobs` with a next job that is read, with one that is refused, and with none left.
 pub jobs_step : (n : ℕ) (jobs : List Job) (file : List ℕ) (at : ℕ) {j : Job} {next : ℕ} → one_job (names_of jobs) file at ≡ got j next
     → all_jobs (suc n) jobs file at ≡ all_jobs n (jobs ++ (j ∷ [])) file next
 unfolding all_jobs

@@ -23,15 +23,15 @@ read_view r left = record { answer = answer_view r.answer; plan = r.plan; table 
 abbrev pub Reads : (file : Bytes) (table : Table) (r : PlanRead) (left : List ℕ) → Type 0
 Reads file table r left = read_view r left ≡ rule.reader file table
 
--- The contract of `name_at`: the offset that it returns is the one of `nameFound`.
+-- The contract of `name_at`: the offset that it returns is the one of `name_found`.
 abbrev pub Finds : (file : Bytes) (position : Position) (r : ℕ) → Type 0
 Finds file position r = r ≡ rule.name_found file position
 
--- The contract of `name_of`: the part that it returns is the one of `nameShown`.
+-- The contract of `name_of`: the part that it returns is the one of `name_shown`.
 abbrev pub Shows : (file : Bytes) (position : Position) (part : List ℕ) → Type 0
 Shows file position part = part ≡ rule.name_shown file position
 
--- And where that part begins: in the caller's own file, at the offset of `nameFound`. A pointer is a
+-- And where that part begins: in the caller's own file, at the offset of `name_found`. A pointer is a
 -- block of memory and an offset into it.
 abbrev pub ShownAt : (start : ℕ × ℕ) (file : Bytes) (position : Position) (r : ℕ × ℕ) → Type 0
 ShownAt start file position r = r ≡ (start.0, rule.name_found file position + start.1)

@@ -68,7 +68,7 @@ pub record Contents : Type 0 where
   pub table : List ℕ
 
 -- The plan with the rates and the count of a head and with these jobs, then zero records up to
--- `mostJobs`.
+-- `most_jobs`.
 abbrev pub plan_from : Head → List Job → Plan
 plan_from h jobs =
     record {

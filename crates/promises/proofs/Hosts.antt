@@ -320,7 +320,7 @@ host_write_leaves plan table out was = by (short_plan plan)
     by true busy = refl
     by false busy = by_answer (writer (plan_of plan) table out).answer refl busy
 
--- `gateway_start`: a refusal leaves the run's words unchanged. (`refused-step-stays` of gateway
+-- `gateway_start`: a refusal leaves the run's words unchanged. (`refused_step_stays` of gateway
 -- says the same of `gateway_step`, and of the grants.)
 pub host_start_leaves : (plan table run location : List ℕ) → (start_call plan table run location).number ≢ done_number → (start_call plan table run location).run ≡ run
 unfolding start_call

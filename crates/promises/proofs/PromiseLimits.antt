@@ -60,7 +60,7 @@ no_promise_below_the_floor promised =
     let kept = promised (plan_with P9.jobs) (table_of P9.rows) accepted_p9 below_floor below_floor_allowed in
     absurd (omega (arith, (unless_told refl (kept.essential 1 (lit< tt) refl (omega (arith, e.1)))).0, e.2, e.3))
 
--- `slowedBefore` without the last slot before time D.
+-- `slowed_before` without the last slot before time D.
 unfoldable pub slowed_earlier : Plan → ℕ → List Call → Bool
 slowed_earlier p D [] = false
 slowed_earlier p D (c ∷ earlier) = slowed_earlier p D earlier || is_slow c (run_after p earlier) && ltb (clock_at p earlier + 1) D

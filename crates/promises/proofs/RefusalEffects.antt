@@ -34,7 +34,7 @@ use Rattle.lines.specs.Answers.{refusal, printed, outcome_printed}
 use Rattle.lines.specs.Lines.{stray_line, outcome_line}
 use Rattle.text.specs.Text.{text}
 use Rattle.promises.proofs.Cases.{plan_with, table_of, plan_e, table_e, file_e, P3, capital_mirror}
-use Rattle.promises.proofs.RefusalNumbers.{file_numbers, file_only, P3-refused, E-too-fast, line_without_room}
+use Rattle.promises.proofs.RefusalNumbers.{file_numbers, file_only, P3_refused, E_too_fast, line_without_room}
 use Rattle.fields.proofs.Only.{Only}
 use Rattle.plan.specs.Report.{is_one_of}
 use Rattle.promises.proofs.Demand2.{read_e}
@@ -152,25 +152,25 @@ empty_file_shows_nothing : name_shown [] 0 ≡ []
 unfolding field version opening head preamble plan_file
 empty_file_shows_nothing = refused_file_shows_nothing [] (refusal_at wrong_version 0) 0 refl
 
-E-shows-no-third : name_shown file_e 2 ≡ []
-E-shows-no-third = no_job_shows_nothing file_e (record { plan = plan_e; table = table_e }) 116 2 read_e (lit≤ tt)
+E_shows_no_third : name_shown file_e 2 ≡ []
+E_shows_no_third = no_job_shows_nothing file_e (record { plan = plan_e; table = table_e }) 116 2 read_e (lit≤ tt)
 
 -- Plan E is not written to an output of one byte, which is unchanged.
-E-not-written : (writer plan_e table_e (7 ∷ [])).out ≡ 7 ∷ []
+E_not_written : (writer plan_e table_e (7 ∷ [])).out ≡ 7 ∷ []
 unfolding table_of Below.every name_allowed names_hold names_differ grades_hold bounds_hold rules_hold insert boundaries_to no_stray sound bytes writing.jobs_bytes writing.rows_bytes writing.row_count writing.body written writer
-E-not-written = writer_refused_leaves plan_e table_e (7 ∷ []) buffer_too_short refl
+E_not_written = writer_refused_leaves plan_e table_e (7 ∷ []) buffer_too_short refl
 
 -- P3 starts no run, and a lent record, here that of plan E's start, is unchanged.
-P3-starts-nothing : start_from (judged (plan_with P3.jobs) (table_of P3.rows)) (started (plan_with P3.jobs)) no_run ≡ no_run
-P3-starts-nothing = start_refused_leaves (plan_with P3.jobs) (table_of P3.rows) below_floor_rule (2 ∷ 10 ∷ []) P3-refused
+P3_starts_nothing : start_from (judged (plan_with P3.jobs) (table_of P3.rows)) (started (plan_with P3.jobs)) no_run ≡ no_run
+P3_starts_nothing = start_refused_leaves (plan_with P3.jobs) (table_of P3.rows) below_floor_rule (2 ∷ 10 ∷ []) P3_refused
 
-P3-leaves-the-record : start_in (plan_with P3.jobs) (table_of P3.rows) (started plan_e) ≡ started plan_e
-P3-leaves-the-record = start_in_refused_leaves (plan_with P3.jobs) (table_of P3.rows) (started plan_e) below_floor_rule (2 ∷ 10 ∷ []) P3-refused
+P3_leaves_the_record : start_in (plan_with P3.jobs) (table_of P3.rows) (started plan_e) ≡ started plan_e
+P3_leaves_the_record = start_in_refused_leaves (plan_with P3.jobs) (table_of P3.rows) (started plan_e) below_floor_rule (2 ∷ 10 ∷ []) P3_refused
 
 -- Plan E at speed 3 leaves run and grants unchanged.
-E-too-fast-leaves : ((stepped plan_e table_e (started plan_e) 3 (7 ∷ 7 ∷ [])).run ≡ started plan_e)
+E_too_fast_leaves : ((stepped plan_e table_e (started plan_e) 3 (7 ∷ 7 ∷ [])).run ≡ started plan_e)
     × ((stepped plan_e table_e (started plan_e) 3 (7 ∷ 7 ∷ [])).grants ≡ 7 ∷ 7 ∷ [])
-E-too-fast-leaves = step_refused_leaves plan_e table_e (started plan_e) 3 (7 ∷ 7 ∷ []) speed_above_normal [] E-too-fast
+E_too_fast_leaves = step_refused_leaves plan_e table_e (started plan_e) 3 (7 ∷ 7 ∷ []) speed_above_normal [] E_too_fast
 
 -- An empty buffer stays empty, and a buffer lent for a refused outcome is unchanged.
 no_room_leaves : (printed stray_line []).out ≡ []

@@ -421,29 +421,29 @@ unfolding field version opening head preamble plan_file reader
 empty_file = refl
 
 -- Writing plan E is refused by 22 if the output has no room.
-pub E-without-room : (writer plan_e table_e []).answer ≡ writing.refused buffer_too_short
+pub E_without_room : (writer plan_e table_e []).answer ≡ writing.refused buffer_too_short
 unfolding table_of Below.every name_allowed names_hold names_differ grades_hold bounds_hold rules_hold insert boundaries_to no_stray sound bytes writing.jobs_bytes writing.rows_bytes writing.row_count writing.body written writer
-E-without-room = refl
+E_without_room = refl
 
 -- P3 is refused by 18, at interval 2 and deadline 10.
-pub P3-refused : judged (plan_with P3.jobs) (table_of P3.rows) ≡ below_floor_rule ∷ 2 ∷ 10 ∷ []
+pub P3_refused : judged (plan_with P3.jobs) (table_of P3.rows) ≡ below_floor_rule ∷ 2 ∷ 10 ∷ []
 unfolding table_of sum Below.every name_allowed names_hold names_differ grades_hold bounds_hold rules_hold insert boundaries_to no_stray sound first outside_fault total_fault capacity_fault is_hi_deadline floor_fault judged
-P3-refused = refl
+P3_refused = refl
 
 -- The slack of P4 is refused by 16, at job 1.
-P4-unmeasured : slack_figure (plan_with P4.jobs) (table_of P4.rows) ≡ refused (wrong_total ∷ 1 ∷ [])
+P4_unmeasured : slack_figure (plan_with P4.jobs) (table_of P4.rows) ≡ refused (wrong_total ∷ 1 ∷ [])
 unfolding table_of sum Below.every name_allowed names_hold names_differ grades_hold bounds_hold rules_hold insert boundaries_to no_stray sound first outside_fault total_fault capacity_fault is_hi_deadline slack_figure
-P4-unmeasured = refl
+P4_unmeasured = refl
 
 -- Plan E's first slot at speed 3 is refused by 20.
-pub E-too-fast : (stepped plan_e table_e (started plan_e) 3 (7 ∷ 7 ∷ [])).answer ≡ speed_above_normal ∷ []
+pub E_too_fast : (stepped plan_e table_e (started plan_e) 3 (7 ∷ 7 ∷ [])).answer ≡ speed_above_normal ∷ []
 unfolding table_of Below.every Below.least Below.greatest grades_hold bounds_hold started slot_sound slot_fault stepped
-E-too-fast = refl
+E_too_fast = refl
 
 -- Plan E has no third job: its outcome is refused by 21.
-E-no-third : outcome plan_e (started plan_e) 2 ≡ step.refused unsound
+E_no_third : outcome plan_e (started plan_e) 2 ≡ step.refused unsound
 unfolding Below.every Below.least Below.greatest grades_hold bounds_hold started slot_sound outcome
-E-no-third = refl
+E_no_third = refl
 
 -- A line into an empty buffer is refused by 22.
 pub line_without_room : (printed stray_line []).answer ≡ line.withheld buffer_too_short

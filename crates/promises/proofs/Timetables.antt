@@ -404,29 +404,29 @@ first_is_named p D E held one f =
         w.2 ∙ ap₂ (λ a c. no_timetable ∷ a ∷ c ∷ asked p a c ∷ carries p a c ∷ []) same.0 same.1
 
 -- The jobs of P5 give the rows of P5, whatever stood in the table, and the places beyond them stay.
-P5-of-sevens : timetable (plan_with P5.jobs) (replicate places 7) ≡ table_of P5.rows
+P5_of_sevens : timetable (plan_with P5.jobs) (replicate places 7) ≡ table_of P5.rows
 unfolding timetable class_placed turns_at placing all_room through filled boundaries_to insert table_of
-P5-of-sevens = refl
+P5_of_sevens = refl
 
-P5-sound : (rules_hold (plan_with P5.jobs) ≡ true) × (one_release (plan_with P5.jobs) ≡ true) × (pair_fault (plan_with P5.jobs) ≡ [])
+P5_sound : (rules_hold (plan_with P5.jobs) ≡ true) × (one_release (plan_with P5.jobs) ≡ true) × (pair_fault (plan_with P5.jobs) ≡ [])
 unfolding sum first every least greatest name_allowed names_hold names_differ grades_hold bounds_hold rules_hold insert boundaries_to one_release pair_fault
-P5-sound = (refl, refl, refl)
+P5_sound = (refl, refl, refl)
 
-pub P5-drawn-up : (table : List ℕ) → places ≤ length table → table_left (plan_with P5.jobs) table ≡ table_of P5.rows ++ drop places table
+pub P5_drawn_up : (table : List ℕ) → places ≤ length table → table_left (plan_with P5.jobs) table ≡ table_of P5.rows ++ drop places table
 unfolding table_left
-P5-drawn-up table long =
+P5_drawn_up table long =
     let p = plan_with P5.jobs in
-    let bounds = rules_bounded p P5-sound.0 in
+    let bounds = rules_bounded p P5_sound.0 in
     let alone = timetable_alone p bounds.spans (omega (arith, bounds.few, bounds.count)) in
     let sevens : drop {A = ℕ} places (replicate places 7) ≡ [] = refl in
     let front : alone.0 ≡ table_of P5.rows
-    = sym (append-nil alone.0) ∙ ap (λ l. alone.0 ++ l) (sym sevens) ∙ sym (alone.2 (replicate places 7)) ∙ P5-of-sevens in
-    rw (le-ltb (length table) places long, P5-sound.0, P5-sound.1, P5-sound.2) (alone.2 table ∙ ap (λ l. l ++ drop places table) front)
+    = sym (append-nil alone.0) ∙ ap (λ l. alone.0 ++ l) (sym sevens) ∙ sym (alone.2 (replicate places 7)) ∙ P5_of_sevens in
+    rw (le-ltb (length table) places long, P5_sound.0, P5_sound.1, P5_sound.2) (alone.2 table ∙ ap (λ l. l ++ drop places table) front)
 
 -- With 14 units in its last job in place of 10, 28 units are asked by 10 and 12, and the link carries 24.
-pub P5-short : pair_fault (plan_with (job 1 hi 0 8 10 ∷ job 2 hi 0 4 16 ∷ job 3 lo 0 6 4 ∷ job 4 lo 0 14 12 ∷ [])) ≡ no_timetable ∷ 10 ∷ 12 ∷ 28 ∷ 24 ∷ []
+pub P5_short : pair_fault (plan_with (job 1 hi 0 8 10 ∷ job 2 hi 0 4 16 ∷ job 3 lo 0 6 4 ∷ job 4 lo 0 14 12 ∷ [])) ≡ no_timetable ∷ 10 ∷ 12 ∷ 28 ∷ 24 ∷ []
 unfolding pair_fault first sum every boundaries_to insert
-P5-short = refl
+P5_short = refl
 
 -- The desk: 22 although rules 4 to 9 are broken; 21 although releases differ; 28 although too much is asked; 29; then it is done.
 pub draw_order : (number_of (draw_fault no_plan []) ≡ buffer_too_short)
@@ -483,7 +483,7 @@ one_drawing p table r s left other a b = (a.0 ∙ sym b.0, a.1 ∙ sym b.1)
 pub some_drawing : (p : Plan) (table : List ℕ) → (r : ℕ) × (left : List ℕ) × DrawsUp p table r left
 some_drawing p table = (number_of (draw_fault p table), table_left p table, (refl, refl))
 
--- A left inverse of `shortageView`.
+-- A left inverse of `shortage_view`.
 abbrev shortage_from : Report → Shortage
 shortage_from [] = Nothing
 shortage_from (number ∷ []) = cond (eqb number unsound) Unsound ReleasesDiffer

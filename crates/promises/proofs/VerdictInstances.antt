@@ -29,6 +29,6 @@ unfolding table_of sum Below.every name_allowed names_hold names_differ grades_h
 one_other_accepted = (refl, refl)
 
 -- P3 is refused by 18 at interval 2 and time 10 over all later boundaries too.
-P3-at-boundaries : judged_at_boundaries (plan_with P3.jobs) (table_of P3.rows) ≡ below_floor_rule ∷ 2 ∷ 10 ∷ []
+P3_at_boundaries : judged_at_boundaries (plan_with P3.jobs) (table_of P3.rows) ≡ below_floor_rule ∷ 2 ∷ 10 ∷ []
 unfolding table_of sum Below.every name_allowed names_hold names_differ grades_hold bounds_hold rules_hold insert boundaries_to no_stray sound first outside_fault total_fault capacity_fault boundary_fault judged_at_boundaries
-P3-at-boundaries = refl
+P3_at_boundaries = refl

@@ -1,7 +1,7 @@
--- The three demands, in full. `all-demands-are-met` (proofs/AllDemands) proves them.
+-- The three demands, in full. `all_demands_are_met` (proofs/AllDemands) proves them.
 --
 -- What they rest on: `reader` (planfile/specs/Reader), `writer` (planwriter/specs/Writing),
--- `judged` and `Figure2` (judge/specs), `drawFault`, `tableLeft` and `shortageOf` (desk/specs/Desk), `stepped`, `order`, `serve` and `due`
+-- `judged` and `Figure2` (judge/specs), `draw_fault`, `table_left` and `shortage_of` (desk/specs/Desk), `stepped`, `order`, `serve` and `due`
 -- (dispatch/specs), `Kept` (Night, beside this file), `calls_of` and `AllowedParts` (NightParts).
 use Rattle.std.specs.Prelude.{◌≡◌, true, List, [], ◌++◌, ◌↔◌, ℕ, ◌≤◌, ◌<◌, ◌^◌, length, get_or, take, drop, replicate}
 use Rattle.plan.specs.Kinds.{Bytes, Position, Row, Speed, Table}

@@ -20,11 +20,11 @@ use Rattle.dispatch.specs.Dues.{carried_of, ended_of}
 use Rattle.dispatch.specs.Step as step
 use Rattle.dispatch.specs.Step.{Ending}
 
--- Rule 4: 1 ≤ d < n, and n is at most `mostRate`.
+-- Rule 4: 1 ≤ d < n, and n is at most `most_rate`.
 abbrev pub Rule4 : Plan → Type 0
 Rule4 p = (1 ≤ p.d.0) × (p.d.0 < p.n.0) × (p.n.0 ≤ most_rate)
 
--- Rule 5: there are 1 to `mostJobs` jobs.
+-- Rule 5: there are 1 to `most_jobs` jobs.
 abbrev pub Rule5 : Plan → Type 0
 Rule5 p = (1 ≤ p.count) × (p.count ≤ most_jobs)
 
@@ -40,8 +40,8 @@ Rule7 p = (i : ℕ) → i < counted p → (k : ℕ) → k < i → name p k ≢ n
 abbrev pub Rule8 : Plan → Type 0
 Rule8 p = (i : ℕ) → i < counted p → ((job_of p i).grade ≡ lo) ⊎ ((job_of p i).grade ≡ hi)
 
--- Rule 9: a counted job's release is before its deadline, which is at most `mostDeadline`, and its
--- size is from 1 to `mostSize`.
+-- Rule 9: a counted job's release is before its deadline, which is at most `most_deadline`, and its
+-- size is from 1 to `most_size`.
 abbrev pub Rule9 : Plan → Type 0
 Rule9 p = (i : ℕ) → i < counted p → (release p i < deadline p i) × (deadline p i ≤ most_deadline) × (1 ≤ size p i) × (size p i ≤ most_size)
 

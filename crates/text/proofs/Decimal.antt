@@ -72,7 +72,7 @@ pub digit_before : (from d : ℕ) (tail : List ℕ) → set (replicate (suc from
 digit_before zero d tail = refl
 digit_before (suc from) d tail = ap (λ l. 0 ∷ l) (digit_before from d tail)
 
--- Once the bytes are zeros and then all digits, they are those of `digitsOf`.
+-- Once the bytes are zeros and then all digits, they are those of `digits_of`.
 pub digits_found : (n from : ℕ) (l : List ℕ) → l ≡ replicate from 0 ++ decimal n → length l ≡ most_digits
     → ◌≡◌ {A = Digits} (record { bytes = l; from = from }) (digits_of n)
 digits_found n from l e h =
@@ -80,7 +80,7 @@ digits_found n from l e h =
     = omega (arith, ap length e, length-append (replicate from 0) (decimal n), length-replicate {A = ℕ} from 0) in
     rw (start, e) refl
 
--- The bytes of `digitsOf` from its index on are the number in decimal, for every number below 10^10.
+-- The bytes of `digits_of` from its index on are the number in decimal, for every number below 10^10.
 pub record Shown (n : ℕ) (d : Digits) : Type 0 where
   pub digits : drop d.from d.bytes ≡ decimal n
   pub start : d.from ≤ most_digits

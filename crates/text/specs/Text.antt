@@ -27,8 +27,8 @@ decimal n = digits (suc n) n []
 abbrev pub most_digits : ℕ
 most_digits = 10
 
--- A number in decimal at the end of `mostDigits` bytes, with zeros before it, and the index of its
--- first digit. More than `mostDigits` digits have index 0 and no zeros.
+-- A number in decimal at the end of `most_digits` bytes, with zeros before it, and the index of its
+-- first digit. More than `most_digits` digits have index 0 and no zeros.
 abbrev pub digits_of : ℕ → Digits
 digits_of n =
     let from = most_digits - length (decimal n) in

@@ -53,21 +53,21 @@ pub overflow_cast-total : goal.overflow_cast-total
 overflow_cast-total c =
     let small : strided c.args.s.now c.args.start c.args.stride c.loop-k.k ≤ 4294967295
     = let a = c.args in
-    omega (arith, c.shared_slice_known-in-loop-k-1.given (a.start + a.stride * c.loop-k.k)) in
+    omega (arith, c.type_inv.s (a.start + a.stride * c.loop-k.k)) in
     omega (arith, small)
 
 pub overflow_add-total : goal.overflow_add-total
 overflow_add-total c =
     let small : strided c.args.s.now c.args.start c.args.stride c.loop-k.k ≤ 4294967295
     = let a = c.args in
-    omega (arith, c.shared_slice_known-in-loop-k-1.given (a.start + a.stride * c.loop-k.k)) in
+    omega (arith, c.type_inv.s (a.start + a.stride * c.loop-k.k)) in
     omega (arith, small)
 
 pub loop-k-preserved : goal.loop-k-preserved
 loop-k-preserved c =
     let small : strided c.args.s.now c.args.start c.args.stride c.loop-k.k ≤ 4294967295
     = let a = c.args in
-    omega (arith, c.shared_slice_known-in-loop-k-1.given (a.start + a.stride * c.loop-k.k)) in
+    omega (arith, c.type_inv.s (a.start + a.stride * c.loop-k.k)) in
     let a = c.args in
     let step = sum_step (strided a.s.now a.start a.stride) c.loop-k.k in
     (omega arith, omega arith, omega (arith, small))

@@ -15,7 +15,7 @@ abbrev pub item_seen : Parsed (List ℕ) → ItemRead
 item_seen (got l next) = item.Item (with_bytes nothing l) next
 item_seen (no refusal) = item.Refused refusal
 
--- The refusal of an `ItemRead`, or `noRefusal` if it is an item.
+-- The refusal of an `ItemRead`, or `no_refusal` if it is an item.
 abbrev pub item_refusal : ItemRead → Refusal
 item_refusal (item.Item s next) = no_refusal
 item_refusal (item.Refused refusal) = refusal

@@ -5,7 +5,7 @@ use mathlib.Core.List.{[], ◌∷◌}
 use Prim.Native.Nat.{ℕ, ◌≤◌}
 use native.Mathlib.Omega.{arith}
 use lib.ListN.{get_or, replicate}
-use Rattle.base.proofs.Padding.{get_d_replicate}
+use Rattle.base.proofs.Padding.{get_or_replicate}
 use Rattle.plan.specs.Edition.{most_boundaries}
 use Rattle.plan.specs.Refusal.{releases_differ}
 use Rattle.plan.specs.Report.{or_else, fault}
@@ -25,7 +25,7 @@ agree p e h = ap (λ b. or_else (fault b (releases_differ ∷ [])) (pair_fault p
 
 -- The rows of the ends hold zeros before they are filled.
 zeros : (k : ℕ) → get_or (replicate most_boundaries 0) k 0 ≤ most_sum
-zeros k = rw (get_d_replicate {A = ℕ} most_boundaries k 0) (omega arith)
+zeros k = rw (get_or_replicate {A = ℕ} most_boundaries k 0) (omega arith)
 
 pub returns-then-not-same_release : goal.returns-then-not-same_release
 returns-then-not-same_release c =

@@ -1,6 +1,6 @@
 -- For the contracts of internal functions; no promise rests on this file. The
 -- readiness of a plan and a run for a slot, and the refusal of a slot's call by
--- readiness, which is `slotFault` (proofs/Readiness).
+-- readiness, which is `slot_fault` (proofs/Readiness).
 use Rattle.std.specs.Prelude.{Bool, true, false, not, cond, ◌&&◌, List, ℕ, leb, eqb, get_or}
 use Rattle.plan.specs.Rules.{grade_allowed, window_allowed, size_allowed}
 use Rattle.plan.specs.Boundaries.{last_deadline}

@@ -32,7 +32,7 @@ abbrev pub line_view : LineRead → Parsed rule.Line
 line_view (line.Line l next) = got (line_of l) next
 line_view (line.Refused refusal) = no refusal
 
--- The refusal of a `LineRead`, or `noRefusal` if it is a line.
+-- The refusal of a `LineRead`, or `no_refusal` if it is a line.
 abbrev pub line_refusal : LineRead → Refusal
 line_refusal (line.Line l next) = no_refusal
 line_refusal (line.Refused refusal) = refusal
@@ -42,7 +42,7 @@ abbrev pub job_view : JobRead → Parsed Job
 job_view (job.Job j next) = got j next
 job_view (job.Refused refusal) = no refusal
 
--- The refusal of a `JobRead`, or `noRefusal` if it is a job.
+-- The refusal of a `JobRead`, or `no_refusal` if it is a job.
 abbrev pub job_refusal : JobRead → Refusal
 job_refusal (job.Job j next) = no_refusal
 job_refusal (job.Refused refusal) = refusal

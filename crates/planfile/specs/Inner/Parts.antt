@@ -25,7 +25,7 @@ abbrev pub row_view : RowRead → Parsed rule.Row
 row_view (row.Row r next) = got (record { at = r.at; units = r.units }) next
 row_view (row.Refused refusal) = no refusal
 
--- The refusal of a `RowRead`, or `noRefusal` if it is a row.
+-- The refusal of a `RowRead`, or `no_refusal` if it is a row.
 abbrev pub row_refusal : RowRead → Refusal
 row_refusal (row.Row r next) = no_refusal
 row_refusal (row.Refused refusal) = refusal

@@ -30,13 +30,13 @@ loop-k-init c =
 pub overflow_cast-value : goal.overflow_cast-value
 overflow_cast-value c =
     let byte : get_or c.args.file.now (c.args.at + (c.loop-k.k - 1)) 0 < 256
-    = (c.shared_slice_known-1.given (c.args.at + (c.loop-k.k - 1))).fits in
+    = (c.type_inv.file (c.args.at + (c.loop-k.k - 1))).fits in
     omega (arith, byte)
 
 pub overflow_mul-value : goal.overflow_mul-value
 overflow_mul-value c =
     let byte : get_or c.args.file.now (c.args.at + (c.loop-k.k - 1)) 0 < 256
-    = (c.shared_slice_known-1.given (c.args.at + (c.loop-k.k - 1))).fits in
+    = (c.type_inv.file (c.args.at + (c.loop-k.k - 1))).fits in
     let scaled : c.loop-k.scale ≡ 256 ^ (c.args.w - c.loop-k.k) = c.loop-k.invariant.2 (omega arith) in
     let fits : c.loop-k.value + get_or c.args.file.now (c.args.at + (c.loop-k.k - 1)) 0 * c.loop-k.scale < 2 ^ 64
     = rw scaled (room (c.args.w - c.loop-k.k) c.loop-k.invariant.1.1 byte (omega arith)) in
@@ -45,7 +45,7 @@ overflow_mul-value c =
 pub overflow_add-value-in-loop-k : goal.overflow_add-value-in-loop-k
 overflow_add-value-in-loop-k c =
     let byte : get_or c.args.file.now (c.args.at + (c.loop-k.k - 1)) 0 < 256
-    = (c.shared_slice_known-1.given (c.args.at + (c.loop-k.k - 1))).fits in
+    = (c.type_inv.file (c.args.at + (c.loop-k.k - 1))).fits in
     let scaled : c.loop-k.scale ≡ 256 ^ (c.args.w - c.loop-k.k) = c.loop-k.invariant.2 (omega arith) in
     let fits : c.loop-k.value + get_or c.args.file.now (c.args.at + (c.loop-k.k - 1)) 0 * c.loop-k.scale < 2 ^ 64
     = rw scaled (room (c.args.w - c.loop-k.k) c.loop-k.invariant.1.1 byte (omega arith)) in
@@ -55,7 +55,7 @@ pub overflow_mul-scale : goal.overflow_mul-scale
 overflow_mul-scale c =
     let scaled : c.loop-k.scale ≡ 256 ^ (c.args.w - c.loop-k.k) = c.loop-k.invariant.2 (omega arith) in
     let byte : get_or c.args.file.now (c.args.at + (c.loop-k.k - 1)) 0 < 256
-    = (c.shared_slice_known-1.given (c.args.at + (c.loop-k.k - 1))).fits in
+    = (c.type_inv.file (c.args.at + (c.loop-k.k - 1))).fits in
     let fits : c.loop-k.value + get_or c.args.file.now (c.args.at + (c.loop-k.k - 1)) 0 * c.loop-k.scale < 2 ^ 64
     = rw scaled (room (c.args.w - c.loop-k.k) c.loop-k.invariant.1.1 byte (omega arith)) in
     let n = c.args.w - c.loop-k.k in
@@ -68,7 +68,7 @@ loop-k-preserved-then-k-gt0 c =
     let scaled : c.loop-k.scale ≡ 256 ^ (c.args.w - c.loop-k.k) = c.loop-k.invariant.2 (omega arith) in
     let one_more : c.args.w - (c.loop-k.k - 1) ≡ suc (c.args.w - c.loop-k.k) = omega arith in
     let byte : get_or c.args.file.now (c.args.at + (c.loop-k.k - 1)) 0 < 256
-    = (c.shared_slice_known-1.given (c.args.at + (c.loop-k.k - 1))).fits in
+    = (c.type_inv.file (c.args.at + (c.loop-k.k - 1))).fits in
     let turn : Has c.args.file.now c.args.at c.args.w (c.loop-k.k - 1) (c.loop-k.value + get_or c.args.file.now (c.args.at + (c.loop-k.k - 1)) 0 * c.loop-k.scale)
     = let a = c.args in
     let l = c.loop-k in
@@ -80,7 +80,7 @@ loop-k-preserved-then-k-gt0 c =
 pub loop-k-preserved : goal.loop-k-preserved
 loop-k-preserved c =
     let byte : get_or c.args.file.now (c.args.at + (c.loop-k.k - 1)) 0 < 256
-    = (c.shared_slice_known-1.given (c.args.at + (c.loop-k.k - 1))).fits in
+    = (c.type_inv.file (c.args.at + (c.loop-k.k - 1))).fits in
     let scaled : c.loop-k.scale ≡ 256 ^ (c.args.w - c.loop-k.k) = c.loop-k.invariant.2 (omega arith) in
     let one_more : c.args.w - (c.loop-k.k - 1) ≡ suc (c.args.w - c.loop-k.k) = omega arith in
     let turn : Has c.args.file.now c.args.at c.args.w (c.loop-k.k - 1) (c.loop-k.value + get_or c.args.file.now (c.args.at + (c.loop-k.k - 1)) 0 * c.loop-k.scale)

@@ -30,7 +30,7 @@ pub loop-l-init : goal.loop-l-init
 loop-l-init c =
     let a = c.args in
     let none : a.m - a.m ≡ 0 = omega arith in
-    let product = mul-le-mul {n₁ = a.d.0} {m₁ = get_or a.times.now a.m 0} {n₂ = 65535} {m₂ = 4294967295} (omega arith) (omega (arith, c.shared_slice_known-3-1.given a.m)) in
+    let product = mul-le-mul {n₁ = a.d.0} {m₁ = get_or a.times.now a.m 0} {n₂ = 65535} {m₂ = 4294967295} (omega arith) (omega (arith, c.type_inv.times a.m)) in
     (omega arith, sym (ap (sum _) none ∙ sum_start _), omega arith, taken_start a.d.0 a.sums.now a.times.now a.m (2 ^ 63 - 1) (slack_view a.known) (taken_some a.due a.m c.if-due-m.false).1 (omega (arith, product)), omega arith, sfits_lit tt)
 
 pub overflow_sub-l : goal.overflow_sub-l

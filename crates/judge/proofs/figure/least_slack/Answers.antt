@@ -39,7 +39,7 @@ add_rows-due-requires c =
     let ready : ReadyFor c.args.p c.args.table.now c.args.times.now c.hi_deadlines_of-deadlines.result c.args.spans
     = let a = c.args in
     ready_from a.p a.table.now a.times.now c.hi_deadlines_of-deadlines.result a.spans c.requires c.hi_deadlines_of-deadlines.ensures in
-    let most : (q : ℕ) → get_or c.args.table.now q 0 ≤ most_at_place = λ q. omega (arith, c.shared_slice_known-1.given q) in
+    let most : (q : ℕ) → get_or c.args.table.now q 0 ≤ most_at_place = λ q. omega (arith, c.type_inv.table q) in
     rows_fit ready most c.loop-m-test.true c.loop-m.invariant.1
 
 pub slice_bounds-column_taken_in-end : goal.slice_bounds-column_taken_in-end
@@ -47,7 +47,7 @@ slice_bounds-column_taken_in-end c =
     let ready : ReadyFor c.args.p c.args.table.now c.args.times.now c.hi_deadlines_of-deadlines.result c.args.spans
     = let a = c.args in
     ready_from a.p a.table.now a.times.now c.hi_deadlines_of-deadlines.result a.spans c.requires c.hi_deadlines_of-deadlines.ensures in
-    let most : (q : ℕ) → get_or c.args.table.now q 0 ≤ most_at_place = λ q. omega (arith, c.shared_slice_known-1.given q) in
+    let most : (q : ℕ) → get_or c.args.table.now q 0 ≤ most_at_place = λ q. omega (arith, c.type_inv.table q) in
     let summed : Summed c.args.p c.args.table.now (suc c.loop-m.m) c.add_rows-due.new.sums
     = summed_next ready most c.loop-m-test.true c.add_rows-due.new.sums c.loop-m.invariant.1 c.add_rows-due.ensures.1 c.add_rows-due.ensures.2 in
     sym summed.room
@@ -57,7 +57,7 @@ column_taken_in-best-requires c =
     let ready : ReadyFor c.args.p c.args.table.now c.args.times.now c.hi_deadlines_of-deadlines.result c.args.spans
     = let a = c.args in
     ready_from a.p a.table.now a.times.now c.hi_deadlines_of-deadlines.result a.spans c.requires c.hi_deadlines_of-deadlines.ensures in
-    let most : (q : ℕ) → get_or c.args.table.now q 0 ≤ most_at_place = λ q. omega (arith, c.shared_slice_known-1.given q) in
+    let most : (q : ℕ) → get_or c.args.table.now q 0 ≤ most_at_place = λ q. omega (arith, c.type_inv.table q) in
     let summed : Summed c.args.p c.args.table.now (suc c.loop-m.m) c.add_rows-due.new.sums
     = summed_next ready most c.loop-m-test.true c.add_rows-due.new.sums c.loop-m.invariant.1 c.add_rows-due.ensures.1 c.add_rows-due.ensures.2 in
     column_fits ready most c.loop-m-test.true summed
@@ -75,7 +75,7 @@ loop-m-preserved c =
     let ready : ReadyFor c.args.p c.args.table.now c.args.times.now c.hi_deadlines_of-deadlines.result c.args.spans
     = let a = c.args in
     ready_from a.p a.table.now a.times.now c.hi_deadlines_of-deadlines.result a.spans c.requires c.hi_deadlines_of-deadlines.ensures in
-    let most : (q : ℕ) → get_or c.args.table.now q 0 ≤ most_at_place = λ q. omega (arith, c.shared_slice_known-1.given q) in
+    let most : (q : ℕ) → get_or c.args.table.now q 0 ≤ most_at_place = λ q. omega (arith, c.type_inv.table q) in
     let summed : Summed c.args.p c.args.table.now (suc c.loop-m.m) c.add_rows-due.new.sums
     = summed_next ready most c.loop-m-test.true c.add_rows-due.new.sums c.loop-m.invariant.1 c.add_rows-due.ensures.1 c.add_rows-due.ensures.2 in
     let due : c.add_rows-due.result ≡ is_hi_deadline c.args.p (boundary c.args.p c.loop-m.m)

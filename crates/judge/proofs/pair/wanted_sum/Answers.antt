@@ -13,7 +13,7 @@ returns-then-wanted c =
     let a = c.args in
     let sum_is_lem = c.sum_of.ensures in (
       rw c.if-wanted.true sum_is_lem,
-      omega (arith, sum_is_lem, sum_bound (strided a.table.now a.start 1) most_at_place a.count (λ k l. omega (arith, c.shared_slice_known-1.given (a.start + 1 * k))), mul-le-mul_right most_at_place c.requires),
+      omega (arith, sum_is_lem, sum_bound (strided a.table.now a.start 1) most_at_place a.count (λ k l. omega (arith, c.type_inv.table (a.start + 1 * k))), mul-le-mul_right most_at_place c.requires),
     )
 
 pub returns-else-wanted : goal.returns-else-wanted

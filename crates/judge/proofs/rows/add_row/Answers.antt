@@ -33,11 +33,11 @@ bounds-table-start c =
 
 pub overflow_cast-sums : goal.overflow_cast-sums
 overflow_cast-sums c =
-    omega (arith, c.shared_slice_known-1.given (c.args.start + c.loop-j.j))
+    omega (arith, c.type_inv.table (c.args.start + c.loop-j.j))
 
 pub overflow_add-sums-in-loop-j : goal.overflow_add-sums-in-loop-j
 overflow_add-sums-in-loop-j c =
-    omega (arith, c.shared_slice_known-1.given (c.args.start + c.loop-j.j), c.loop-j.invariant.1.rest c.loop-j.j (omega arith), c.requires.2 c.loop-j.j c.loop-j-test.true)
+    omega (arith, c.type_inv.table (c.args.start + c.loop-j.j), c.loop-j.invariant.1.rest c.loop-j.j (omega arith), c.requires.2 c.loop-j.j c.loop-j-test.true)
 
 pub offset_bounds-sums-j-in-loop-j : goal.offset_bounds-sums-j-in-loop-j
 offset_bounds-sums-j-in-loop-j c =

@@ -14,7 +14,7 @@ use Rattle.judge.specs.Constraints.{units}
 use Rattle.judge.specs.Inner.Widths.{most_at_place}
 use Rattle.base.proofs.Choice.{on_at_most}
 use Rattle.judge.proofs.Columns.{none_due}
-use Rattle.judge.proofs.rows.add_rows.Invariants.{dueOf}
+use Rattle.judge.proofs.rows.add_rows.Invariants.{due_of}
 use Rattle.judge.proofs.rows.add_rows.Goals as goal
 
 pub returns-then-is_absent_time : goal.returns-then-is_absent_time
@@ -54,8 +54,8 @@ add_row-requires c =
         c.requires.4 j l,
         c.loop-i-test.true,
         c.requires.1,
-        sum_bound (dueOf a.table.now a.deadlines.now a.time.0 j) most_at_place i
-            (λ k b. on_at_most (eqb (get_or a.deadlines.now k 0) a.time.0) (units a.table.now k j) most_at_place (omega (arith, c.shared_slice_known-1.given (most_intervals * k + j)))),
+        sum_bound (due_of a.table.now a.deadlines.now a.time.0 j) most_at_place i
+            (λ k b. on_at_most (eqb (get_or a.deadlines.now k 0) a.time.0) (units a.table.now k j) most_at_place (omega (arith, c.type_inv.table (most_intervals * k + j)))),
       ),
     )
 
@@ -72,7 +72,7 @@ loop-i-preserved c =
     let a = c.args in (
       omega (arith, c.loop-i-test.true),
       c.add_row.ensures.0 ∙ c.loop-i.invariant.1,
-      λ j l. omega (arith, c.add_row.ensures.1 j l, c.loop-i.invariant.2 j l, sum_step (dueOf a.table.now a.deadlines.now a.time.0 j) c.loop-i.i),
+      λ j l. omega (arith, c.add_row.ensures.1 j l, c.loop-i.invariant.2 j l, sum_step (due_of a.table.now a.deadlines.now a.time.0 j) c.loop-i.i),
     )
 
 pub shape_of-sums : goal.shape_of-sums
@@ -85,5 +85,5 @@ returns c =
     let end : c.loop-i.i ≡ length a.deadlines.now = omega (arith, c.loop-i-test.false, c.loop-i.invariant.0) in (
       sym (ap not (sym c.is_absent_time.ensures ∙ c.if-is_absent_time.false)),
       c.loop-i.invariant.1,
-      λ j l. c.loop-i.invariant.2 j l ∙ ap (λ n. get_or a.sums.now j 0 + sum (dueOf a.table.now a.deadlines.now a.time.0 j) n) end,
+      λ j l. c.loop-i.invariant.2 j l ∙ ap (λ n. get_or a.sums.now j 0 + sum (due_of a.table.now a.deadlines.now a.time.0 j) n) end,
     )

@@ -10,12 +10,12 @@ use Rattle.judge.specs.Constraints.{units}
 use Rattle.judge.proofs.rows.add_rows.Given as goal
 
 -- The units that job k has in interval j if its deadline is `time`, otherwise 0.
-abbrev pub dueOf : List ℕ → List ℕ → ℕ → ℕ → ℕ → ℕ
-dueOf table deadlines time j k = on (eqb (get_or deadlines k 0) time) (units table k j)
+abbrev pub due_of : List ℕ → List ℕ → ℕ → ℕ → ℕ → ℕ
+due_of table deadlines time j k = on (eqb (get_or deadlines k 0) time) (units table k j)
 
 abbrev pub invariant-loop-i : goal.invariant-loop-i
 invariant-loop-i l =
-    (l.i ≤ length l.deadlines) × (length l.sums ≡ length l.initial.sums) × ((j : ℕ) → j < l.spans → get_or l.sums j 0 ≡ get_or l.initial.sums j 0 + sum (dueOf l.table l.deadlines l.time.0 j) l.i)
+    (l.i ≤ length l.deadlines) × (length l.sums ≡ length l.initial.sums) × ((j : ℕ) → j < l.spans → get_or l.sums j 0 ≡ get_or l.initial.sums j 0 + sum (due_of l.table l.deadlines l.time.0 j) l.i)
 
 abbrev pub decreases-loop-i : goal.decreases-loop-i
 decreases-loop-i l = length l.deadlines - l.i

@@ -7,7 +7,7 @@ use native.Mathlib.Omega.{arith}
 use lib.ListN.{length, set, length-set}
 use lib.Seq.{get_or-set_same, get_or-set_other, ext_get_or}
 use Rattle.base.proofs.Logic.{if_same, if_less}
-use Rattle.base.proofs.Padding.{get_d_replicate}
+use Rattle.base.proofs.Padding.{get_or_replicate}
 use Rattle.plan.specs.Edition.{most_jobs}
 use Rattle.plan.specs.Rules.{names, name, counted}
 use Rattle.plan.specs.declared.kinds.Plan.{Plan}
@@ -31,7 +31,7 @@ all_named p row records so =
 
 pub loop-i-init : goal.loop-i-init
 loop-i-init c =
-    (omega arith, record { long = refl; named = λ k h. absurd (omega arith); rest = λ k h. get_d_replicate most_jobs k 0 })
+    (omega arith, record { long = refl; named = λ k h. absurd (omega arith); rest = λ k h. get_or_replicate most_jobs k 0 })
 
 pub loop-i-preserved : goal.loop-i-preserved
 loop-i-preserved c =
