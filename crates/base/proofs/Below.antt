@@ -1,11 +1,15 @@
 -- Laws of `every`, `least` and `greatest`.
 use mathlib.Core.Path.{◌≡◌, refl, sym, ◌∙◌, ap, ap₂}
-use mathlib.Core.Bool.{Bool, true, false, ◌&&◌, and-true, and_assoc}
+use mathlib.Core.Bool.{Bool, true, false, not, ◌&&◌, ◌||◌, and-true, and_assoc}
+use mathlib.Core.List.{List, [], ◌∷◌}
 use Prim.Native.Nat.{ℕ, zero, suc, ◌+◌, ◌-◌, ◌≤◌, ◌<◌, min, max}
 use native.Mathlib.Nat.{add-zero, add-suc}
 use native.Mathlib.Numerals.{add-one}
 use native.Mathlib.Decide.{dec_lt}
 use native.Mathlib.Omega.{arith}
+use lib.ListN.{length, get_or}
+use Rattle.std.specs.List.{list_all, list_any, fold, reduce}
+use Rattle.std.specs.Option.{unwrap_or}
 use Rattle.base.proofs.Logic.{below-or-last, and_left, and_right}
 use Rattle.base.specs.Below.{every, least, greatest}
 
@@ -62,6 +66,23 @@ pub least_next : (f : ℕ → ℕ) {so_far : ℕ} (n : ℕ) → 1 ≤ n → so_f
 unfolding least
 least_next f zero h e = absurd (omega arith)
 least_next f (suc n) h e = rw (add-one, e) refl
+
+-- The least element of a list, as `reduce` computes it, over the indices of the list.
+least_front : (f g : ℕ → ℕ) (n : ℕ) → g 0 ≡ min (f 0) (f 1) → ((k : ℕ) → g (suc k) ≡ f (suc (suc k))) → least g (suc n) ≡ least f (suc (suc n))
+unfolding least
+least_front f g zero e h = e
+least_front f g (suc n) e h = ap₂ min (least_front f g n e h) (h n)
+
+pub least_folded : (a : ℕ) (l : List ℕ) → fold min a l ≡ least (λ k. get_or (a ∷ l) k 0) (suc (length l))
+unfolding least
+least_folded a [] = refl
+least_folded a (x ∷ l) =
+    least_folded (min a x) l ∙ least_front (λ k. get_or (a ∷ x ∷ l) k 0) (λ k. get_or (min a x ∷ l) k 0) (length l) refl (λ k. refl)
+
+pub least_element : (l : List ℕ) → unwrap_or (reduce min l) 0 ≡ least (λ k. get_or l k 0) (length l)
+unfolding least
+least_element [] = refl
+least_element (x ∷ l) = least_folded x l
 
 -- `least f n` is a lower bound of f below n, and `greatest f n` an upper bound;
 -- both are attained if n > 0.
@@ -141,3 +162,21 @@ pub every_both : (test other : ℕ → Bool) (n : ℕ) → every (λ k. test k &
 unfolding every
 every_both test other zero = refl
 every_both test other (suc n) = ap (λ b. b && (test n && other n)) (every_both test other n) ∙ interchange (every test n) (every other n) (test n) (other n)
+
+-- A test of every element of a list, and of no element, over the indices of the list.
+pub every_element : {A : Type 0} (test : A → Bool) (d : A) (l : List A) → list_all test l ≡ every (λ k. test (get_or l k d)) (length l)
+unfolding every
+every_element test d [] = refl
+every_element test d (x ∷ l) =
+    ap (λ b. test x && b) (every_element test d l) ∙ sym (every_shift (λ k. test (get_or (x ∷ l) k d)) (length l))
+
+not_or : (a b : Bool) → not (a || b) ≡ (not a && not b)
+not_or true b = refl
+not_or false b = refl
+
+pub every_but : {A : Type 0} (test : A → Bool) (d : A) (l : List A) → not (list_any test l) ≡ every (λ k. not (test (get_or l k d))) (length l)
+unfolding every
+every_but test d [] = refl
+every_but test d (x ∷ l) =
+    not_or (test x) (list_any test l) ∙ ap (λ b. not (test x) && b) (every_but test d l)
+    ∙ sym (every_shift (λ k. not (test (get_or (x ∷ l) k d))) (length l))

@@ -1,11 +1,13 @@
 -- Laws of finite sums, for any length.
 use mathlib.Core.Path.{◌≡◌, refl, sym, ◌∙◌, ap, ap₂}
+use mathlib.Core.List.{List}
 use mathlib.Core.Logic.{◌≢◌}
-use Prim.Native.Nat.{ℕ, zero, suc, ◌+◌, ◌*◌, ◌≤◌, ◌<◌}
+use Prim.Native.Nat.{ℕ, zero, suc, ◌+◌, ◌-◌, ◌*◌, ◌≤◌, ◌<◌}
 use native.Mathlib.Nat.{suc-mul, add-zero, add-suc}
 use native.Mathlib.Numerals.{add-one}
 use native.Mathlib.Omega.{arith}
-use Rattle.base.specs.Sum.{sum}
+use lib.ListN.{length, get_or-eq_default}
+use Rattle.base.specs.Sum.{sum, strided}
 use Rattle.base.proofs.Logic.{below-or-last}
 
 -- The empty sum is 0, and a sum of n + 1 terms is the sum of the first n plus term n.
@@ -98,3 +100,15 @@ sum_room f g (suc n) i r h less more =
     (λ l. omega (arith, sum_room f g n i r l (λ k b. less k (omega arith)) more, less n (omega arith)))
     (λ e. omega (arith, sum_mono f g n (λ k b. less k (omega arith)), rw e at more))
 sum_room f g zero i r h less more = elim h [ ]
+
+-- Where all indices from r on lie past the end of the list, the first r terms of a strided sum give the whole.
+pub sum_inside : (l : List ℕ) (start stride r count : ℕ) → r ≤ count
+    → ((k : ℕ) → r ≤ k → k < count → length l ≤ start + stride * k)
+    → sum (strided l start stride) r ≡ sum (strided l start stride) count
+sum_inside l start stride r count few outside =
+    let f : ℕ → ℕ = strided l start stride in
+    let rest : sum (λ k. f (r + k)) (count - r) ≡ 0
+    = sum_none (λ k. f (r + k)) (count - r)
+    (λ k h. get_or-eq_default l 0 (outside (r + k) (omega arith) (omega arith))) in
+    let whole : r + (count - r) ≡ count = omega arith in
+    omega (arith, sum_split f r (count - r), ap (sum f) whole)

@@ -28,16 +28,14 @@ fn count_inside(len: usize, start: usize, stride: usize, count: u32) -> u32
 // The sum of s at the indices start + stride × k for k below `count`;
 // indices past the end add nothing. A row of a table has stride 1, a column the width of a row.
 // The count has 32 bits, so no sum wraps.
+#[tactic(auto, using(crate::proofs::SumLaws::sum_start, crate::proofs::SumLaws::sum_step, crate::proofs::SumLaws::sum_inside))]
 pub fn sum_of(s: &[u32], start: usize, stride: usize, count: u32) -> u64
     ensures { result ≡ sum (strided s.now start stride) count }
 {
     let inside = count_inside(s.len(), start, stride, count);
     let mut total: u64 = 0;
-    let mut k: u32 = 0;
-    while k < inside {
-        let at = start + stride * k as usize;
-        total += s[at] as u64;
-        k += 1;
+    for k in 0..inside {
+        total += u64::from(s[start + stride * k as usize]);
     }
     total
 }
@@ -46,9 +44,5 @@ pub fn sum_of(s: &[u32], start: usize, stride: usize, count: u32) -> u64
 pub fn clear(row: &mut [u32])
     ensures { row.new ≡ replicate (length row.old) 0 }
 {
-    let mut k = 0;
-    while k < row.len() {
-        row[k] = 0;
-        k += 1;
-    }
+    row.fill(0);
 }

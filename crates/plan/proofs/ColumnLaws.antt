@@ -1,7 +1,7 @@
--- Laws of columns: the columns that `PutsColumns` states are those of the plan if every size has room,
+-- Laws of columns: those into which a plan was put are the plan's if every size has room,
 -- and a size without room breaks rule 9.
 use mathlib.Core.Path.{◌≡◌, refl, sym, ◌∙◌}
-use mathlib.Core.Bool.{Bool, true, false, true≢false}
+use mathlib.Core.Bool.{true, false, true≢false}
 use mathlib.Core.List.{List}
 use Prim.Native.Nat.{ℕ, ◌<◌}
 use native.Mathlib.Nat.{mod-eq_of_lt}
@@ -15,7 +15,8 @@ use Rattle.base.proofs.FillLaws.{filled_at}
 use Rattle.base.proofs.Logic.{if_true, and_right}
 use Rattle.plan.specs.Edition.{most_jobs, most_size}
 use Rattle.plan.specs.Rules.{window_allowed, size_allowed, jobs_of, release, size, deadline, counted, bounds_hold}
-use Rattle.plan.specs.Columns.{Columns, PutsColumns, column_values, in_column, sizes_fit}
+use Rattle.plan.specs.Columns.{HasColumns, columns_over, column_values, in_column, sizes_fit}
+use Rattle.plan.specs.declared.columns.Columns.{Columns}
 use Rattle.plan.specs.declared.kinds.Plan.{Plan}
 
 -- A number below `column_values` is what a column holds of it.
@@ -23,25 +24,22 @@ pub in_column_lem : (x : ℕ) → x < column_values → in_column x ≡ x
 in_column_lem x h = mod-eq_of_lt h
 
 -- An entry of a column that was filled from a function of the counted jobs.
-put_at : (p : Plan) (f : ℕ → ℕ) (l left : List ℕ) → length l ≡ most_jobs → left ≡ filled f (counted p) l → (i : ℕ) → i < counted p → get_or left i 0 ≡ f i
-put_at p f l left long e i h = rw e (filled_at f (counted p) l i (omega arith) h)
+column_at : (p : Plan) (f : ℕ → ℕ) (l : List ℕ) → length l ≡ most_jobs → (i : ℕ) → i < counted p → get_or (filled f (counted p) l) i 0 ≡ f i
+column_at p f l long i h = filled_at f (counted p) l i (omega arith) h
 
--- Columns that were put from a plan whose sizes have room are the plan's.
-pub columns_put : (p : Plan) (grades releases sizes deadlines : List ℕ) {fit : Bool} {grades_left releases_left sizes_left deadlines_left : List ℕ}
-    → PutsColumns p grades releases sizes deadlines fit grades_left releases_left sizes_left deadlines_left → fit ≡ true
-    → length grades ≡ most_jobs → length releases ≡ most_jobs → length sizes ≡ most_jobs → length deadlines ≡ most_jobs
-    → Columns p (record { n = p.n; d = p.d; count = p.count }) grades_left releases_left sizes_left deadlines_left
-columns_put p grades releases sizes deadlines puts fits g r s d =
+-- Columns into which a plan whose sizes have room was put are the plan's.
+pub columns_put : (p : Plan) (c : Columns) → sizes_fit p ≡ true
+    → length c.grades ≡ most_jobs → length c.releases ≡ most_jobs → length c.sizes ≡ most_jobs → length c.deadlines ≡ most_jobs
+    → HasColumns p (columns_over p c)
+columns_put p c fits g r s d =
     record {
       n = refl;
       d = refl;
       count = refl;
-      grade = put_at p _ _ _ g puts.1;
-      release = put_at p _ _ _ r puts.2;
-      size = λ i h.
-          put_at p _ _ _ s puts.3 i h
-          ∙ in_column_lem (size p i) (ltb-true (size p i) column_values (every_at _ (counted p) i (sym puts.0 ∙ fits) h));
-      deadline = put_at p _ _ _ d puts.4;
+      grade = column_at p _ _ g;
+      release = column_at p _ _ r;
+      size = λ i h. column_at p _ _ s i h ∙ in_column_lem (size p i) (ltb-true (size p i) column_values (every_at _ (counted p) i fits h));
+      deadline = column_at p _ _ d;
     }
 
 -- Rule 9 allows no size without room.

@@ -1,4 +1,5 @@
 pub mod Names
+pub mod CountedJobs
 pub mod BoundaryOrder
 pub mod BoundaryCount
 pub mod Stray
@@ -10,3 +11,4 @@ pub mod ColumnLaws
 pub mod MarkLaws
 pub mod PlanOn
 pub mod JobLists
+pub mod Reasons

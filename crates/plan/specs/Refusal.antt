@@ -2,12 +2,15 @@
 use Rattle.std.specs.Prelude.{ℕ}
 use Rattle.plan.specs.Kinds.{Number, Offset}
 use Rattle.plan.specs.Report.{done_number}
+use Rattle.plan.specs.declared.refusal.Reason.{Reason}
+use Rattle.plan.specs.declared.refusal.Reason.TheVariants as reason
 use Rattle.plan.specs.declared.refusal.Refusal as code
 
 -- A refusal as every reading step hands it on: its `number`, and the `offset` of the first byte of the
 -- field in hand.
-abbrev pub Refusal : Type 0
-Refusal = code.Refusal
+pub record Refusal : Type 0 where
+  pub number : Number
+  pub offset : Offset
 
 -- The refusal with a number, at an offset.
 abbrev pub refusal_at : (number : Number) (offset : Offset) → Refusal
@@ -141,3 +144,41 @@ not_finite = 30
 -- The lowest rate of a reading is below zero or above the mean.
 abbrev pub wrong_lowest : ℕ
 wrong_lowest = 31
+
+-- The number of each reason.
+abbrev pub number_of : Reason → Number
+number_of reason.WrongVersion = wrong_version
+number_of reason.WrongExtent = wrong_extent
+number_of reason.WrongRecordLength = wrong_record_length
+number_of reason.WrongRates = wrong_rates
+number_of reason.WrongJobCount = wrong_job_count
+number_of reason.WrongNameByte = wrong_name_byte
+number_of reason.NameTaken = name_taken
+number_of reason.WrongGrade = wrong_grade
+number_of reason.WrongJobBounds = wrong_job_bounds
+number_of reason.TooManyRows = too_many_rows
+number_of reason.RowWithoutJob = row_without_job
+number_of reason.RowWithoutInterval = row_without_interval
+number_of reason.RowWithoutUnits = row_without_units
+number_of reason.RowOutOfOrder = row_out_of_order
+number_of reason.OutsideWindow = outside_window
+number_of reason.WrongTotal = wrong_total
+number_of reason.OverCapacity = over_capacity
+number_of reason.BelowFloorRule = below_floor_rule
+number_of reason.ClockAtEnd = clock_at_end
+number_of reason.SpeedAboveNormal = speed_above_normal
+number_of reason.Unsound = unsound
+number_of reason.BufferTooShort = buffer_too_short
+number_of reason.WrongLine = wrong_line
+number_of reason.WrongHeader = wrong_header
+number_of reason.NoSuchJob = no_such_job
+number_of reason.CannotEnd = cannot_end
+number_of reason.TooManySpeeds = too_many_speeds
+number_of reason.ReleasesDiffer = releases_differ
+number_of reason.NoTimetable = no_timetable
+number_of reason.NotFinite = not_finite
+number_of reason.WrongLowest = wrong_lowest
+
+-- The view of a refusal of the code: its reason's number, and its offset.
+abbrev pub refusal_view : code.Refusal → Refusal
+refusal_view refusal = refusal_at (number_of refusal.reason) refusal.offset

@@ -35,6 +35,12 @@ abbrev pub number_of : Report → Number
 number_of [] = done_number
 number_of (number ∷ places) = number
 
+-- The offset of a report of a reading; 0 if it has none.
+abbrev pub offset_of : Report → ℕ
+offset_of [] = 0
+offset_of (number ∷ []) = 0
+offset_of (number ∷ offset ∷ rest) = offset
+
 -- Whether a number is one of some.
 abbrev pub is_one_of : List ℕ → ℕ → Bool
 is_one_of [] x = false

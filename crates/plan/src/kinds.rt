@@ -1,24 +1,24 @@
 // Slots, units, the rate that relates them, jobs, lists of jobs, and plans in hand.
 ghost use Rattle.std.specs.Prelude.{◌≡◌, ◌*◌, ◌-◌};
-ghost use Rattle.plan.specs.Rules.{no_job};
+ghost use Rattle.plan.specs.Rules.{no_job, no_plan};
 
 use crate::edition::Edition;
 
 // A number of slots: a time or a length of time.
-#[derive(Clone, Copy)]
+#[derive(Clone, Copy, Debug, PartialEq, Eq, PartialOrd, Ord)]
 pub struct Slots(pub u32);
 
 // A number of units of work. 64 bits hold every sum that is taken over a table.
-#[derive(Clone, Copy)]
+#[derive(Clone, Copy, PartialEq, Eq, PartialOrd, Ord)]
 pub struct Units(pub u64);
 
 // Units per slot.
-#[derive(Clone, Copy)]
+#[derive(Clone, Copy, PartialEq, Eq, PartialOrd, Ord)]
 pub struct Rate(pub u16);
 
 // A name's eight bytes as one number, the first byte highest.
 // Two names are equal exactly when the numbers are.
-#[derive(Clone, Copy)]
+#[derive(Clone, Copy, PartialEq, Eq)]
 pub struct Name(pub u64);
 
 pub const LO: u8 = 0;
@@ -52,15 +52,7 @@ pub struct Plan {
     pub jobs: [Job; Edition::MOST_JOBS],
 }
 
-// A plan without its jobs. A call that is lent the columns of the jobs (`columns`) needs no plan in hand.
-#[derive(Clone, Copy)]
-pub struct Outline {
-    pub n: Rate,
-    pub d: Rate,
-    pub count: usize,
-}
-
-// The record of zeros.
+// The record of zeros. It is no `Default`, since rule 9 allows no job without a window.
 pub fn no_job() -> Job
     ensures { result ≡ no_job }
 {
@@ -73,21 +65,31 @@ pub fn no_job() -> Job
     }
 }
 
-// A stored 32-bit number as units.
+// The plan of zeros.
+pub fn no_plan() -> Plan
+    ensures { result ≡ no_plan }
+{
+    Plan {
+        n: Rate(0),
+        d: Rate(0),
+        count: 0,
+        jobs: [no_job(); Edition::MOST_JOBS],
+    }
+}
+
+// A stored 32-bit number as units. It is no `From`: wrong programs name the call that they break.
 pub fn as_units(stored: u32) -> Units
     ensures { result ≡ record { 0 = stored } }
 {
-    Units(stored as u64)
+    Units(u64::from(stored))
 }
 
-// The slots from one time to another; 0 if the second is earlier.
-pub fn elapsed(from: Slots, to: Slots) -> Slots
-    ensures { result ≡ record { 0 = to.0 - from.0 } }
-{
-    if from.0 <= to.0 {
-        Slots(to.0 - from.0)
-    } else {
-        Slots(0)
+impl Slots {
+    // The slots from this time to another; 0 if the other is earlier.
+    pub fn elapsed(self, to: Slots) -> Slots
+        ensures { result ≡ record { 0 = to.0 - self.0 } }
+    {
+        Slots(to.0.saturating_sub(self.0))
     }
 }
 
@@ -97,6 +99,6 @@ impl Rate {
     pub fn over(self, time: Slots) -> Units
         ensures { result ≡ record { 0 = self.0 * time.0 } }
     {
-        Units(self.0 as u64 * time.0 as u64)
+        Units(u64::from(self.0) * u64::from(time.0))
     }
 }

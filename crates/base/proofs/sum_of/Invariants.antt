@@ -1,13 +1,10 @@
 -- `base::sum_of` meets its contract: the loop sums the terms inside the slice,
 -- and the others are 0.
 use mathlib.Core.Path.{◌≡◌}
-use Prim.Native.Nat.{◌*◌, ◌-◌, ◌≤◌}
+use Prim.Native.Nat.{◌*◌, ◌≤◌}
 use Rattle.base.specs.Sum.{sum, strided}
 use Rattle.base.proofs.sum_of.Given as goal
 
 abbrev pub invariant-loop-k : goal.invariant-loop-k
 invariant-loop-k l =
-    (l.k ≤ l.inside) × (l.total ≡ sum (strided l.s l.start l.stride) l.k) × (l.total ≤ 4294967295 * l.k)
-
-abbrev pub decreases-loop-k : goal.decreases-loop-k
-decreases-loop-k l = l.inside - l.k
+    (l.total ≡ sum (strided l.s l.start l.stride) l.k) × (l.total ≤ 4294967295 * l.k)

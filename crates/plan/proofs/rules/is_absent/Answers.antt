@@ -1,23 +1,8 @@
--- `plan::rules::is_absent` meets its contract:
--- after k iterations `absent` says whether none of the first k numbers is x.
-use mathlib.Core.Path.{◌≡◌, refl, sym, ◌∙◌, ap}
-use native.Mathlib.Omega.{arith}
-use lib.ListN.{length}
-use Rattle.base.specs.Below.{every}
-use Rattle.plan.specs.Rules.{is_absent}
-use Rattle.base.proofs.Below.{every_start, every_next}
+-- No number equals x exactly when no position holds x.
+use Rattle.std.proofs.Common.{◌∙◌}
+use Rattle.plan.proofs.Names.{absent_any}
 use Rattle.plan.proofs.rules.is_absent.Goals as goal
 
-pub loop-k-init : goal.loop-k-init
-loop-k-init c =
-    (omega arith, sym (every_start _))
-
-pub loop-k-preserved : goal.loop-k-preserved
-loop-k-preserved c =
-    (omega arith, every_next _ c.loop-k.k c.loop-k.invariant.1 refl)
-
 pub returns : goal.returns
-unfolding is_absent
 returns c =
-    let whole : c.loop-k.k ≡ length c.args.numbers.now = omega arith in
-    c.loop-k.invariant.1 ∙ ap (every _) whole
+    c.is_none_of.ensures ∙ absent_any c.args.numbers.now c.args.x

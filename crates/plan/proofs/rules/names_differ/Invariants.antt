@@ -2,7 +2,6 @@
 -- after i iterations `differ` says whether the first i names are pairwise different.
 use mathlib.Core.Path.{◌≡◌}
 use mathlib.Core.Bool.{not}
-use Prim.Native.Nat.{◌-◌, ◌≤◌}
 use lib.Dec.{eqb}
 use lib.ListN.{get_or}
 use Rattle.base.specs.Below.{every}
@@ -10,7 +9,4 @@ use Rattle.plan.proofs.rules.names_differ.Given as goal
 
 abbrev pub invariant-loop-i : goal.invariant-loop-i
 invariant-loop-i l =
-    (l.i ≤ l.count) × (l.differ ≡ every (λ j. every (λ k. not (eqb (get_or l.row k 0) (get_or l.row j 0))) j) l.i)
-
-abbrev pub decreases-loop-i : goal.decreases-loop-i
-decreases-loop-i l = l.count - l.i
+    l.differ ≡ every (λ j. every (λ k. not (eqb (get_or l.names k 0) (get_or l.names j 0))) j) l.i

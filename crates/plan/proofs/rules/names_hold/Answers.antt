@@ -1,22 +1,16 @@
--- `plan::rules::names_hold` meets its contract:
--- after i iterations `holds` is the rule over the first i jobs.
-use mathlib.Core.Path.{◌≡◌, sym, ◌∙◌, ap}
-use native.Mathlib.Omega.{arith}
-use Rattle.base.specs.Below.{every}
-use Rattle.plan.specs.Rules.{names_hold, counted}
-use Rattle.base.proofs.Below.{every_start, every_next}
+-- The test of each counted job, over the jobs' positions.
+use Rattle.std.proofs.Common.{Bool, ◌∙◌, rules, tests, arith}
+use Rattle.std.proofs.lemmas.Iterator.{YieldsList-from_slice}
+use Rattle.std.proofs.lemmas.Iterator.Search.{all_from_yields_List}
+use Rattle.plan.specs.Rules.{name_allowed, names_hold}
+use Rattle.plan.specs.declared.kinds.Job.{Job}
+use Rattle.plan.proofs.CountedJobs.{every_job}
 use Rattle.plan.proofs.rules.names_hold.Goals as goal
-
-pub loop-i-init : goal.loop-i-init
-loop-i-init c =
-    (omega arith, sym (every_start _))
-
-pub loop-i-preserved : goal.loop-i-preserved
-loop-i-preserved c =
-    (omega arith, every_next _ c.loop-i.i c.loop-i.invariant.1 c.name_allowed-holds.ensures)
 
 pub returns : goal.returns
 unfolding names_hold
 returns c =
-    let whole : c.loop-i.i ≡ counted c.args.p = omega arith in
-    c.loop-i.invariant.1 ∙ ap (every _) whole
+    let test : Job → Bool = λ j. name_allowed j.name.0 in
+    let jobs = c.counted_jobs.result.now in
+    all_from_yields_List test _ _ _ c.all.ensures.ran (YieldsList-from_slice jobs cc) (λ x b q k. search (rules, tests))
+    ∙ every_job test c.args.p jobs c.counted_jobs.ensures.records (omega arith)

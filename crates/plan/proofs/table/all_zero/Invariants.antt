@@ -9,7 +9,4 @@ use Rattle.plan.proofs.table.all_zero.Given as goal
 
 abbrev pub invariant-loop-q : goal.invariant-loop-q
 invariant-loop-q l =
-    (l.start ≤ l.q) × (l.q ≤ l.start + l.count) × (l.zero ≡ every (λ k. eqb (get_or l.table (l.start + k) 0) 0) (l.q - l.start))
-
-abbrev pub decreases-loop-q : goal.decreases-loop-q
-decreases-loop-q l = l.end - l.q
+    (l.q ≤ l.start + l.count) × (l.zero ≡ every (λ k. eqb (get_or l.table (l.start + k) 0) 0) (l.q - l.start))

@@ -1,7 +1,7 @@
 -- `plan::table::no_stray` meets its contract:
 -- after i iterations `clear` says whether the first i rows are 0 after the intervals.
 use mathlib.Core.Path.{◌≡◌}
-use Prim.Native.Nat.{◌+◌, ◌*◌, ◌-◌, ◌≤◌}
+use Prim.Native.Nat.{◌+◌, ◌*◌}
 use lib.Dec.{eqb}
 use lib.ListN.{get_or}
 use Rattle.plan.specs.Edition.{most_intervals}
@@ -10,7 +10,4 @@ use Rattle.plan.proofs.table.no_stray.Given as goal
 
 abbrev pub invariant-loop-i : goal.invariant-loop-i
 invariant-loop-i l =
-    (l.i ≤ l.jobs) × (l.clear ≡ every (λ i'. every (λ k. eqb (get_or l.table (most_intervals * i' + l.spans + k) 0) 0) l.rest) l.i)
-
-abbrev pub decreases-loop-i : goal.decreases-loop-i
-decreases-loop-i l = l.jobs - l.i
+    l.clear ≡ every (λ i'. every (λ k. eqb (get_or l.table (most_intervals * i' + l.spans + k) 0) 0) l.rest) l.i
