@@ -5,3 +5,4 @@ pub mod BytesAt
 pub mod RoundTripLaws
 pub mod Only
 pub mod Injective
+pub mod WholeBytes

@@ -1,5 +1,5 @@
 -- Laws of parser steps: fields, tests, and refusals that are passed on.
-use mathlib.Core.Path.{◌≡◌, refl, sym, ◌∙◌, ap}
+use mathlib.Core.Path.{◌≡◌, refl, sym, ◌∙◌}
 use mathlib.Core.Bool.{Bool, true, false, not, cond}
 use mathlib.Core.List.{List}
 use Prim.Native.Nat.{ℕ, ◌+◌, ◌≤◌, ◌<◌}
@@ -10,11 +10,6 @@ use lib.ListN.{length, take, drop}
 use Rattle.plan.specs.Refusal.{Refusal, refusal_at, wrong_extent}
 use Rattle.fields.specs.Bytes.{value}
 use Rattle.fields.specs.Parsers.{Parsed, got, no, Parser, onward, test, field, checked}
-use Rattle.fields.specs.Answers.{field_value, field_refusal, passed_refusal}
-use Rattle.fields.specs.declared.field.Field.{Field}
-use Rattle.fields.specs.declared.field.Field.TheVariants as field
-use Rattle.fields.specs.declared.field.Passed.{Passed}
-use Rattle.fields.specs.declared.field.Passed.TheVariants as passed
 
 -- A field inside the file is read, and one that the file cuts short is refused.
 pub field_whole : (w : ℕ) (file : List ℕ) (at : ℕ) {v : ℕ} → at + w ≤ length file → v ≡ value 0 (take w (drop at file))
@@ -25,20 +20,6 @@ field_whole w file at h e = rw (le-leb (at + w) (length file) h, e)
 pub field_cut : (w : ℕ) (file : List ℕ) (at : ℕ) → length file < at + w → ◌≡◌ {A = Parsed ℕ} (no (refusal_at wrong_extent at)) (field w file at)
 unfolding field
 field_cut w file at h = rw (lt-leb (at + w) (length file) h)
-
--- If s is the view of an answer f, and a match has shown f to be g, then s is the view of g.
-module _ {A F : Type 0} (told : F → Parsed A) where
-  pub so : {f g : F} {s : Parsed A} → told f ≡ s → f ≡ g → s ≡ told g
-  so e h = sym e ∙ ap told h
-
-  -- A refusal is passed on as it is.
-  pub refused : (refusal : F → Refusal) {f g : F} {s : Parsed A} {x k : Refusal} → told f ≡ s → f ≡ g → told g ≡ no k → refusal g ≡ k → x ≡ refusal f
-      → s ≡ no x
-  refused refusal e h t u v = so e h ∙ t ∙ ap no (sym (v ∙ ap refusal h ∙ u))
-
--- The value in a matched answer obeys the bound on the answer's value.
-pub small : {f : Field} {v next m : ℕ} → field_value f < m → f ≡ field.Value v next → v < m
-small h e = rw e at h
 
 -- The value of a test t, after a branch on its negation.
 pub failed : {r t : Bool} → r ≡ t → not r ≡ true → t ≡ false
@@ -93,13 +74,6 @@ checked_is w ok number file at e =
     let u = past (ok t.value) number at file t.next t.on in
     let v = same_value u.on in
     (t.is ∙ u.on, rw v at u.is)
-
--- What the code takes from a refused answer is its refusal.
-pub passed_refused : {p : Passed} {x k : Refusal} → p ≡ passed.Refused k → x ≡ passed_refusal p → p ≡ passed.Refused x
-passed_refused e h = e ∙ ap passed.Refused (sym (h ∙ ap passed_refusal e))
-
-pub field_refused : {f : Field} {x k : Refusal} → f ≡ field.Refused k → x ≡ field_refusal f → f ≡ field.Refused x
-field_refused e h = e ∙ ap field.Refused (sym (h ∙ ap field_refusal e))
 
 -- A field of w bytes that is read ends at offset at + w, inside the file,
 -- and has the value of its bytes.

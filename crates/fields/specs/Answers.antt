@@ -1,61 +1,45 @@
 -- The views of the field readers' answers as parser results, and the contracts of the readers.
-use Rattle.std.specs.Prelude.{◌≡◌, Bool, true, false, ℕ, ◌<◌, ◌^◌}
+use Rattle.std.specs.Prelude.{◌≡◌, Bool, true, false, ℕ, Result, Ok, Err}
 use Rattle.plan.specs.Kinds.{Bytes, Offset}
-use Rattle.plan.specs.Refusal.{Refusal, no_refusal}
-use Rattle.fields.specs.declared.field.Field.{Field}
-use Rattle.fields.specs.declared.field.Field.TheVariants as field
-use Rattle.fields.specs.declared.field.Passed.{Passed}
-use Rattle.fields.specs.declared.field.Passed.TheVariants as passed
+use Rattle.plan.specs.Refusal.{refusal_view}
+use Rattle.plan.specs.declared.refusal.Refusal.{Refusal}
+use Rattle.fields.specs.declared.field.Parsed as code
 use Rattle.fields.specs.declared.opening.LengthRule.{LengthRule}
 use Rattle.fields.specs.declared.opening.LengthRule.TheVariants as length_rule
 use Rattle.fields.specs.Parsers as rule
 use Rattle.fields.specs.Parsers.{Parsed, got, no}
 
--- The view of a `Field`: the value and the offset of the next field, or the refusal.
-abbrev pub field_view : Field → Parsed ℕ
-field_view (field.Value v next) = got v next
-field_view (field.Refused refusal) = no refusal
+-- The view of what a reader gives: the view of the value with the offset of the next field, or the refusal.
+abbrev pub parsed_view : {A B : Type 0} (view : A → B) → Result (code.Parsed A) Refusal → Parsed B
+parsed_view view (Ok parsed) = got (view parsed.value) parsed.next
+parsed_view view (Err refusal) = no (refusal_view refusal)
 
--- The value of a `Field`, or 0 after a refusal.
-abbrev pub field_value : Field → ℕ
-field_value (field.Value v next) = v
-field_value (field.Refused refusal) = 0
+-- The same of a number.
+abbrev pub field_view : Result (code.Parsed ℕ) Refusal → Parsed ℕ
+field_view = parsed_view (λ x. x)
 
--- The refusal of a `Field`, or `no_refusal` if it is a value.
-abbrev pub field_refusal : Field → Refusal
-field_refusal (field.Value v next) = no_refusal
-field_refusal (field.Refused refusal) = refusal
-
--- The view of a `Passed`: the offset of the next field, or the refusal.
-abbrev pub passed_view : Passed → Parsed (Unit {0})
-passed_view (passed.Next next) = got tt next
-passed_view (passed.Refused refusal) = no refusal
-
--- The refusal of a `Passed`, or `no_refusal` if it is an offset.
-abbrev pub passed_refusal : Passed → Refusal
-passed_refusal (passed.Next next) = no_refusal
-passed_refusal (passed.Refused refusal) = refusal
+-- The view of what a reader passes: the offset of the next field, or the refusal.
+abbrev pub passed_view : Result ℕ Refusal → Parsed (Unit {0})
+passed_view (Ok next) = got tt next
+passed_view (Err refusal) = no (refusal_view refusal)
 
 -- Whether a length field is compared with the bytes after it.
 abbrev pub is_compared : LengthRule → Bool
 is_compared length_rule.Compared = true
 is_compared length_rule.Ignored = false
 
--- The contract of `read_byte`, `read_two`, `read_four` and `read_eight`: a field of w bytes, and its
--- value, or 0 after a refusal, is below 256^w.
-abbrev pub ReadsField : (w : ℕ) (file : Bytes) (at : Offset) (r : Field) → Type 0
-ReadsField w file at r = (field_view r ≡ rule.field w file at) × (field_value r < 256 ^ w)
+-- The contract of `read`: a field of w bytes, whose number is told by `number`. The type of what is read bounds it.
+abbrev pub ReadsField : {N : Type 0} (w : ℕ) (number : N → ℕ) (file : Bytes) (at : Offset) (r : Result (code.Parsed N) Refusal) → Type 0
+ReadsField w number file at r = parsed_view number r ≡ rule.field w file at
 
 -- The contract of `read_length`: a length byte, which must be `long`.
-abbrev pub ReadsLength : (file : Bytes) (at : Offset) (long : ℕ) (r : Passed) → Type 0
+abbrev pub ReadsLength : (file : Bytes) (at : Offset) (long : ℕ) (r : Result ℕ Refusal) → Type 0
 ReadsLength file at long r = passed_view r ≡ rule.record_length long file at
 
--- The contract of `read_opening`: the version, at most `newest`, and the length field, from offset 0
--- on; the version, or 0 after a refusal, is a byte.
-abbrev pub ReadsOpening : (file : Bytes) (newest : ℕ) (lengths : LengthRule) (r : Field) → Type 0
-ReadsOpening file newest lengths r =
-    (field_view r ≡ rule.opening newest (is_compared lengths) file 0) × (field_value r < 256 ^ 1)
+-- The contract of `read_opening`: the version, at most `newest`, and the length field, from offset 0 on.
+abbrev pub ReadsOpening : (file : Bytes) (newest : ℕ) (lengths : LengthRule) (r : Result (code.Parsed ℕ) Refusal) → Type 0
+ReadsOpening file newest lengths r = field_view r ≡ rule.opening newest (is_compared lengths) file 0
 
 -- The contract of `read_end`: the offset if the file ends there, otherwise the refusal.
-abbrev pub ReadsEnd : (file : Bytes) (at : Offset) (r : Passed) → Type 0
+abbrev pub ReadsEnd : (file : Bytes) (at : Offset) (r : Result ℕ Refusal) → Type 0
 ReadsEnd file at r = passed_view r ≡ rule.ended file at

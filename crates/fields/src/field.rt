@@ -1,101 +1,98 @@
-// Reading one field of 1, 2, 4 or 8 bytes, highest byte first.
-// Every field of a file is read through `read_field`; `planfile::extent`, which is asked before there is a whole
+// Reading one field: a number of 1, 2, 4 or 8 bytes, highest byte first.
+// Every field of a file is read through `read`; `planfile::extent`, which is asked before there is a whole
 // file, looks at the bytes of the length field by itself.
-ghost use Rattle.std.specs.Prelude.{◌≡◌, ◌≤◌};
-ghost use Rattle.fields.specs.Answers.{field_refusal, passed_refusal, ReadsField};
+ghost use Rattle.std.specs.Prelude.{◌≡◌, ℕ, ◌<◌, length};
+ghost use Rattle.fields.specs.Bytes.{value};
+ghost use Rattle.fields.specs.Answers.{ReadsField};
 
-use plan::refusal::{DONE, Refusal, WRONG_EXTENT};
+use plan::refusal::{Reason, Refusal};
 
-// A value and the offset of the next field, or the refusal.
-#[derive(Clone, Copy)]
-pub enum Field {
-    Value(u64, usize),
-    Refused(Refusal),
+// What was read, and the offset of the next field.
+#[derive(Clone, Copy, Debug, PartialEq, Eq)]
+pub struct Parsed<T> {
+    pub value: T,
+    pub next: usize,
 }
 
-// The offset of the next field alone, or the refusal.
-#[derive(Clone, Copy)]
-pub enum Passed {
-    Next(usize),
-    Refused(Refusal),
+// A number that a field holds in some bytes.
+pub trait Number: Copy {
+    ghost WIDTH: { ℕ };
+
+    ghost number: { Self → ℕ };
+
+    const WIDTH: usize;
+
+    // The number of as many bytes, highest first.
+    fn from_bytes(bytes: &[u8]) -> Self
+        requires { length bytes.now ≡ WIDTH }
+        ensures { number result ≡ value 0 bytes.now };
 }
 
-pub fn field_refusal(f: Field) -> Refusal
-    ensures { result ≡ field_refusal f }
-{
-    match f {
-        Field::Value(_, _) => Refusal {
-            number: DONE,
-            offset: 0,
-        },
-        Field::Refused(refusal) => refusal,
+impl Number for u8 {
+    ghost WIDTH = { 1 };
+
+    ghost number = { λ x. x };
+
+    const WIDTH: usize = 1;
+
+    #[tactic(auto, using(crate::proofs::WholeBytes::value_one))]
+    fn from_bytes(bytes: &[u8]) -> u8 {
+        bytes[0]
     }
 }
 
-pub fn passed_refusal(p: Passed) -> Refusal
-    ensures { result ≡ passed_refusal p }
-{
-    match p {
-        Passed::Next(_) => Refusal {
-            number: DONE,
-            offset: 0,
-        },
-        Passed::Refused(refusal) => refusal,
+impl Number for u16 {
+    ghost WIDTH = { 2 };
+
+    ghost number = { λ x. x };
+
+    const WIDTH: usize = 2;
+
+    #[tactic(auto, using(crate::proofs::WholeBytes::value_two))]
+    fn from_bytes(bytes: &[u8]) -> u16 {
+        u16::from_be_bytes([bytes[0], bytes[1]])
     }
 }
 
-// A field of w bytes.
-fn read_field(file: &[u8], at: usize, w: usize) -> Field
-    requires { w ≤ 8 }
-    ensures { ReadsField w file.now at result }
+impl Number for u32 {
+    ghost WIDTH = { 4 };
+
+    ghost number = { λ x. x };
+
+    const WIDTH: usize = 4;
+
+    #[tactic(auto, using(crate::proofs::WholeBytes::value_four))]
+    fn from_bytes(bytes: &[u8]) -> u32 {
+        u32::from_be_bytes([bytes[0], bytes[1], bytes[2], bytes[3]])
+    }
+}
+
+impl Number for u64 {
+    ghost WIDTH = { 8 };
+
+    ghost number = { λ x. x };
+
+    const WIDTH: usize = 8;
+
+    #[tactic(auto, using(crate::proofs::WholeBytes::value_eight))]
+    fn from_bytes(bytes: &[u8]) -> u64 {
+        u64::from_be_bytes([
+            bytes[0], bytes[1], bytes[2], bytes[3], bytes[4], bytes[5], bytes[6], bytes[7],
+        ])
+    }
+}
+
+// The field at an offset. If the file ends inside it, it is refused at its first byte.
+pub fn read<N: Number>(file: &[u8], at: usize) -> Result<Parsed<N>, Refusal>
+    ensures { ReadsField N.WIDTH N.number file.now at result }
 {
-    if file.len() < at {
-        return Field::Refused(Refusal {
-            number: WRONG_EXTENT,
+    if file.len() < at || file.len() - at < N::WIDTH {
+        return Err(Refusal {
+            reason: Reason::WrongExtent,
             offset: at,
         });
     }
-    if file.len() - at < w {
-        return Field::Refused(Refusal {
-            number: WRONG_EXTENT,
-            offset: at,
-        });
-    }
-    // Lowest byte first, which compiles to a single load even for eight bytes.
-    let mut value: u64 = 0;
-    let mut scale: u64 = 1;
-    let mut k = w;
-    while k > 0 {
-        k -= 1;
-        value = value + file[at + k] as u64 * scale;
-        // The last byte needs no further scale, and 256^8 would not fit.
-        if k > 0 {
-            scale = scale * 256;
-        }
-    }
-    Field::Value(value, at + w)
-}
-
-pub fn read_byte(file: &[u8], at: usize) -> Field
-    ensures { ReadsField 1 file.now at result }
-{
-    read_field(file, at, 1)
-}
-
-pub fn read_two(file: &[u8], at: usize) -> Field
-    ensures { ReadsField 2 file.now at result }
-{
-    read_field(file, at, 2)
-}
-
-pub fn read_four(file: &[u8], at: usize) -> Field
-    ensures { ReadsField 4 file.now at result }
-{
-    read_field(file, at, 4)
-}
-
-pub fn read_eight(file: &[u8], at: usize) -> Field
-    ensures { ReadsField 8 file.now at result }
-{
-    read_field(file, at, 8)
+    let next = at + N::WIDTH;
+    let value = N::from_bytes(&file[at..next]);
+    Ok(Parsed { value, next })
 }

@@ -1,117 +1,76 @@
 // Reading one job.
-ghost use Rattle.std.specs.Prelude.{◌≡◌, ◌<◌, ◌^◌};
+ghost use Rattle.std.specs.Prelude.{◌≡◌};
 ghost use Rattle.plan.specs.Refusal.{wrong_grade};
 ghost use Rattle.plan.specs.Rules.{grade_allowed};
 ghost use Rattle.fields.specs.Parsers.{checked};
-ghost use Rattle.fields.specs.Answers.{field_view, field_value};
+ghost use Rattle.fields.specs.Answers.{field_view};
 ghost use Rattle.planfields.specs.Records.{job_name};
-ghost use Rattle.planfields.specs.Answers.{job_refusal, ReadsJob};
+ghost use Rattle.planfields.specs.Answers.{ReadsJob};
 
 use crate::layout::Layout;
-use fields::field::{
-    Field, Passed, field_refusal, passed_refusal, read_byte, read_eight, read_four,
-};
+use fields::field::{Parsed, read};
 use fields::record::read_length;
 use plan::kinds::{Job, Name, Slots, Units};
-use plan::refusal::{DONE, NAME_TAKEN, Refusal, WRONG_GRADE, WRONG_JOB_BOUNDS, WRONG_NAME_BYTE};
+use plan::refusal::{Reason, Refusal};
 use plan::rules::{grade_allowed, is_absent, name_allowed, size_allowed, window_allowed};
 
-#[derive(Clone, Copy)]
-pub enum JobRead {
-    Job(Job, usize),
-    Refused(Refusal),
-}
-
-pub fn job_refusal(j: JobRead) -> Refusal
-    ensures { result ≡ job_refusal j }
-{
-    match j {
-        JobRead::Job(_, _) => Refusal {
-            number: DONE,
-            offset: 0,
-        },
-        JobRead::Refused(refusal) => refusal,
-    }
-}
-
 // The length byte and the name of a job, given the names of the jobs before it.
-fn read_name(file: &[u8], at: usize, earlier: &[u64]) -> Field
+fn read_name(file: &[u8], at: usize, earlier: &[u64]) -> Result<Parsed<u64>, Refusal>
     ensures { field_view result ≡ job_name earlier.now file.now at }
 {
-    let long = read_length(file, at, Layout::JOB_LENGTH as u64);
-    let Passed::Next(from) = long else {
-        return Field::Refused(passed_refusal(long));
-    };
-    let named = read_eight(file, from);
-    let Field::Value(name, next) = named else {
-        return named;
-    };
-    if !name_allowed(Name(name)) {
-        return Field::Refused(Refusal {
-            number: WRONG_NAME_BYTE,
+    let from = read_length(file, at, Layout::JOB_LENGTH as u64)?;
+    let name = read::<u64>(file, from)?;
+    if !name_allowed(Name(name.value)) {
+        return Err(Refusal {
+            reason: Reason::WrongNameByte,
             offset: from,
         });
     }
-    if !is_absent(earlier, name) {
-        return Field::Refused(Refusal {
-            number: NAME_TAKEN,
+    if !is_absent(earlier, name.value) {
+        return Err(Refusal {
+            reason: Reason::NameTaken,
             offset: from,
         });
     }
-    named
+    Ok(name)
 }
 
-fn read_grade(file: &[u8], at: usize) -> Field
-    ensures { (field_view result ≡ checked 1 grade_allowed wrong_grade file.now at) × (field_value result < 256 ^ 1) }
+fn read_grade(file: &[u8], at: usize) -> Result<Parsed<u8>, Refusal>
+    ensures { field_view result ≡ checked 1 grade_allowed wrong_grade file.now at }
 {
-    let byte = read_byte(file, at);
-    let Field::Value(grade, next) = byte else {
-        return byte;
-    };
-    if !grade_allowed(grade as u8) {
-        return Field::Refused(Refusal {
-            number: WRONG_GRADE,
+    let grade = read::<u8>(file, at)?;
+    if !grade_allowed(grade.value) {
+        return Err(Refusal {
+            reason: Reason::WrongGrade,
             offset: at,
         });
     }
-    byte
+    Ok(grade)
 }
 
-pub fn read_job(file: &[u8], at: usize, earlier: &[u64]) -> JobRead
+pub fn read_job(file: &[u8], at: usize, earlier: &[u64]) -> Result<Parsed<Job>, Refusal>
     ensures { ReadsJob file.now at earlier.now result }
 {
-    let named = read_name(file, at, earlier);
-    let Field::Value(name, after_name) = named else {
-        return JobRead::Refused(field_refusal(named));
-    };
-    let graded = read_grade(file, after_name);
-    let Field::Value(grade, after_grade) = graded else {
-        return JobRead::Refused(field_refusal(graded));
-    };
-    let released = read_four(file, after_grade);
-    let Field::Value(release, after_release) = released else {
-        return JobRead::Refused(field_refusal(released));
-    };
-    let sized = read_four(file, after_release);
-    let Field::Value(size, after_size) = sized else {
-        return JobRead::Refused(field_refusal(sized));
-    };
-    let deadline_read = read_four(file, after_size);
-    let Field::Value(deadline, next) = deadline_read else {
-        return JobRead::Refused(field_refusal(deadline_read));
-    };
+    let name = read_name(file, at, earlier)?;
+    let grade = read_grade(file, name.next)?;
+    let release = read::<u32>(file, grade.next)?;
+    let size = read::<u32>(file, release.next)?;
+    let deadline = read::<u32>(file, size.next)?;
     let job = Job {
-        name: Name(name),
-        grade: grade as u8,
-        release: Slots(release as u32),
-        size: Units(size),
-        deadline: Slots(deadline as u32),
+        name: Name(name.value),
+        grade: grade.value,
+        release: Slots(release.value),
+        size: Units(u64::from(size.value)),
+        deadline: Slots(deadline.value),
     };
     if !(window_allowed(job.release, job.deadline) & size_allowed(job.size)) {
-        return JobRead::Refused(Refusal {
-            number: WRONG_JOB_BOUNDS,
-            offset: after_grade,
+        return Err(Refusal {
+            reason: Reason::WrongJobBounds,
+            offset: grade.next,
         });
     }
-    JobRead::Job(job, next)
+    Ok(Parsed {
+        value: job,
+        next: deadline.next,
+    })
 }

@@ -1,54 +1,45 @@
 // Reading the numbers after the jobs: the row count, and a row's interval and units.
 ghost use Rattle.planfields.specs.Answers.{ReadsRowCount, ReadsInterval, ReadsUnits};
 
-use fields::field::{Field, read_four, read_two};
-use plan::refusal::{ROW_WITHOUT_INTERVAL, ROW_WITHOUT_UNITS, Refusal, TOO_MANY_ROWS};
+use fields::field::{Parsed, read};
+use plan::refusal::{Reason, Refusal};
 use plan::versions::rows_allowed_in;
 
-pub fn read_row_count(file: &[u8], at: usize, version: u8) -> Field
+pub fn read_row_count(file: &[u8], at: usize, version: u8) -> Result<Parsed<u16>, Refusal>
     ensures { ReadsRowCount file.now at version result }
 {
-    let two = read_two(file, at);
-    let Field::Value(rows, next) = two else {
-        return two;
-    };
-    if !rows_allowed_in(version, rows) {
-        return Field::Refused(Refusal {
-            number: TOO_MANY_ROWS,
+    let rows = read::<u16>(file, at)?;
+    if !rows_allowed_in(version, u64::from(rows.value)) {
+        return Err(Refusal {
+            reason: Reason::TooManyRows,
             offset: at,
         });
     }
-    two
+    Ok(rows)
 }
 
-pub fn read_interval(file: &[u8], at: usize, spans: usize) -> Field
+pub fn read_interval(file: &[u8], at: usize, spans: usize) -> Result<Parsed<u16>, Refusal>
     ensures { ReadsInterval file.now at spans result }
 {
-    let two = read_two(file, at);
-    let Field::Value(interval, next) = two else {
-        return two;
-    };
-    if interval as usize >= spans {
-        return Field::Refused(Refusal {
-            number: ROW_WITHOUT_INTERVAL,
+    let interval = read::<u16>(file, at)?;
+    if usize::from(interval.value) >= spans {
+        return Err(Refusal {
+            reason: Reason::RowWithoutInterval,
             offset: at,
         });
     }
-    two
+    Ok(interval)
 }
 
-pub fn read_units(file: &[u8], at: usize) -> Field
+pub fn read_units(file: &[u8], at: usize) -> Result<Parsed<u32>, Refusal>
     ensures { ReadsUnits file.now at result }
 {
-    let four = read_four(file, at);
-    let Field::Value(units, next) = four else {
-        return four;
-    };
-    if units == 0 {
-        return Field::Refused(Refusal {
-            number: ROW_WITHOUT_UNITS,
+    let units = read::<u32>(file, at)?;
+    if units.value == 0 {
+        return Err(Refusal {
+            reason: Reason::RowWithoutUnits,
             offset: at,
         });
     }
-    four
+    Ok(units)
 }

@@ -4,21 +4,14 @@ use mathlib.Core.Bool.{Bool, true, false, cond}
 use mathlib.Core.List.{List, [], ◌∷◌}
 use Prim.Native.Nat.{ℕ, zero, suc, ◌≤◌, ◌<◌}
 use native.Mathlib.Omega.{arith}
-use borrow.Author.Tests.{eq-eqb, ne_eqb, eqb-true}
-use lib.Dec.{eqb}
+use borrow.Author.Tests.{eq-eqb, eqb-true, lt-ltb}
+use lib.Dec.{eqb, ltb}
 use lib.ListN.{length, get_or}
+use Rattle.std.specs.Prelude.{◌==◌, Some, None}
+use Rattle.std.specs.List as list
+use Rattle.std.proofs.lemmas.List.Recursion.{is_position_or_len}
 use Rattle.planfile.specs.Reader.{position}
-use Rattle.planfile.specs.Inner.Parts.{Distinct}
-
--- The first index of a name is its position; without one, the position is the length.
-pub position_first : (l : List ℕ) (x r : ℕ) → r ≤ length l → ((k : ℕ) → k < r → get_or l k 0 ≡ x → ⊥)
-    → (r < length l → get_or l r 0 ≡ x) → r ≡ position l x
-unfolding position
-position_first [] x r h before found = omega arith
-position_first (y ∷ l) x zero h before found = rw (eq-eqb y x (found (omega arith)))
-position_first (y ∷ l) x (suc r) h before found =
-    rw (ne_eqb y x (before 0 (omega arith)))
-    (ap suc (position_first l x r (omega arith) (λ k lt. before (suc k) (omega arith)) (λ lt. found (omega arith))))
+use Rattle.planfile.specs.Inner.Parts.{Distinct, found_at}
 
 -- If the position is in bounds, the name is there; no index of the name is below its position.
 pub position_found : (l : List ℕ) (x : ℕ) → position l x < length l → get_or l (position l x) 0 ≡ x
@@ -46,3 +39,12 @@ pub position_only : (l : List ℕ) (x r : ℕ) → Distinct l → r < length l �
 position_only l x r differ h e =
     let low = position_least l x r h e in
     differ r (position l x) h (omega arith) (e ∙ sym (position_found l x (omega arith)))
+
+-- So that is what a search from any index on finds.
+pub found_there : (l : List ℕ) (x r : ℕ) → Distinct l → r < length l → get_or l r 0 ≡ x → Some r ≡ found_at l x
+found_there l x r differ h e = let p = position_only l x r differ h e in rw (← p, lt-ltb r (length l) h) refl
+
+-- A search from 0 on finds the first index of a name, whether or not they are distinct.
+pub found_first : (l : List ℕ) (x : ℕ) → list.position (λ y. y == x) l ≡ found_at l x
+unfolding position
+found_first l x = ap (λ n. cond (ltb n (length l)) (Some n) None) (sym (is_position_or_len (λ m. position m x) (λ y. y == x) refl (λ y m. ap (λ n. cond (y == x) 0 n) (omega arith)) l))

@@ -1,41 +1,20 @@
 -- Laws of reading rows.
 use mathlib.Core.Path.{◌≡◌, refl, sym, ◌∙◌, ap}
-use mathlib.Core.Bool.{true, false, not}
+use mathlib.Core.Bool.{not}
 use mathlib.Core.List.{List}
 use Prim.Native.Nat.{ℕ, zero, suc, ◌+◌, ◌*◌, ◌-◌, ◌≤◌, ◌<◌}
 use native.Mathlib.Numerals.{add-one}
 use native.Mathlib.Omega.{arith}
-use borrow.Author.Tests.{ltb-true, le-leb, lt-leb}
+use borrow.Author.Tests.{ltb-true}
 use lib.Dec.{leb, ltb, eqb}
 use lib.ListN.{length, set}
 use Rattle.plan.specs.Edition.{most_intervals}
 use Rattle.planfields.specs.Layout.{row_length}
-use Rattle.plan.specs.Refusal.{Refusal, refusal_at, row_without_job, row_without_interval, row_without_units, row_out_of_order}
+use Rattle.plan.specs.Refusal.{Refusal, row_without_job, row_without_interval, row_without_units, row_out_of_order}
 use Rattle.plan.specs.Table.{place}
 use Rattle.fields.specs.Parsers.{Parsed, got, no, onward, field, checked, record_length}
 use Rattle.planfile.specs.Reader.{position, Row, row_job, one_row, all_rows}
 use Rattle.fields.proofs.ParserLaws.{through, past, checked_is, same_value}
-
--- The length byte and the name of a row: the first fault decides the result.
-module _ (names file : List ℕ) (at : ℕ) where
-  pub job_unmeasured : {k : Refusal} → record_length row_length file at ≡ no k → ◌≡◌ {A = Parsed ℕ} (no k) (row_job names file at)
-  unfolding row_job
-  job_unmeasured e = rw e
-
-  module _ {u : Unit {0}} {a₁ : ℕ} (e₁ : record_length row_length file at ≡ got u a₁) where
-    pub job_unnamed : {k : Refusal} → field 8 file a₁ ≡ no k → ◌≡◌ {A = Parsed ℕ} (no k) (row_job names file at)
-    unfolding row_job
-    job_unnamed e = rw (e₁, e)
-
-    module _ {name a₂ : ℕ} (e₂ : field 8 file a₁ ≡ got name a₂) where
-      pub job_missing : ltb (position names name) (length names) ≡ false
-          → ◌≡◌ {A = Parsed ℕ} (no (refusal_at row_without_job a₁)) (row_job names file at)
-      unfolding row_job
-      job_missing t = rw (e₁, e₂, t)
-
-      pub job_found : ltb (position names name) (length names) ≡ true → ◌≡◌ {A = Parsed ℕ} (got (position names name) a₂) (row_job names file at)
-      unfolding row_job
-      job_found t = rw (e₁, e₂, t)
 
 -- Where a row's job is read, it is the position of the name that stands there.
 pub job_there : (names file : List ℕ) (at : ℕ) {job next : ℕ} → row_job names file at ≡ got job next → job < length names
@@ -45,32 +24,6 @@ job_there names file at e =
     let t₂ = through (field 8 file t₁.next) t₁.on in
     let t₃ = past (ltb (position names t₂.value) (length names)) row_without_job t₁.next file t₂.next t₂.on in
     omega (arith, same_value t₃.on, ltb-true (position names t₂.value) (length names) t₃.is)
-
--- One row, field by field: the first fault decides the result.
-module _ (width : ℕ) (names : List ℕ) (spans low : ℕ) (file : List ℕ) (at : ℕ) where
-  pub row_jobless : {k : Refusal} → row_job names file at ≡ no k → one_row width names spans low file at ≡ no k
-  unfolding one_row
-  row_jobless e = rw e
-
-  module _ {job a₁ : ℕ} (e₁ : row_job names file at ≡ got job a₁) where
-    pub row_unplaced : {k : Refusal} → checked 2 (λ j. ltb j spans) row_without_interval file a₁ ≡ no k → one_row width names spans low file at ≡ no k
-    unfolding one_row
-    row_unplaced e = rw (e₁, e)
-
-    module _ {interval a₂ : ℕ} (e₂ : checked 2 (λ j. ltb j spans) row_without_interval file a₁ ≡ got interval a₂) where
-      pub row_empty : {k : Refusal} → checked 4 (λ u. not (eqb u 0)) row_without_units file a₂ ≡ no k → one_row width names spans low file at ≡ no k
-      unfolding one_row
-      row_empty e = rw (e₁, e₂, e)
-
-      module _ {units a₃ : ℕ} (e₃ : checked 4 (λ u. not (eqb u 0)) row_without_units file a₂ ≡ got units a₃) where
-        pub row_late : place width job interval < low → one_row width names spans low file at ≡ no (refusal_at row_out_of_order at)
-        unfolding one_row
-        row_late h = rw (e₁, e₂, e₃, lt-leb low (place width job interval) h)
-
-        pub row_whole : low ≤ place width job interval
-            → one_row width names spans low file at ≡ got (record { at = place width job interval; units = units }) a₃
-        unfolding one_row
-        row_whole h = rw (e₁, e₂, e₃, le-leb low (place width job interval) h)
 
 -- The place of a row that is read is below most_intervals times the number of jobs.
 pub row_inside : (names : List ℕ) (spans low : ℕ) (file : List ℕ) (at : ℕ) {row : Row} {next : ℕ}

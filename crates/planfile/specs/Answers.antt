@@ -1,26 +1,32 @@
 -- The views of the answers of reader and lookup, and the contracts of both.
-use Rattle.std.specs.Prelude.{◌≡◌, List, [], ◌∷◌, ℕ, ◌+◌}
+use Rattle.std.specs.Prelude.{◌≡◌, List, [], ◌∷◌, ℕ, ◌+◌, Result, Ok, Err}
 use Rattle.plan.specs.Kinds.{Bytes, Position, Table}
-use Rattle.plan.specs.Refusal.{buffer_too_short}
+use Rattle.plan.specs.Refusal.{buffer_too_short, number_of}
 use Rattle.plan.specs.Report.{Report}
-use Rattle.planfile.specs.declared.reader.Answer.{Answer}
-use Rattle.planfile.specs.declared.reader.Answer.TheVariants as answer
-use Rattle.planfile.specs.declared.reader.PlanRead.{PlanRead}
+use Rattle.plan.specs.Rules.{no_plan}
+use Rattle.plan.specs.declared.kinds.Plan.{Plan}
+use Rattle.planfile.specs.declared.reader.ReadFault.{ReadFault}
+use Rattle.planfile.specs.declared.reader.ReadFault.TheVariants as fault
 use Rattle.planfile.specs.Reader as rule
 
 -- The view of the reader's answer: empty for a plan that was read, otherwise the refusal number and, except
 -- with 22, the offset of the field in hand.
-abbrev pub answer_view : Answer → Report
-answer_view answer.Read = []
-answer_view answer.TooShort = buffer_too_short ∷ []
-answer_view (answer.Refused refusal) = refusal.number ∷ refusal.offset ∷ []
+abbrev pub answer_view : Result Plan ReadFault → Report
+answer_view (Ok plan) = []
+answer_view (Err fault.TooShort) = buffer_too_short ∷ []
+answer_view (Err (fault.Refused refusal)) = number_of refusal.reason ∷ refusal.offset ∷ []
+
+-- The plan that the reader gives: none is the plan of zeros.
+abbrev pub plan_given : Result Plan ReadFault → Plan
+plan_given (Ok plan) = plan
+plan_given (Err f) = no_plan
 
 -- The view of the reader's effect: its answer, the plan, and the table at exit.
-abbrev pub read_view : (r : PlanRead) (left : List ℕ) → rule.ReadEffect
-read_view r left = record { answer = answer_view r.answer; plan = r.plan; table = left }
+abbrev pub read_view : (r : Result Plan ReadFault) (left : List ℕ) → rule.ReadEffect
+read_view r left = record { answer = answer_view r; plan = plan_given r; table = left }
 
 -- The contract of `read`: the answer, the plan and the table at exit are those of `reader`.
-abbrev pub Reads : (file : Bytes) (table : Table) (r : PlanRead) (left : List ℕ) → Type 0
+abbrev pub Reads : (file : Bytes) (table : Table) (r : Result Plan ReadFault) (left : List ℕ) → Type 0
 Reads file table r left = read_view r left ≡ rule.reader file table
 
 -- The contract of `name_at`: the offset that it returns is the one of `name_found`.

@@ -2,6 +2,7 @@
 #![tactic(auto)]
 
 pub mod extent;
+mod grid;
 pub mod lookup;
 mod preamble;
 pub mod reader;

@@ -5,7 +5,6 @@ ghost use Rattle.planfile.specs.Answers.{Finds, Shows, ShownAt};
 ghost use Rattle.planfile.specs.Inner.Parts.{count_of};
 
 use crate::reader::fill;
-use fields::field::Passed;
 use plan::edition::Edition;
 use planfields::layout::Layout;
 
@@ -13,11 +12,7 @@ use planfields::layout::Layout;
 fn count_in(file: &[u8]) -> usize
     ensures { result ≡ count_of (read_file file.now) }
 {
-    let mut none = [0u32; 1];
-    let reading = fill(file, &mut none[..0]);
-    let answer = reading.answer;
-    let plan = reading.plan;
-    let Passed::Next(_) = answer else {
+    let Ok(plan) = fill(file, &mut []) else {
         return 0;
     };
     plan.count
@@ -25,6 +20,8 @@ fn count_in(file: &[u8]) -> usize
 
 // The offset in the file at which a job's name begins;
 // 0 if the reader, lent enough places, would refuse the file or if it has no such job.
+// It is no `Option`, since hosts are told 0, at which no name begins.
+#[tactic(auto, unfolding(crate::specs::Reader::name_found), using(crate::proofs::WholeFile::found_none, crate::proofs::WholeFile::found_name))]
 pub fn name_at(file: &[u8], position: usize) -> usize
     ensures { Finds file.now position result }
 {
@@ -36,6 +33,7 @@ pub fn name_at(file: &[u8], position: usize) -> usize
 
 // The eight bytes of a job's name inside the file;
 // an empty part if the reader, lent enough places, would refuse the file or if it has no such job.
+#[tactic(auto, unfolding(crate::specs::Reader::name_found, crate::specs::Reader::name_shown), using(crate::proofs::WholeFile::found_above, crate::proofs::WholeFile::found_below, crate::proofs::WholeFile::shown_none, crate::proofs::WholeFile::shown_part))]
 pub fn name_of(file: &[u8], position: usize) -> &[u8]
     ensures shows { Shows file.now position result.now }
     ensures shown_at { ShownAt file.entry.ref_ptr file.now position result.ref_ptr }

@@ -2,97 +2,99 @@
 ghost use Rattle.std.specs.Prelude.{◌≡◌, [], length};
 ghost use Rattle.plan.specs.Edition.{places};
 ghost use Rattle.planfile.specs.Reader.{read_file, leaves};
-ghost use Rattle.planfile.specs.Answers.{read_view, Reads};
+ghost use Rattle.plan.specs.Refusal.{number_of};
+ghost use Rattle.plan.specs.Report as report;
+ghost use Rattle.plan.specs.Report.{offset_of};
+ghost use Rattle.planfile.specs.Answers.{answer_view, read_view, Reads};
 ghost use Rattle.planfile.specs.Inner.Parts.{FillAnswer};
+ghost use Rattle.planfile.specs.declared.reader.ReadFault.TheVariants as fault;
 
-use crate::preamble::{PlanPassed, no_plan, read_preamble};
+use crate::grid::Grid;
+use crate::preamble::read_preamble;
 use crate::store::store_rows;
-use base::clear;
 use fields::end::read_end;
-use fields::field::{Field, Passed, field_refusal, passed_refusal};
 use plan::boundaries::intervals_of;
 use plan::edition::Edition;
 use plan::kinds::Plan;
-use plan::refusal::Refusal;
+use plan::refusal::{Reason, Refusal};
 
-// The plan was read; or the table is too short; or the file is refused.
-#[derive(Clone, Copy)]
-pub enum Answer {
-    Read,
+// Why no plan was read: the table is too short, or the file is refused.
+#[derive(Clone, Copy, Debug, PartialEq, Eq)]
+pub enum ReadFault {
     TooShort,
     Refused(Refusal),
 }
 
-// The answer and the plan; with a refusal of `read` the plan is all zeros.
-#[derive(Clone, Copy)]
-pub struct PlanRead {
-    pub answer: Answer,
-    pub plan: Plan,
+impl From<Refusal> for ReadFault {
+    ghost from_gives = { λ refusal given. given ≡ fault.Refused refusal };
+
+    fn from(refusal: Refusal) -> ReadFault {
+        ReadFault::Refused(refusal)
+    }
+}
+
+impl ReadFault {
+    // The reason, without the offset.
+    pub fn reason(self) -> Reason
+        ensures { number_of result ≡ report.number_of (answer_view (Err self)) }
+    {
+        match self {
+            ReadFault::TooShort => Reason::BufferTooShort,
+            ReadFault::Refused(refusal) => refusal.reason,
+        }
+    }
+
+    // Where the file is wrong; 0 if the table is too short.
+    pub fn offset(self) -> usize
+        ensures { result ≡ offset_of (answer_view (Err self)) }
+    {
+        match self {
+            ReadFault::TooShort => 0,
+            ReadFault::Refused(refusal) => refusal.offset,
+        }
+    }
 }
 
 // Reads a file: the plan, and into a table of exactly PLACES zeros the allotments. With an empty
 // table the rows are checked and none is stored.
-// After a refusal the plan and the table have no meaning.
-pub(crate) fn fill(file: &[u8], table: &mut [u32]) -> PlanPassed
+// After a refusal the table has no meaning.
+#[tactic(auto, using(crate::proofs::PreambleLaws::preamble_fine, crate::proofs::WholeFile::fill_no_preamble))]
+pub(crate) fn fill(file: &[u8], table: &mut [u32]) -> Result<Plan, Refusal>
     ensures { FillAnswer (read_file file.now) table.old result table.new }
 {
     let mut names = [0u64; Edition::MOST_JOBS];
-    let preamble = read_preamble(file, &mut names);
-    let counted = preamble.answer;
-    let plan = preamble.plan;
-    let Field::Value(rows, at) = counted else {
-        return PlanPassed {
-            answer: Passed::Refused(field_refusal(counted)),
-            plan,
-        };
+    let preamble = read_preamble(file, &mut names)?;
+    let plan = preamble.value.plan;
+    let rows = usize::from(preamble.value.rows);
+    let grid = Grid {
+        names: &names[..plan.count],
+        spans: intervals_of(plan),
     };
-    let count = plan.count;
-    let spans = intervals_of(plan);
-    let stored = store_rows(file, at, rows as usize, &names[..count], spans, table);
-    let Passed::Next(last) = stored else {
-        return PlanPassed {
-            answer: stored,
-            plan,
-        };
-    };
-    PlanPassed {
-        answer: read_end(file, last),
-        plan,
-    }
+    let last = store_rows(file, preamble.next, rows, grid, table)?;
+    read_end(file, last)?;
+    Ok(plan)
 }
 
-// Reads a file into a table of exactly PLACES places.
-// A refusal leaves zeros in the plan and in the table.
-fn read_whole(file: &[u8], table: &mut [u32]) -> PlanRead
+// Reads a file into a table of exactly PLACES places. A refusal leaves zeros in the table.
+fn read_whole(file: &[u8], table: &mut [u32]) -> Result<Plan, ReadFault>
     requires { length table.old ≡ places }
     ensures { read_view result table.new ≡ leaves (read_file file.now) [] }
 {
-    clear(table);
+    table.fill(0);
     let reading = fill(file, table);
-    let answer = reading.answer;
-    let plan = reading.plan;
-    let Passed::Next(_) = answer else {
-        clear(table);
-        return PlanRead {
-            answer: Answer::Refused(passed_refusal(answer)),
-            plan: no_plan(),
-        };
-    };
-    PlanRead {
-        answer: Answer::Read,
-        plan,
+    if reading.is_err() {
+        table.fill(0);
     }
+    Ok(reading?)
 }
 
 // Reads a plan file into the lent table.
-pub fn read(file: &[u8], table: &mut [u32]) -> PlanRead
+#[tactic(auto, using(crate::proofs::WholeFile::reader_short, crate::proofs::WholeFile::read_beyond))]
+pub fn read(file: &[u8], table: &mut [u32]) -> Result<Plan, ReadFault>
     ensures { Reads file.now table.old result table.new }
 {
     if table.len() < Edition::PLACES {
-        return PlanRead {
-            answer: Answer::TooShort,
-            plan: no_plan(),
-        };
+        return Err(ReadFault::TooShort);
     }
     read_whole(file, &mut table[..Edition::PLACES])
 }

@@ -1,42 +1,35 @@
 // Reading rows in their order: the reader stores them, the lookup only checks them.
-ghost use Rattle.std.specs.Prelude.{◌≤◌, length};
-ghost use Rattle.plan.specs.Edition.{most_jobs, most_intervals};
+ghost use Rattle.plan.specs.Edition.{most_intervals};
 ghost use Rattle.planfile.specs.Reader.{all_rows};
-ghost use Rattle.planfile.specs.Inner.Parts.{Distinct, RowsAnswer};
+ghost use Rattle.planfile.specs.Inner.Parts.{RowsAnswer};
 
-use crate::row::{RowRead, read_row, row_refusal};
-use fields::field::Passed;
+use crate::grid::Grid;
+use crate::row::read_row;
+use plan::refusal::Refusal;
 
 // Reads the given number of rows and stores each at its place if the table has it;
 // the lookup lends an empty table.
+#[tactic(auto, using(crate::proofs::Rows::row_inside, crate::proofs::Rows::left_stop, crate::proofs::Rows::left_done))]
 pub(crate) fn store_rows(
     file: &[u8],
     at: usize,
     rows: usize,
-    names: &[u64],
-    spans: usize,
+    grid: Grid<'_>,
     table: &mut [u32],
-) -> Passed
-    requires { Distinct names.now × (length names.now ≤ most_jobs) × (spans ≤ most_intervals) }
-    ensures { RowsAnswer (all_rows rows most_intervals names.now spans 0 table.old file.now at) result table.new }
+) -> Result<usize, Refusal>
+    ensures { RowsAnswer (all_rows rows most_intervals grid.entry.names.now grid.entry.spans 0 table.old file.now at) result table.new }
 {
     let mut next = at;
     let mut low = 0;
     let mut job = 0;
-    let mut k = 0;
-    while k < rows {
-        let read = read_row(file, next, names, spans, low, job);
-        let RowRead::Row(row, after) = read else {
-            return Passed::Refused(row_refusal(read));
-        };
-        let place = row.at;
-        if place < table.len() {
-            table[place] = row.units;
+    for _ in 0..rows {
+        let row = read_row(file, next, grid, low, job)?;
+        if row.value.at < table.len() {
+            table[row.value.at] = row.value.units;
         }
-        low = place + 1;
-        job = row.job;
-        next = after;
-        k += 1;
+        low = row.value.at + 1;
+        job = row.value.job;
+        next = row.next;
     }
-    Passed::Next(next)
+    Ok(next)
 }

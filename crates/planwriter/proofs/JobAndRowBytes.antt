@@ -20,10 +20,10 @@ use Rattle.planwriter.specs.Writing.{job_bytes, jobs_bytes, row_bytes, row_at, r
 use Rattle.fields.proofs.ByteLaws.{length_bytes}
 use Rattle.planwriter.proofs.Sets.{Put, put_on}
 
--- A field written after the bytes written so far.
-pub put_field : {first : List ℕ} {at : ℕ} {bs out : List ℕ} {next : ℕ} → Put first at bs out next → (w x : ℕ) {after : List ℕ} {then : ℕ}
-    → then ≡ next + w → after ≡ sets out next (bytes w x) → Put first at (bs ++ bytes w x) after then
-put_field so w x e h = put_on so (bytes w x) (rw length_bytes e) h
+-- A field of x, as the number y, written after the bytes written so far.
+pub put_field : {first : List ℕ} {at : ℕ} {bs out : List ℕ} {next : ℕ} → Put first at bs out next → (w x : ℕ) {y : ℕ} {after : List ℕ} {then : ℕ}
+    → y ≡ x → then ≡ next + w → after ≡ sets out next (bytes w y) → Put first at (bs ++ bytes w x) after then
+put_field so w x is e h = put_on so (bytes w x) (rw length_bytes e) (rw is at h)
 
 pub job_long : (j : Job) → length (job_bytes j) ≡ 1 + job_length
 job_long j = simp (length-append, length_bytes)

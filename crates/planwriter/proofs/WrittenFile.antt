@@ -1,8 +1,8 @@
 -- Laws of the written file, and what soundness gives the writer.
-use mathlib.Core.Path.{◌≡◌, refl, ap}
-use mathlib.Core.Bool.{true, false}
+use mathlib.Core.Path.{◌≡◌, refl, sym, ◌∙◌, ap}
+use mathlib.Core.Bool.{Bool, true, false}
 use mathlib.Core.List.{List, ◌++◌}
-use Prim.Native.Nat.{ℕ, ◌+◌, ◌*◌, ◌≤◌, ◌<◌, ◌^◌}
+use Prim.Native.Nat.{ℕ, ◌+◌, ◌*◌, ◌≤◌, ◌<◌, ◌^◌, min}
 use native.Mathlib.Omega.{arith}
 use borrow.Author.Tests.{lt-ltb, le-ltb}
 use lib.ListN.{length, take, length-append}
@@ -13,11 +13,12 @@ use Rattle.plan.specs.Versions.{rows_allowed_in, version_for}
 use Rattle.plan.specs.Refusal.{unsound, buffer_too_short}
 use Rattle.plan.specs.Rules.{counted, names}
 use Rattle.plan.specs.Boundaries.{intervals}
-use Rattle.plan.specs.Table.{sound}
+use Rattle.plan.specs.Table.{sound, sound_within}
 use Rattle.plan.specs.declared.kinds.Plan.{Plan}
 use Rattle.fields.specs.Bytes.{bytes}
 use Rattle.planwriter.specs.Writing.{WriteEffect, wrote, withheld, jobs_bytes, rows_bytes, row_count, body, written, writer}
 use Rattle.plan.proofs.Soundness.{rules_parts, sound_parts, sound_bounded}
+use Rattle.plan.proofs.Stray.{sound_told}
 use Rattle.plan.proofs.BoundaryOrder.{boundaries_few}
 use Rattle.plan.proofs.VersionLimits.{rows_written}
 use Rattle.planwriter.specs.Inner.Writable.{Writable}
@@ -72,6 +73,24 @@ written_long p table = rw (← (written_of p table)) (simp (length-append, lengt
 
 pub body_short : (p : Plan) (table : List ℕ) → Writable p table → length (body p table) < 256 ^ 4
 body_short p table w = omega (arith, body_long p table w.few, w.few, count_few table, w.exact)
+
+-- What the writer's test of soundness says, and what it knows after the test.
+pub told_sound : (p : Plan) (table : List ℕ) {spans : ℕ} {b t : Bool} → t ≡ sound_within (min spans most_intervals) p table → spans ≡ intervals p → t ≡ b
+    → sound p table ≡ b
+told_sound p table e spans is = sym (e ∙ sound_told p table _ spans) ∙ is
+
+pub record Ready (p : Plan) (table : List ℕ) (follows : ℕ) : Type 0 where
+  pub sounds : sound p table ≡ true
+  pub writes : Writable p (take places table)
+  pub rest : follows ≡ length (body p (take places table))
+  pub whole : length (written p (take places table)) ≡ 5 + follows
+
+pub ready : (p : Plan) (table : List ℕ) (rows follows : ℕ) → sound p table ≡ true → places ≤ length table → rows ≡ row_count (take places table)
+    → follows ≡ 5 + p.count * (1 + job_length) + 2 + rows * (1 + row_length) → Ready p table follows
+ready p table rows follows e long counts f =
+    let w = writable p table e long in
+    let rest : follows ≡ length (body p (take places table)) = f ∙ rw counts (sym (body_long p (take places table) w.few)) in
+    record { sounds = e; writes = w; rest = rest; whole = written_long p (take places table) ∙ ap (λ n. 5 + n) (sym rest) }
 
 -- The writer, refusal by refusal.
 module _ (p : Plan) (table out : List ℕ) where

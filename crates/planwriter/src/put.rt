@@ -16,9 +16,7 @@ pub(crate) fn put(out: &mut [u8], at: usize, w: usize, x: u64) -> usize
     ensures { (result ≡ at + w) × (out.new ≡ sets out.old at (bytes w x)) }
 {
     let mut rest = x;
-    let mut k = w;
-    while k > 0 {
-        k -= 1;
+    for k in (0..w).rev() {
         out[at + k] = (rest % 256) as u8;
         rest = rest / 256;
     }
@@ -29,16 +27,12 @@ pub(crate) fn put_job(out: &mut [u8], at: usize, job: Job) -> usize
     requires { (at + (1 + job_length) ≤ length out.old) × (job.size.0 < 256 ^ 4) }
     ensures { (result ≡ at + (1 + job_length)) × (out.new ≡ sets out.old at (job_bytes job)) }
 {
-    let name = job.name;
-    let release = job.release;
-    let size = job.size;
-    let deadline = job.deadline;
     let after_length = put(out, at, 1, Layout::JOB_LENGTH as u64);
-    let after_name = put(out, after_length, Edition::NAME_BYTES, name.0);
-    let after_grade = put(out, after_name, 1, job.grade as u64);
-    let after_release = put(out, after_grade, 4, release.0 as u64);
-    let after_size = put(out, after_release, 4, size.0);
-    put(out, after_size, 4, deadline.0 as u64)
+    let after_name = put(out, after_length, Edition::NAME_BYTES, job.name.0);
+    let after_grade = put(out, after_name, 1, u64::from(job.grade));
+    let after_release = put(out, after_grade, 4, u64::from(job.release.0));
+    let after_size = put(out, after_release, 4, job.size.0);
+    put(out, after_size, 4, u64::from(job.deadline.0))
 }
 
 fn put_row(out: &mut [u8], at: usize, name: u64, interval: usize, units: u32) -> usize
@@ -48,7 +42,7 @@ fn put_row(out: &mut [u8], at: usize, name: u64, interval: usize, units: u32) ->
     let after_length = put(out, at, 1, Layout::ROW_LENGTH as u64);
     let after_name = put(out, after_length, Edition::NAME_BYTES, name);
     let after_interval = put(out, after_name, 2, interval as u64);
-    put(out, after_interval, 4, units as u64)
+    put(out, after_interval, 4, u64::from(units))
 }
 
 // Writes the row of an allotment, or nothing for 0 units; returns the offset after it.

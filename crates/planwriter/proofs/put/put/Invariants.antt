@@ -2,7 +2,7 @@
 -- are the whole field.
 use mathlib.Core.List.{◌++◌}
 use mathlib.Core.Path.{◌≡◌}
-use Prim.Native.Nat.{◌+◌, ◌≤◌, ◌<◌, ◌^◌}
+use Prim.Native.Nat.{◌+◌, ◌<◌, ◌^◌}
 use lib.ListN.{drop}
 use lib.Seq.{sets}
 use Rattle.fields.specs.Bytes.{bytes}
@@ -10,7 +10,4 @@ use Rattle.planwriter.proofs.put.put.Given as goal
 
 abbrev pub invariant-loop-k : goal.invariant-loop-k
 invariant-loop-k l =
-    (l.k ≤ l.w) × (l.rest < 256 ^ l.k) × (l.out ≡ sets l.initial.out (l.at + l.k) (drop l.k (bytes l.w l.x))) × (bytes l.k l.rest ++ drop l.k (bytes l.w l.x) ≡ bytes l.w l.x)
-
-abbrev pub decreases-loop-k : goal.decreases-loop-k
-decreases-loop-k l = l.k
+    (l.rest < 256 ^ l.k) × (l.out ≡ sets l.initial.out (l.at + l.k) (drop l.k (bytes l.w l.x))) × (bytes l.k l.rest ++ drop l.k (bytes l.w l.x) ≡ bytes l.w l.x)

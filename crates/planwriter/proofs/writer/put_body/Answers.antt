@@ -47,10 +47,10 @@ pub returns : goal.returns
 returns c =
     let a = c.args in
     let ns = c.names_of-names in
-    let p1 = put_field (put_start a.out.now a.at) 2 a.p.n.0 c.put-after_n.ensures.0 c.put-after_n.ensures.1 in
-    let p2 = put_field p1 2 a.p.d.0 c.put-after_d.ensures.0 c.put-after_d.ensures.1 in
-    let p3 = put_field p2 1 a.p.count c.put-after_count.ensures.0 c.put-after_count.ensures.1 in
+    let p1 = put_field (put_start a.out.now a.at) 2 a.p.n.0 c.from.ensures c.put-after_n.ensures.0 c.put-after_n.ensures.1 in
+    let p2 = put_field p1 2 a.p.d.0 c.from-2.ensures c.put-after_d.ensures.0 c.put-after_d.ensures.1 in
+    let p3 = put_field p2 1 a.p.count refl c.put-after_count.ensures.0 c.put-after_count.ensures.1 in
     let p4 = put_on p3 (jobs_bytes a.p a.p.count) (c.put_jobs-after_jobs.ensures.0 ∙ ap (λ n. c.put-after_count.result + n) (sym (jobs_long a.p a.p.count))) c.put_jobs-after_jobs.ensures.1 in
-    let p5 = put_field p4 2 a.rows c.put-after_rows.ensures.0 c.put-after_rows.ensures.1 in
+    let p5 = put_field p4 2 a.rows refl c.put-after_rows.ensures.0 c.put-after_rows.ensures.1 in
     let p6 = put_on p5 (rows_bytes most_intervals ns.result 0 a.table.now) refl c.put_rows.ensures in
     p6.stands ∙ ap (sets a.out.now a.at) (body_of a.p a.table.now c.requires.1.few c.requires.2 ns.ensures)

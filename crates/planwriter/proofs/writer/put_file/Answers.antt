@@ -27,8 +27,8 @@ put_body-requires c =
 pub returns : goal.returns
 returns c =
     let a = c.args in
-    let p1 = put_field (put_start a.out.now 0) 1 c.version_for-version.result c.put-after_version.ensures.0 c.put-after_version.ensures.1 in
-    let p2 = put_field p1 4 a.follows c.put-after_length.ensures.0 c.put-after_length.ensures.1 in
+    let p1 = put_field (put_start a.out.now 0) 1 c.version_for-version.result c.from.ensures c.put-after_version.ensures.0 c.put-after_version.ensures.1 in
+    let p2 = put_field p1 4 a.follows refl c.put-after_length.ensures.0 c.put-after_length.ensures.1 in
     let p3 = put_on p2 (body a.p a.table.now) refl c.put_body.ensures in
     p3.stands
     ∙ ap (sets a.out.now 0)

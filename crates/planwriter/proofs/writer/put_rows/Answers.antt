@@ -16,35 +16,7 @@ use Rattle.planwriter.proofs.writer.put_rows.Goals as goal
 pub loop-i-init : goal.loop-i-init
 loop-i-init c =
     let a = c.args in
-    (omega arith, rw (rows_none most_intervals a.names.now 0) (put_start a.out.now a.at))
-
-pub overflow_mul-from : goal.overflow_mul-from
-overflow_mul-from c =
-    let inside : most_intervals * c.loop-i.i + most_intervals ≤ length c.args.table.now
-    = omega (arith, c.loop-i-test.true, c.requires.2) in
-    omega (arith, inside)
-
-pub offset_bounds-names-i : goal.offset_bounds-names-i
-offset_bounds-names-i c =
-    let inside : most_intervals * c.loop-i.i + most_intervals ≤ length c.args.table.now
-    = omega (arith, c.loop-i-test.true, c.requires.2) in
-    omega (arith, inside)
-
-pub bounds-names-i : goal.bounds-names-i
-bounds-names-i c =
-    omega (arith, c.loop-i-test.true, c.requires.1)
-
-pub overflow_add-from : goal.overflow_add-from
-overflow_add-from c =
-    let inside : most_intervals * c.loop-i.i + most_intervals ≤ length c.args.table.now
-    = omega (arith, c.loop-i-test.true, c.requires.2) in
-    omega (arith, inside, c.requires.3)
-
-pub offset_bounds-table-from : goal.offset_bounds-table-from
-offset_bounds-table-from c =
-    let inside : most_intervals * c.loop-i.i + most_intervals ≤ length c.args.table.now
-    = omega (arith, c.loop-i-test.true, c.requires.2) in
-    omega (arith, inside)
+    rw (rows_none most_intervals a.names.now 0) (put_start a.out.now a.at)
 
 pub put_job_rows-next-requires : goal.put_job_rows-next-requires
 put_job_rows-next-requires c =
@@ -54,7 +26,7 @@ put_job_rows-next-requires c =
     let a = c.args in
     let pre = c.requires in
     let n = most_intervals * l.i + a.spans - most_intervals * l.i in
-    (omega (arith, pre.0, l.invariant.1.ends, put_length l.invariant.1, job_rows_fit a.names.now a.table.now a.jobs a.spans pre.4 l.i {n = n} (omega arith) pre.3 inside), omega (arith, pre.3, length-take n (drop (most_intervals * l.i) a.table.now)))
+    (omega (arith, pre.0, l.invariant.ends, put_length l.invariant, job_rows_fit a.names.now a.table.now a.jobs a.spans pre.4 l.i {n = n} (omega arith) pre.3 inside), omega (arith, pre.3, length-take n (drop (most_intervals * l.i) a.table.now)))
 
 pub loop-i-preserved : goal.loop-i-preserved
 loop-i-preserved c =
@@ -64,21 +36,15 @@ loop-i-preserved c =
     let a = c.args in
     let pre = c.requires in
     let put = c.put_job_rows-next.ensures in
-    let n = most_intervals * l.i + a.spans - most_intervals * l.i in (
-      omega (arith, c.loop-i-test.true),
-      rw (← (job_rows_next a.names.now a.table.now a.jobs a.spans pre.4 l.i {n = n} (omega arith) pre.3 inside))
-          (put_on l.invariant.1 (rows_bytes most_intervals (get_or a.names.now l.i 0 ∷ []) 0 (take n (drop (most_intervals * l.i) a.table.now))) put.0 put.1),
-    )
-
-pub shape_of-out : goal.shape_of-out
-shape_of-out c =
-    put_length c.loop-i.invariant.1
+    let n = most_intervals * l.i + a.spans - most_intervals * l.i in
+    rw (← (job_rows_next a.names.now a.table.now a.jobs a.spans pre.4 l.i {n = n} (omega arith) pre.3 inside))
+    (put_on l.invariant (rows_bytes most_intervals (get_or a.names.now l.i 0 ∷ []) 0 (take n (drop (most_intervals * l.i) a.table.now))) put.0 put.1)
 
 pub returns : goal.returns
 returns c =
     let l = c.loop-i in
     let a = c.args in
     let pre = c.requires in
-    let whole : l.i ≡ a.jobs = omega (arith, c.loop-i-test.false, l.invariant.0) in
-    (rw whole at l.invariant.1).stands
+    let whole : l.i ≡ a.jobs = omega arith in
+    (rw whole at l.invariant).stands
     ∙ ap (sets a.out.now a.at) (job_rows_all a.names.now a.table.now a.jobs a.spans pre.4 pre.2)
