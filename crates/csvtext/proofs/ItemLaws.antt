@@ -1,185 +1,140 @@
--- Laws of items: bytes that must stand at an offset, and a field with what ends it.
-use mathlib.Core.Path.{◌≡◌, refl, sym, ◌∙◌, ap}
-use mathlib.Core.Bool.{true, false, not, ◌&&◌}
-use mathlib.Core.List.{List, [], ◌∷◌}
-use Prim.Native.Nat.{ℕ, suc, ◌+◌, ◌^◌, ◌≤◌, ◌<◌, min}
-use native.Mathlib.Omega.{arith}
-use borrow.Author.Tests.{eq-eqb, ne_eqb}
+-- Laws of items: bytes that must stand at an offset, and a field with what ends it, by what the code knows of the field.
+use Rattle.std.proofs.Common.{◌≡◌, Bool, true, false, not, cond, ◌&&◌, ℕ, ◌+◌, ◌-◌, List, [], ◌∷◌, length, take, drop, refl, sym, ◌∙◌, ap, arith}
+use Prim.Native.Nat.{min}
 use lib.Dec.{eqb}
-use lib.ListN.{length, get_or, drop, drop_of_length-le}
-use lib.Seq.{drop-cons}
+use lib.ListN.{drop_of_length-le, length-drop}
+use lib.Seq.{take_all}
+use borrow.Author.Tests.{eq-eqb, ne_eqb}
+use Rattle.std.specs.Prelude.{Option, Some, None, Result, Ok, Err}
+use Rattle.std.specs.Cmp.Lexicographic.{pointwise}
+use Rattle.base.proofs.Logic.{if_less, if_same}
 use Rattle.plan.specs.Edition.{name_bytes}
-use Rattle.plan.specs.Refusal.{Refusal, refusal_at, wrong_line}
+use Rattle.plan.specs.Refusal.{refusal_at, wrong_line, number_of, refusal_view}
+use Rattle.plan.specs.declared.refusal.Refusal.{Refusal}
 use Rattle.fields.specs.Bytes.{value}
-use Rattle.fields.specs.Parsers.{Parsed, got, no}
+use Rattle.fields.specs.Parsers.{Parsed, got, no, onward, test}
+use Rattle.fields.specs.declared.field.Parsed as code
 use Rattle.fields.proofs.ByteLaws.{Octets}
 use Rattle.fields.proofs.ParserLaws.{through, same_value}
 use Rattle.csvtext.specs.Grammar.{comma, Found, found, broken, field, begins}
 use Rattle.csvtext.specs.Decimals.{is_decimal, number_in}
 use Rattle.csvtext.specs.Items.{exactly, standing, item, name_item, grade_named, grade_item, number_item}
+use Rattle.fields.specs.Answers.{passed_view}
+use Rattle.csvtext.specs.Answers.{ReadsExactly}
 use Rattle.csvtext.specs.declared.field.Seen.{Seen}
-use Rattle.csvtext.specs.declared.field.FieldRead.TheVariants as read
-use Rattle.csvtext.specs.declared.item.ItemRead.{ItemRead}
-use Rattle.csvtext.specs.declared.item.ItemRead.TheVariants as code
-use Rattle.csvtext.specs.Inner.Seen.{longest, nothing, with_bytes, seen_at}
-use Rattle.csvtext.specs.Inner.Parts.{item_seen, item_refusal, grade_seen}
+use Rattle.csvtext.specs.Inner.Seen.{nothing, with_bytes, seen_at}
+use Rattle.csvtext.specs.Inner.Parts.{item_seen, grade_seen}
 use Rattle.csvtext.proofs.SeenLaws.{seen_length, seen_name, seen_number, seen_decimal, seen_grade, Small, field_small}
 
--- Bytes compared one by one, from index i of them and from an offset of the text on.
-module _ (bytes text : List ℕ) (i next : ℕ) where
-  pub begins_done : length bytes ≤ i → begins (drop i bytes) (drop next text) ≡ true
-  unfolding begins
-  begins_done h = rw (drop_of_length-le bytes h) refl
+-- The library's test for bytes at the front of a slice. A slice from an offset past the end is empty, as from the end on.
+begins_is : (with bytes : List ℕ) → pointwise eqb with (take (length with) bytes) ≡ begins with bytes
+unfolding begins
+begins_is [] bytes = refl
+begins_is (w ∷ with) [] = refl
+begins_is (w ∷ with) (b ∷ bytes) = ap (λ r. eqb w b && r) (begins_is with bytes)
 
-  module _ (h : i < length bytes) where
-    pub begins_over : length text ≤ next → begins (drop i bytes) (drop next text) ≡ false
-    unfolding begins
-    begins_over k = rw (drop-cons bytes i 0 h, drop_of_length-le text k) refl
-
-    module _ (k : next < length text) where
-      pub begins_other : (get_or bytes i 0 ≡ get_or text next 0 → ⊥) → begins (drop i bytes) (drop next text) ≡ false
-      unfolding begins
-      begins_other e = rw (drop-cons bytes i 0 h, drop-cons text next 0 k, ne_eqb (get_or bytes i 0) (get_or text next 0) e) refl
-
-      pub begins_next : get_or bytes i 0 ≡ get_or text next 0
-          → begins (drop i bytes) (drop next text) ≡ begins (drop (suc i) bytes) (drop (suc next) text)
-      unfolding begins
-      begins_next e = rw (drop-cons bytes i 0 h, drop-cons text next 0 k, eq-eqb (get_or bytes i 0) (get_or text next 0) e) refl
-
-module _ (bytes : List ℕ) (number from : ℕ) (text : List ℕ) (at : ℕ) where
-  pub exactly_there : {next : ℕ} → next ≡ at + length bytes → begins bytes (drop at text) ≡ true
-      → ◌≡◌ {A = Parsed (Unit {0})} (got tt next) (exactly bytes number from text at)
-  unfolding exactly
-  exactly_there n e = rw (e, n)
-
-  pub exactly_not : begins bytes (drop at text) ≡ false
-      → ◌≡◌ {A = Parsed (Unit {0})} (no (refusal_at number from)) (exactly bytes number from text at)
-  unfolding exactly
-  exactly_not e = rw e
-
--- What the code found of a field is what the field stands for.
-module _ (from at : ℕ) where
-  standing_found : (f : Found) {s : Seen} {after : ℕ} → seen_at at nothing f ≡ read.Found s after
-      → (l : List ℕ) × (standing from at f ≡ got l after) × (s ≡ with_bytes nothing l)
-  standing_found (found l used) e = (l, ap (got l) (cc), cc)
-  standing_found broken e = absurd (let z : ◌≡◌ {A = ℕ} 0 1 = cc in omega arith)
-
-  standing_broken : (f : Found) → seen_at at nothing f ≡ read.Broken → standing from at f ≡ no (refusal_at wrong_line from)
-  standing_broken (found l used) e = absurd (let z : ◌≡◌ {A = ℕ} 0 1 = cc in omega arith)
-  standing_broken broken e = refl
-
-  standing_small : (f : Found) → Small f → {l : List ℕ} {next : ℕ} → standing from at f ≡ got l next → Octets l
-  standing_small (found l used) h e = rw (same_value e) at h
-  standing_small broken h e = absurd (let z : ◌≡◌ {A = ℕ} 0 1 = cc in omega arith)
-
--- An item: its field, then what ends it.
-module _ (ends : List ℕ) (from : ℕ) (text : List ℕ) (at : ℕ) where
-  pub item_broken : seen_at at nothing (field (drop at text)) ≡ read.Broken
-      → code.Refused (refusal_at wrong_line from) ≡ item_seen (item ends from text at)
-  unfolding item
-  item_broken e = rw (standing_broken from at (field (drop at text)) e) refl
-
-  module _ {s : Seen} {after : ℕ} (e : seen_at at nothing (field (drop at text)) ≡ read.Found s after) where
-    pub item_endless : {k : Refusal} → exactly ends wrong_line from text after ≡ no k → code.Refused k ≡ item_seen (item ends from text at)
-    unfolding item
-    item_endless t = rw ((standing_found from at (field (drop at text)) e).1, t) refl
-
-    pub item_whole : {next : ℕ} → exactly ends wrong_line from text after ≡ got tt next → code.Item s next ≡ item_seen (item ends from text at)
-    unfolding item
-    item_whole {next} t =
-        let f = standing_found from at (field (drop at text)) e in
-        rw (f.1, t) (ap (λ (x : Seen). code.Item x next) f.2)
-
-  -- The bytes of an item that was read are bytes.
-  pub item_small : {l : List ℕ} {next : ℕ} → item ends from text at ≡ got l next → Octets l
-  unfolding item
-  item_small e =
-      let t = through (standing from at (field (drop at text))) e in
-      let u = through (exactly ends wrong_line from text t.next) t.on in
-      rw (same_value u.on) at (standing_small from at (field (drop at text)) (field_small (drop at text)) t.is)
-
--- An item that was read, and what the code knows of it.
-pub record Held (p : Parsed (List ℕ)) (s : Seen) (next : ℕ) : Type 0 where
-  pub bytes : List ℕ
-  pub is : p ≡ got bytes next
-  pub known : s ≡ with_bytes nothing bytes
-  pub small : Octets bytes
-
-pub item_held : (ends : List ℕ) (from : ℕ) (text : List ℕ) (at : ℕ) {s : Seen} {next : ℕ}
-    → item_seen (item ends from text at) ≡ code.Item s next → Held (item ends from text at) s next
-item_held ends from text at e = by (item ends from text at) refl e
+pub begins_rest : (with bytes : List ℕ) (at from : ℕ) → from ≡ min at (length bytes)
+    → pointwise eqb with (take (length with) (take (length bytes - from) (drop from bytes))) ≡ begins with (drop at bytes)
+begins_rest with bytes at from e =
+    ap (λ l. pointwise eqb with (take (length with) l)) (take_all (length bytes - from) (drop from bytes) (simp length-drop (omega arith)) ∙ same)
+    ∙ begins_is with (drop at bytes)
   where
-    by : (p : Parsed (List ℕ)) → item ends from text at ≡ p → {s : Seen} {next : ℕ} → item_seen p ≡ code.Item s next
-        → Held (item ends from text at) s next
-    by (got l n) h e = record { bytes = l; is = h ∙ ap (got l) (cc); known = cc; small = item_small ends from text at h }
-    by (no k) h e = absurd (let z : ◌≡◌ {A = ℕ} 0 1 = cc in omega arith)
+    same : drop from bytes ≡ drop at bytes
+    same =
+        if_less at (length bytes) (λ h. ap (λ k. drop k bytes) (omega arith))
+        (λ h. drop_of_length-le bytes (omega arith) ∙ sym (drop_of_length-le bytes h))
 
--- An item that was refused.
-item_refused : (p : Parsed (List ℕ)) {k : Refusal} → item_seen p ≡ code.Refused k → p ≡ no k
-item_refused (got l n) e = absurd (let z : ◌≡◌ {A = ℕ} 0 1 = cc in omega arith)
-item_refused (no k) e = ap no (cc)
+-- At a refusal, what `read_exactly` answers is what `exactly` gives.
+pub exactly_read : (bytes : List ℕ) (text : List ℕ) (at : ℕ) (wrong : Refusal) (r : Result ℕ Refusal) → ReadsExactly text at bytes wrong r
+    → passed_view r ≡ exactly bytes (number_of wrong.reason) wrong.offset text at
+unfolding exactly
+exactly_read bytes text at wrong r e = rw e (by (begins bytes (drop at text)))
+  where
+    by : (b : Bool) → passed_view (cond b (Ok (at + length bytes)) (Err wrong)) ≡ cond {A = Parsed (Unit {0})} b (got tt (at + length bytes)) (no (refusal_view wrong))
+    by true = refl
+    by false = refl
 
--- A refused item is passed on as it is.
-pub refused_item : (p : Parsed (List ℕ)) {r : ItemRead} {k x : Refusal} → r ≡ item_seen p → r ≡ code.Refused k → x ≡ item_refusal r → p ≡ no x
-refused_item p e h v = item_refused p (sym e ∙ h) ∙ ap no (sym (v ∙ ap item_refusal h))
+-- An item by what is known of its field: refused without one, and where the field is not ended.
+abbrev pub item_known : (ends : List ℕ) (from : ℕ) (text : List ℕ) → Option (code.Parsed Seen) → Parsed Seen
+item_known ends from text None = no (refusal_at wrong_line from)
+item_known ends from text (Some p) = cond (begins ends (drop p.next text)) (got p.value (p.next + length ends)) (no (refusal_at wrong_line from))
 
--- What the code knows of an item that was read.
-module _ {p : Parsed (List ℕ)} {s : Seen} {next : ℕ} (h : Held p s next) where
-  held_length : s.length ≡ min (length h.bytes) longest
-  held_length = ap (λ (x : Seen). x.length) h.known ∙ seen_length h.bytes
+pub item_is : (ends : List ℕ) (from : ℕ) (text : List ℕ) (at : ℕ) → item_seen (item ends from text at) ≡ item_known ends from text (seen_at at nothing (field (drop at text)))
+unfolding item exactly
+item_is ends from text at = by (field (drop at text))
+  where
+    by : (f : Found)
+        → item_seen
+        (onward (standing from at f)
+        (λ l file p. onward (cond {A = Parsed (Unit {0})} (begins ends (drop p file)) (got tt (p + length ends)) (no (refusal_at wrong_line from))) (λ _ _ q. got l q) file) text)
+        ≡ item_known ends from text (seen_at at nothing f)
+    by broken = refl
+    by (found l used) = on (begins ends (drop (at + used) text))
+      where
+        on : (b : Bool)
+            → item_seen (onward (cond {A = Parsed (Unit {0})} b (got tt (at + used + length ends)) (no (refusal_at wrong_line from))) (λ _ _ q. got l q) text)
+            ≡ cond b (got (with_bytes nothing l) (at + used + length ends)) (no (refusal_at wrong_line from))
+        on true = refl
+        on false = refl
 
-  held_name : s.length ≡ name_bytes → s.name ≡ value 0 h.bytes
-  held_name e = ap (λ (x : Seen). x.name) h.known ∙ seen_name h.bytes (omega (arith, held_length)) h.small
+-- The bytes of an item that was read are bytes.
+standing_small : (from at : ℕ) (f : Found) → Small f → {l : List ℕ} {next : ℕ} → standing from at f ≡ got l next → Octets l
+standing_small from at (found l used) h e = rw (same_value e) at h
+standing_small from at broken h e = absurd (let z : ◌≡◌ {A = ℕ} 0 1 = cc in omega arith)
 
-  held_grade : grade_seen s ≡ grade_named h.bytes
-  held_grade = ap grade_seen h.known ∙ seen_grade h.bytes
+pub item_small : (ends : List ℕ) (from : ℕ) (text : List ℕ) (at : ℕ) {l : List ℕ} {next : ℕ} → item ends from text at ≡ got l next → Octets l
+unfolding item
+item_small ends from text at e =
+    let t = through (standing from at (field (drop at text))) e in
+    let u = through (exactly ends wrong_line from text t.next) t.on in
+    rw (same_value u.on) at (standing_small from at (field (drop at text)) (field_small (drop at text)) t.is)
 
-  held_decimal : (s.decimal && not (eqb s.length 0)) ≡ is_decimal h.bytes
-  held_decimal = ap (λ (x : Seen). x.decimal && not (eqb x.length 0)) h.known ∙ seen_decimal h.bytes
+-- A name, a grade and a number by what is known of the item.
+abbrev pub name_known : (from : ℕ) → Parsed Seen → Parsed ℕ
+name_known from (got s next) = cond (eqb s.length name_bytes) (got s.name next) (no (refusal_at wrong_line from))
+name_known from (no refusal) = no refusal
 
-  held_number : s.number ≡ number_in h.bytes
-  held_number = ap (λ (x : Seen). x.number) h.known ∙ seen_number h.bytes
+abbrev pub grade_known : Parsed Seen → Parsed ℕ
+grade_known (got s next) = got (grade_seen s) next
+grade_known (no refusal) = no refusal
 
-  pub number_small : s.number < 256 ^ 4
-  number_small = omega (arith, held_number)
+abbrev pub number_known : (from : ℕ) → Parsed Seen → Parsed ℕ
+number_known from (got s next) = cond (s.decimal && not (eqb s.length 0)) (got s.number next) (no (refusal_at wrong_line from))
+number_known from (no refusal) = no refusal
 
--- A name and a grade: refused with the item, wrong, or read.
-module _ (from : ℕ) (text : List ℕ) (at : ℕ) where
-  pub name_refused : {k : Refusal} → item (comma ∷ []) from text at ≡ no k → ◌≡◌ {A = Parsed ℕ} (no k) (name_item from text at)
-  unfolding name_item
-  name_refused e = rw e
+pub name_is : (from : ℕ) (text : List ℕ) (at : ℕ) → name_item from text at ≡ name_known from (item_seen (item (comma ∷ []) from text at))
+unfolding name_item
+name_is from text at = by (item (comma ∷ []) from text at) (λ l next e. item_small (comma ∷ []) from text at e)
+  where
+    by : (p : Parsed (List ℕ)) → ((l : List ℕ) (next : ℕ) → p ≡ got l next → Octets l)
+        → onward p (λ l file q. onward (test (eqb (length l) name_bytes) wrong_line from file q) (λ _ _ r. got (value 0 l) r) file) text ≡ name_known from (item_seen p)
+    by (no k) octets = refl
+    by (got l next) octets =
+        let s = with_bytes nothing l in
+        let long = seen_length l in
+        if_same (length l) name_bytes
+        (λ e. rw (eq-eqb (length l) name_bytes e, eq-eqb s.length name_bytes (omega arith))
+        (ap (λ v. got v next) (sym (seen_name l (omega arith) (octets l next refl)))))
+        (λ n. rw (ne_eqb (length l) name_bytes n, ne_eqb s.length name_bytes (λ e. n (omega arith))) refl)
 
-  pub grade_refused : {k : Refusal} → item (comma ∷ []) from text at ≡ no k → ◌≡◌ {A = Parsed ℕ} (no k) (grade_item from text at)
-  unfolding grade_item
-  grade_refused e = rw e
+pub grade_is : (from : ℕ) (text : List ℕ) (at : ℕ) → grade_item from text at ≡ grade_known (item_seen (item (comma ∷ []) from text at))
+unfolding grade_item
+grade_is from text at = by (item (comma ∷ []) from text at)
+  where
+    by : (p : Parsed (List ℕ)) → onward p (λ l _ q. got (grade_named l) q) text ≡ grade_known (item_seen p)
+    by (no k) = refl
+    by (got l next) = ap (λ v. got v next) (sym (seen_grade l))
 
-  module _ {s : Seen} {next : ℕ} (h : Held (item (comma ∷ []) from text at) s next) where
-    pub name_wrong : (s.length ≡ name_bytes → ⊥) → ◌≡◌ {A = Parsed ℕ} (no (refusal_at wrong_line from)) (name_item from text at)
-    unfolding name_item
-    name_wrong n = rw (h.is, ne_eqb (length h.bytes) name_bytes (λ e. n (omega (arith, held_length h))))
-
-    pub name_whole : s.length ≡ name_bytes → ◌≡◌ {A = Parsed ℕ} (got s.name next) (name_item from text at)
-    unfolding name_item
-    name_whole n =
-        rw (h.is, eq-eqb (length h.bytes) name_bytes (omega (arith, held_length h))) (ap (λ v. got v next) (held_name h n))
-
-    pub grade_whole : {g : ℕ} → g ≡ grade_seen s → ◌≡◌ {A = Parsed ℕ} (got g next) (grade_item from text at)
-    unfolding grade_item
-    grade_whole e = rw h.is (ap (λ v. got v next) (e ∙ held_grade h))
-
--- A number.
-module _ (ends : List ℕ) (from : ℕ) (text : List ℕ) (at : ℕ) where
-  pub number_refused : {k : Refusal} → item ends from text at ≡ no k → ◌≡◌ {A = Parsed ℕ} (no k) (number_item ends from text at)
-  unfolding number_item
-  number_refused e = rw e
-
-  module _ {s : Seen} {next : ℕ} (h : Held (item ends from text at) s next) where
-    pub number_wrong : (s.decimal && not (eqb s.length 0)) ≡ false
-        → ◌≡◌ {A = Parsed ℕ} (no (refusal_at wrong_line from)) (number_item ends from text at)
-    unfolding number_item
-    number_wrong t = rw (h.is, sym (held_decimal h) ∙ t)
-
-    pub number_whole : (s.decimal && not (eqb s.length 0)) ≡ true
-        → ◌≡◌ {A = Parsed ℕ} (got s.number next) (number_item ends from text at)
-    unfolding number_item
-    number_whole t = rw (h.is, sym (held_decimal h) ∙ t) (ap (λ v. got v next) (held_number h))
+pub number_is : (ends : List ℕ) (from : ℕ) (text : List ℕ) (at : ℕ) → number_item ends from text at ≡ number_known from (item_seen (item ends from text at))
+unfolding number_item
+number_is ends from text at = by (item ends from text at)
+  where
+    by : (p : Parsed (List ℕ))
+        → onward p (λ l file q. onward (test (is_decimal l) wrong_line from file q) (λ _ _ r. got (number_in l) r) file) text ≡ number_known from (item_seen p)
+    by (no k) = refl
+    by (got l next) = rw (seen_decimal l, seen_number l) (on (is_decimal l))
+      where
+        on : (b : Bool)
+            → onward (test b wrong_line from text next) (λ _ _ r. got (number_in l) r) text ≡ cond b (got (number_in l) next) (no (refusal_at wrong_line from))
+        on true = refl
+        on false = refl

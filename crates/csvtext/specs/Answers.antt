@@ -1,24 +1,37 @@
 -- The contracts of the readers of items. Their answers are those of `fields`, with its views.
-use Rattle.std.specs.Prelude.{◌≡◌, ◌<◌, ◌^◌}
+use Rattle.std.specs.Prelude.{◌≡◌, ℕ, ◌+◌, cond, length, drop, Option, Some, None, Result, Ok, Err}
 use Rattle.plan.specs.Kinds.{Bytes, Offset}
-use Rattle.plan.specs.Refusal.{Refusal}
-use Rattle.fields.specs.Answers.{field_view, field_value, passed_view}
-use Rattle.fields.specs.declared.field.Field.{Field}
-use Rattle.fields.specs.declared.field.Passed.{Passed}
-use Rattle.csvtext.specs.Items.{exactly, name_item, grade_item, number_item}
+use Rattle.plan.specs.Rules.{lo, hi}
+use Rattle.plan.specs.declared.refusal.Refusal.{Refusal}
+use Rattle.fields.specs.Answers.{parsed_view, field_view}
+use Rattle.fields.specs.declared.field.Parsed.{Parsed}
+use Rattle.csvtext.specs.declared.item.Grade.{Grade}
+use Rattle.csvtext.specs.declared.item.Grade.TheVariants as grade
+use Rattle.csvtext.specs.Grammar.{begins}
+use Rattle.csvtext.specs.Items.{no_grade, name_item, grade_item, number_item}
 
--- The contract of `read_exactly`: the offset after the bytes if they stand there, otherwise `wrong`.
-abbrev pub ReadsExactly : (text : Bytes) (at : Offset) (bytes : Bytes) (wrong : Refusal) (r : Passed) → Type 0
-ReadsExactly text at bytes wrong r = passed_view r ≡ exactly bytes wrong.number wrong.offset text at
+-- The number of a grade, and of what names none.
+abbrev pub grade_number : Grade → ℕ
+grade_number grade.Lo = lo
+grade_number grade.Hi = hi
+
+abbrev pub grade_told : Option Grade → ℕ
+grade_told (Some g) = grade_number g
+grade_told None = no_grade
+
+-- The contract of `read_exactly`: the offset after the bytes if they stand there, otherwise `wrong`, whatever that is. At a refusal this is
+-- what `exactly` gives.
+abbrev pub ReadsExactly : {E : Type 0} (text : Bytes) (at : Offset) (bytes : Bytes) (wrong : E) (r : Result ℕ E) → Type 0
+ReadsExactly text at bytes wrong r = r ≡ cond (begins bytes (drop at text)) (Ok (at + length bytes)) (Err wrong)
 
 -- The contract of `read_name`: a name and the comma after it, in a line that begins at `from`.
-abbrev pub ReadsName : (text : Bytes) (at from : Offset) (r : Field) → Type 0
+abbrev pub ReadsName : (text : Bytes) (at from : Offset) (r : Result (Parsed ℕ) Refusal) → Type 0
 ReadsName text at from r = field_view r ≡ name_item from text at
 
--- The contract of `read_grade`: a grade and the comma after it; the grade, or 0 after a refusal, is a byte.
-abbrev pub ReadsGrade : (text : Bytes) (at from : Offset) (r : Field) → Type 0
-ReadsGrade text at from r = (field_view r ≡ grade_item from text at) × (field_value r < 256 ^ 1)
+-- The contract of `read_grade`: a grade, or none, and the comma after it.
+abbrev pub ReadsGrade : (text : Bytes) (at from : Offset) (r : Result (Parsed (Option Grade)) Refusal) → Type 0
+ReadsGrade text at from r = parsed_view grade_told r ≡ grade_item from text at
 
--- The contract of `read_number`: a number and what ends it; the number, or 0 after a refusal, has four bytes.
-abbrev pub ReadsNumber : (text : Bytes) (at : Offset) (ends : Bytes) (from : Offset) (r : Field) → Type 0
-ReadsNumber text at ends from r = (field_view r ≡ number_item ends from text at) × (field_value r < 256 ^ 4)
+-- The contract of `read_number`: a number and what ends it. The type of the number says that it has four bytes.
+abbrev pub ReadsNumber : (text : Bytes) (at : Offset) (ends : Bytes) (from : Offset) (r : Result (Parsed ℕ) Refusal) → Type 0
+ReadsNumber text at ends from r = field_view r ≡ number_item ends from text at

@@ -1,37 +1,27 @@
 -- Laws of the text of a job list: when a field needs quotes, how it is doubled byte by byte, and line by line.
-use mathlib.Core.Path.{◌≡◌, refl, sym, ap}
+use mathlib.Core.Path.{◌≡◌, refl, sym, ◌∙◌, ap}
 use mathlib.Core.Logic.{◌≢◌}
-use mathlib.Core.Bool.{Bool, true, false, cond, ◌||◌, or-false}
-use mathlib.Core.List.{List, [], ◌∷◌, ◌++◌, append_assoc}
+use mathlib.Core.Bool.{Bool, true, false, cond}
+use mathlib.Core.List.{List, [], ◌∷◌, ◌++◌}
 use Prim.Native.Nat.{ℕ, zero, suc, ◌+◌, ◌/◌, ◌%◌, ◌≤◌, ◌<◌}
 use native.Mathlib.Nat.{zero-add}
 use native.Mathlib.Numerals.{add-one}
 use native.Mathlib.Omega.{arith}
 use borrow.Author.Tests.{lt-ltb, le-ltb, ne_eqb}
 use lib.Dec.{eqb}
-use lib.ListN.{length, get_or, take, drop, drop_of_length-le}
-use lib.Seq.{paste, take-length}
+use lib.ListN.{length, get_or, take, drop, length-take}
+use lib.Seq.{get_or-take}
 use Rattle.base.proofs.Logic.{if_less}
 use Rattle.plan.specs.Edition.{most_jobs}
 use Rattle.plan.specs.Refusal.{unsound, buffer_too_short}
-use Rattle.plan.specs.Rules.{hi, job_in, counted_in, jobs_hold}
+use Rattle.plan.specs.Rules.{hi, no_job, counted_in, jobs_hold}
 use Rattle.plan.specs.declared.kinds.Job.{Job}
 use Rattle.plan.specs.declared.kinds.JobList.{JobList}
 use Rattle.text.specs.Text.{digit, digits, decimal, name_text}
-use Rattle.text.specs.Append.{Adds}
 use Rattle.text.specs.Inner.Growth.{Grown}
-use Rattle.text.proofs.Growth.{adds_same, adds_pasted}
 use Rattle.csvtext.specs.Grammar.{comma, quote, carriage_return, line_feed, line_end}
 use Rattle.joblist.specs.Import.{header}
 use Rattle.joblist.specs.Export.{needs_quotes, doubled, field_text, grade_text, line_text, lines_text, list_text, wrote, ExportEffect, withheld, exported}
-
--- The bytes from k on need quotes if byte k does or those after it do.
-pub needs_next : (l : List ℕ) (k : ℕ) → k < length l → needs_quotes (drop k l) ≡ (needs_quotes (get_or l k 0 ∷ []) || needs_quotes (drop (suc k) l))
-unfolding needs_quotes
-needs_next [] k h = absurd (omega arith)
-needs_next (b ∷ l) zero h =
-    ap (λ t. t || needs_quotes l) (sym (or-false (eqb b quote || eqb b comma || eqb b carriage_return || eqb b line_feed)))
-needs_next (b ∷ l) (suc k) h = needs_next l k (omega arith)
 
 -- One byte more of a field in quotes.
 doubled_suc : (l : List ℕ) (k : ℕ) → k < length l → doubled (take (suc k) l) ≡ doubled (take k l) ++ doubled (get_or l k 0 ∷ [])
@@ -85,19 +75,24 @@ grade_plain grade = go (eqb grade hi)
     go true = refl
     go false = refl
 
+-- What stands at an index inside a list does not depend on what stands for an index outside it.
+at_inside : (l : List Job) (i : ℕ) (d e : Job) → i < length l → get_or l i d ≡ get_or l i e
+at_inside [] i d e h = absurd (omega arith)
+at_inside (j ∷ l) zero d e h = refl
+at_inside (j ∷ l) (suc i) d e h = at_inside l i d e (omega arith)
+
 -- One line more.
-pub lines_next : (list : JobList) (n : ℕ) → lines_text list n ++ line_text (job_in list n) ≡ lines_text list (n + 1)
+pub lines_next : (list : JobList) (n : ℕ) (d : Job) → n < length (take list.count list.jobs) → list.count ≤ most_jobs
+    → lines_text list n ++ line_text (get_or (take list.count list.jobs) n d) ≡ lines_text list (n + 1)
 unfolding lines_text
-lines_next list n = rw add-one refl
+lines_next list n d h few =
+    let inside : n < list.count = omega (arith, length-take list.count list.jobs) in
+    let held : n < length list.jobs = omega (arith, length-take list.count list.jobs) in
+    rw add-one (ap (λ j. lines_text list n ++ line_text j) (get_or-take list.count list.jobs n d inside ∙ at_inside list.jobs n d no_job held))
 
 pub lines_start : (list : JobList) → lines_text list 0 ≡ []
 unfolding lines_text
 lines_start list = refl
-
--- Past the last byte nothing needs quotes.
-pub needs_over : (l : List ℕ) (k : ℕ) {found : Bool} → length l ≤ k → (found || needs_quotes (drop k l)) ≡ found
-unfolding needs_quotes
-needs_over l k {found} h = rw (drop_of_length-le l h) (or-false found)
 
 -- One byte: a quote is doubled, and any other is not.
 pub doubled_none : doubled [] ≡ []
@@ -108,32 +103,18 @@ pub doubled_other : (b : ℕ) → b ≢ quote → doubled (b ∷ []) ≡ b ∷ [
 unfolding doubled
 doubled_other b h = rw (ne_eqb b quote h) refl
 
-pub doubled_quote : (b : ℕ) → b ≡ quote → doubled (b ∷ []) ≡ b ∷ b ∷ []
+pub doubled_quote : (b : ℕ) → b ≡ quote → doubled (b ∷ []) ≡ (b ∷ []) ++ (quote ∷ [])
 unfolding doubled
 doubled_quote b e = rw e refl
 
--- A grade is written as one letter.
-pub grade_length : (grade : ℕ) → length (grade_text grade) ≡ 1
-grade_length grade = go (eqb grade hi)
-  where
-    go : (t : Bool) → length {A = ℕ} (cond t (72 ∷ []) (76 ∷ [])) ≡ 1
-    go true = refl
-    go false = refl
-
--- A line is its name, its grade and its numbers.
-pieces_joined : (p a b c d e f g : List ℕ) → p ++ (a ++ b ++ c ++ d ++ e ++ f ++ g) ≡ p ++ a ++ b ++ c ++ d ++ e ++ f ++ g
-pieces_joined p a b c d e f g = simp append_assoc refl
-
+-- A line is its name, its letter and its numbers, none of which but the name needs quotes.
 pub line_joined : (j : Job)
-    → field_text (name_text j.name.0) ++ (comma ∷ []) ++ grade_text j.grade
-    ++ ((comma ∷ []) ++ decimal j.release.0 ++ (comma ∷ []) ++ decimal j.size.0 ++ (comma ∷ []) ++ decimal j.deadline.0 ++ line_end)
+    → field_text (name_text j.name.0) ++ (comma ∷ []) ++ grade_text j.grade ++ (comma ∷ []) ++ decimal j.release.0 ++ (comma ∷ []) ++ decimal j.size.0 ++ (comma ∷ [])
+    ++ decimal j.deadline.0 ++ line_end
     ≡ line_text j
 line_joined j =
-    let r = decimal j.release.0 in
-    let s = decimal j.size.0 in
-    let d = decimal j.deadline.0 in
-    rw (grade_plain j.grade, field_plain r (number_plain j.release.0), field_plain s (number_plain j.size.0), field_plain d (number_plain j.deadline.0))
-    (pieces_joined (field_text (name_text j.name.0) ++ (comma ∷ []) ++ grade_text j.grade) (comma ∷ []) r (comma ∷ []) s (comma ∷ []) d line_end)
+    rw (grade_plain j.grade, field_plain (decimal j.release.0) (number_plain j.release.0), field_plain (decimal j.size.0) (number_plain j.size.0), field_plain (decimal j.deadline.0) (number_plain j.deadline.0))
+    refl
 
 -- The text of a list whose count is allowed.
 pub list_text_lem : (list : JobList) → list.count ≤ most_jobs → header ++ lines_text list list.count ≡ list_text list
@@ -150,12 +131,9 @@ pub exported_short : (list : JobList) (out : List ℕ) → jobs_hold list ≡ tr
 unfolding exported
 exported_short list out e h = rw (e, lt-ltb (length out) (length (list_text list)) h) refl
 
-pub exported_whole : (list : JobList) (out : List ℕ) {blank text : List ℕ} {n : ℕ} → jobs_hold list ≡ true → Grown blank text 0 n (list_text list)
-    → n ≤ length out → {r : ℕ} {left : List ℕ} → Adds out 0 (take n text) r left
-    → ◌≡◌ {A = ExportEffect} (record { answer = wrote n; out = left }) (exported list out)
+pub exported_whole : (list : JobList) (out : List ℕ) {blank text left : List ℕ} {n : ℕ} → jobs_hold list ≡ true → Grown blank text 0 n (list_text list)
+    → n ≤ length out → left ≡ take n text → ◌≡◌ {A = ExportEffect} (record { answer = wrote n; out = left ++ drop n out }) (exported list out)
 unfolding exported
-exported_whole list out {blank} {text} {n} e w h {r} {left} a =
-    let bytes = list_text list in
-    let size : n ≡ length bytes = omega (arith, w.end) in
-    let same : left ≡ paste out 0 bytes (length bytes) = adds_pasted out 0 bytes (omega arith) (adds_same out 0 w.bytes a) in
-    rw (same, size, e, le-ltb (length out) (length bytes) (omega arith), take-length bytes, zero-add) refl
+exported_whole list out e w h same =
+    let long : _ ≡ length (list_text list) = w.end ∙ zero-add (length (list_text list)) in
+    rw (same, w.bytes, long, e, le-ltb (length out) (length (list_text list)) (omega (arith, long))) refl

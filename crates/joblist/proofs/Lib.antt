@@ -10,6 +10,7 @@ pub mod Soundness
 pub mod ImportExactly
 pub mod OffsetInside
 pub mod Saturation
+pub mod Growing
 pub mod ExportLaws
 pub mod TextFits
 pub mod RuleParts

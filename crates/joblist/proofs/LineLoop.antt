@@ -1,7 +1,8 @@
 -- Laws of the loop that reads the lines.
 use mathlib.Core.Path.{◌≡◌, refl, sym, ◌∙◌, ap}
 use mathlib.Core.List.{List, [], ◌∷◌, ◌++◌}
-use Prim.Native.Nat.{ℕ, zero, suc, ◌-◌, ◌≤◌, ◌<◌}
+use Prim.Native.Nat.{ℕ, zero, suc, ◌+◌, ◌-◌, ◌≤◌, ◌<◌}
+use native.Mathlib.Numerals.{add-one}
 use native.Mathlib.Omega.{arith}
 use borrow.Author.Tests.{le-leb, lt-leb}
 use lib.ListN.{length, take, set, replicate, length-set}
@@ -14,6 +15,7 @@ use Rattle.fields.specs.Parsers.{got, no}
 use Rattle.plan.specs.JobLists.{names_of, list_of}
 use Rattle.plan.proofs.JobLists.{length_snoc, records_next, names_snoc}
 use Rattle.joblist.specs.Import.{one_job, all_lines}
+use Rattle.joblist.specs.Inner.Parts.{lines_listed}
 
 -- `all_lines` at the end of the text, with no room left, with a line whose job is read, and with one that
 -- is refused.
@@ -45,7 +47,7 @@ pub record LinesRead (text : List ℕ) (at : ℕ) (names : List ℕ) (list : Job
   pub few : i ≤ most_jobs
   pub long : length names ≡ most_jobs
   pub kept : take i names ≡ names_of jobs
-  pub made : list.jobs ≡ (list_of jobs).jobs
+  pub made : list ≡ list_of jobs
   pub left : all_lines (most_jobs - i) jobs text next ≡ all_lines most_jobs [] text at
 
 pub lines_start : (text : List ℕ) (at : ℕ) → LinesRead text at (replicate most_jobs 0) (list_of []) at 0
@@ -55,36 +57,43 @@ module _ {text : List ℕ} {at : ℕ} {names : List ℕ} {list : JobList} {next 
   room_on : i < most_jobs → most_jobs - i ≡ suc (most_jobs - suc i)
   room_on h = omega arith
 
-  pub lines_end : length text ≤ next → all_lines most_jobs [] text at ≡ got so.jobs next
-  lines_end h = sym so.left ∙ lines_over so.jobs text next (most_jobs - i) h
-
-  -- The jobs read so far, as a list.
-  pub lines_list : ◌≡◌ {A = JobList} (record { count = i; jobs = list.jobs }) (list_of so.jobs)
-  lines_list = λ k. record { count = sym so.many k; jobs = so.made k }
+  -- The lines end here, and the jobs read so far are the list.
+  pub lines_end : length text ≤ next → got list next ≡ lines_listed (all_lines most_jobs [] text at)
+  lines_end h =
+      let all : all_lines most_jobs [] text at ≡ got so.jobs next = sym so.left ∙ lines_over so.jobs text next (most_jobs - i) h in
+      rw (all, so.made) refl
 
   module _ (h : next < length text) where
-    pub lines_too_many : i ≡ most_jobs → all_lines most_jobs [] text at ≡ no (refusal_at wrong_job_count next)
+    pub lines_too_many : i ≡ most_jobs → no (refusal_at wrong_job_count next) ≡ lines_listed (all_lines most_jobs [] text at)
     lines_too_many e =
-        sym so.left ∙ ap (λ n. all_lines n so.jobs text next) (omega (arith, e)) ∙ lines_full so.jobs text next h
+        let all : all_lines most_jobs [] text at ≡ no (refusal_at wrong_job_count next)
+        = sym so.left ∙ ap (λ n. all_lines n so.jobs text next) (omega (arith, e)) ∙ lines_full so.jobs text next h in
+        rw all refl
 
     module _ (fits : i < most_jobs) where
-      pub lines_refused : {k : Refusal} → one_job (take i names) text next ≡ no k → all_lines most_jobs [] text at ≡ no k
-      lines_refused e =
-          sym so.left ∙ ap (λ n. all_lines n so.jobs text next) (room_on fits)
-          ∙ lines_stop so.jobs text next h (most_jobs - suc i) (rw so.kept at e)
+      pub lines_refused : {k : Refusal} → no k ≡ one_job (take i names) text next → no k ≡ lines_listed (all_lines most_jobs [] text at)
+      lines_refused {k} e =
+          let all : all_lines most_jobs [] text at ≡ no k
+          = sym so.left ∙ ap (λ n. all_lines n so.jobs text next) (room_on fits)
+          ∙ lines_stop so.jobs text next h (most_jobs - suc i) (rw so.kept at (sym e)) in
+          rw all refl
 
-      pub lines_next : {j : Job} {after : ℕ} → one_job (take i names) text next ≡ got j after
-          → LinesRead text at (set names i j.name.0) (record { count = list.count; jobs = set list.jobs i j }) after (suc i)
+      pub lines_next : {j : Job} {after : ℕ} → got j after ≡ one_job (take i names) text next
+          → LinesRead text at (set names i j.name.0) (record { count = i + 1; jobs = set list.jobs i j }) after (i + 1)
       lines_next {j} {after} e =
+          rw add-one
+          (let jobs = so.jobs ++ (j ∷ []) in
+          let many : length jobs ≡ suc i = length_snoc so.jobs j ∙ ap suc so.many in
+          let records : set list.jobs i j ≡ (list_of jobs).jobs = ap (λ (l : JobList). set l.jobs i j) so.made ∙ records_next so.jobs j i so.many fits in
           record {
-            jobs = so.jobs ++ (j ∷ []);
-            many = length_snoc so.jobs j ∙ ap suc so.many;
+            jobs = jobs;
+            many = many;
             few = omega arith;
             long = length-set names i j.name.0 ∙ so.long;
             kept = take-suc-set names i j.name.0 (omega (arith, so.long)) ∙ ap (λ l. l ++ (j.name.0 ∷ [])) so.kept
                 ∙ sym (names_snoc so.jobs j);
-            made = ap (λ l. set l i j) so.made ∙ records_next so.jobs j i so.many fits;
+            made = λ k. record { count = sym many k; jobs = records k };
             left =
-                sym (lines_step so.jobs text next h (most_jobs - suc i) (rw so.kept at e))
+                sym (lines_step so.jobs text next h (most_jobs - suc i) (rw so.kept at (sym e)))
                 ∙ ap (λ n. all_lines n so.jobs text next) (sym (room_on fits)) ∙ so.left;
-          }
+          })

@@ -55,7 +55,7 @@ module _ (text : List ℕ) where
       by true rest = tt
       by false rest = only_onward import_numbers (one_job (names_of jobs) text at) _ text (job_only (names_of jobs) at) rest
 
-  text_only : Only import_numbers (job_text text 0)
+  pub text_only : Only import_numbers (job_text text 0)
   unfolding job_text
   text_only =
       only_onward import_numbers (exactly header wrong_header 0 text 0) _ text (exactly_refuses (among import_numbers) text header wrong_header 0 0 refl)

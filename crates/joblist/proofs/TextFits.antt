@@ -7,7 +7,7 @@ use Prim.Native.Nat.{ℕ, zero, suc, ◌+◌, ◌*◌, ◌≤◌, ◌<◌, ◌^�
 use native.Mathlib.Omega.{arith}
 use borrow.Author.Tests.{ltb-true, leb-true, le-ltb}
 use lib.Dec.{leb, ltb, eqb}
-use lib.ListN.{length, drop, length-append}
+use lib.ListN.{length, drop, replicate, length-append}
 use Rattle.base.proofs.Logic.{both}
 use Rattle.plan.specs.Edition.{most_deadline}
 use Rattle.plan.specs.Refusal.{unsound, buffer_too_short}
@@ -20,7 +20,11 @@ use Rattle.csvtext.specs.Grammar.{quote}
 use Rattle.joblist.specs.Import.{header}
 use Rattle.joblist.specs.Export.{needs_quotes, doubled, field_text, grade_text, line_text, lines_text, list_text, Answer, wrote, refused, ExportEffect, withheld, exported}
 use Rattle.joblist.specs.Longest.{longest_line, longest_text}
-use Rattle.joblist.proofs.ExportLaws.{field_plain, number_plain, grade_plain}
+use Rattle.joblist.proofs.ExportLaws.{field_plain, number_plain, grade_plain, list_text_lem}
+use Rattle.joblist.proofs.Growing.{grows_twice, grows_same}
+use Rattle.joblist.specs.declared.export.Draft.{Draft}
+use Rattle.joblist.specs.Inner.Growing.{Grows}
+use Rattle.text.specs.Inner.Growth.{Grown}
 use Rattle.joblist.proofs.RuleParts.{Meets, meets, small}
 
 -- In quotes a field has two bytes more, and at most each byte twice.
@@ -101,3 +105,14 @@ long_output_suffices l out room = by (jobs_hold l) refl
       where
         fitting : ◌≡◌ {A = Answer} (wrote (length (list_text l))) (refused buffer_too_short) → ⊥
         fitting q = let z : ◌≡◌ {A = ℕ} 0 1 = cc in absurd (omega arith)
+
+-- The text that the export makes in a buffer of that length: the header, then the lines.
+abbrev pub blank : Draft
+blank = record { bytes = replicate longest_text 0; length = 0 }
+
+pub text_made : (l : JobList) {headed text : Draft} → jobs_hold l ≡ true → Grows blank header headed → Grows headed (lines_text l l.count) text
+    → Grown blank.bytes text.bytes 0 text.length (list_text l)
+text_made l e a g =
+    let m = meets l e in
+    let all = grows_same (list_text_lem l m.few) (grows_twice a g) in
+    all.grown (omega (arith, text_fits l e))

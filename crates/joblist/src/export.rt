@@ -1,19 +1,17 @@
 // Writing a job list as comma-separated text. The text is made in a buffer that the longest one fits
 // into, and copied to the output only if all of it has room there.
-ghost use Rattle.std.specs.Prelude.{◌≡◌, [], ◌∷◌, ◌++◌, ℕ, ◌+◌, ◌*◌, ◌≤◌, ◌<◌, ◌^◌, length};
+ghost use Rattle.std.specs.Prelude.{◌≡◌, [], ◌∷◌, ℕ, ◌≤◌, ◌<◌, ◌^◌};
 ghost use Rattle.plan.specs.Edition.{most_jobs};
 ghost use Rattle.plan.specs.Rules.{job_in};
 ghost use Rattle.text.specs.Text.{decimal, name_text};
-ghost use Rattle.text.specs.Inner.Growth.{Grown};
-ghost use Rattle.csvtext.specs.Grammar.{comma, line_end};
 ghost use Rattle.joblist.specs.Export.{needs_quotes, doubled, field_text, grade_text, line_text, lines_text};
 ghost use Rattle.joblist.specs.Answers.{Exports};
-ghost use Rattle.joblist.specs.Longest.{longest_name, longest_numbers, longest_line};
+ghost use Rattle.joblist.specs.Inner.Growing.{Grows};
 
-use crate::header::{HEADER_BYTES, header};
+use crate::header::HEADER;
 use plan::edition::Edition;
 use plan::kinds::{HI, Job, JobList, Name};
-use plan::refusal::{BUFFER_TOO_SHORT, UNSOUND};
+use plan::refusal::Reason;
 use plan::rules::jobs_hold;
 use text::append::{add, add_number};
 use text::{MOST_DIGITS, name_text};
@@ -25,74 +23,13 @@ const LONGEST_NAME: usize = 2 + 2 * Edition::NAME_BYTES;
 const LONGEST_LINE: usize = LONGEST_NAME + 2 + 3 * (1 + MOST_DIGITS) + 2;
 
 // No job list is longer.
-const LONGEST_TEXT: usize = HEADER_BYTES + Edition::MOST_JOBS * LONGEST_LINE;
-
-// The text's length, or the refusal number.
-#[derive(Clone, Copy)]
-pub enum Exported {
-    Length(usize),
-    Refused(u8),
-}
-
-// Whether a byte makes a field need quotes.
-fn is_special(byte: u8) -> bool
-    ensures { result ≡ needs_quotes (byte ∷ []) }
-{
-    (byte == b'"') | (byte == b',') | (byte == b'\r') | (byte == b'\n')
-}
+const LONGEST_TEXT: usize = HEADER.len() + Edition::MOST_JOBS * LONGEST_LINE;
 
 // Whether a field must be in quotes.
 fn needs_quotes(bytes: &[u8]) -> bool
     ensures { result ≡ needs_quotes bytes.now }
 {
-    let mut found = false;
-    let mut k = 0;
-    while k < bytes.len() {
-        found = found | is_special(bytes[k]);
-        k += 1;
-    }
-    found
-}
-
-// Appends one byte of a field in quotes: a quote is doubled.
-fn add_byte(text: &mut [u8], at: usize, byte: u8) -> usize
-    requires { at + 2 ≤ length text.old }
-    ensures { Grown text.old text.new at result (doubled (byte ∷ [])) × (result ≤ at + 2) }
-{
-    let one = [byte];
-    let next = add(text, at, &one);
-    if byte != b'"' {
-        return next;
-    }
-    add(text, next, &one)
-}
-
-// Appends the bytes of a field in quotes.
-fn add_doubled(text: &mut [u8], at: usize, bytes: &[u8]) -> usize
-    requires { at + 2 * length bytes.now ≤ length text.old }
-    ensures { Grown text.old text.new at result (doubled bytes.now) × (result ≤ at + 2 * length bytes.now) }
-{
-    let mut next = at;
-    let mut k = 0;
-    while k < bytes.len() {
-        next = add_byte(text, next, bytes[k]);
-        k += 1;
-    }
-    next
-}
-
-// Appends a name as a field.
-fn add_name(text: &mut [u8], at: usize, name: Name) -> usize
-    requires { at + longest_name ≤ length text.old }
-    ensures { Grown text.old text.new at result (field_text (name_text name.0)) × (result ≤ at + longest_name) }
-{
-    let bytes = name_text(name);
-    if !needs_quotes(&bytes) {
-        return add(text, at, &bytes);
-    }
-    let inside = add(text, at, b"\"");
-    let after = add_doubled(text, inside, &bytes);
-    add(text, after, b"\"")
+    bytes.iter().any(|byte| (*byte == b'"') | (*byte == b',') | (*byte == b'\r') | (*byte == b'\n'))
 }
 
 // The letter of a grade.
@@ -102,66 +39,102 @@ fn letter_of(grade: u8) -> [u8; 1]
     if grade == HI { [b'H'] } else { [b'L'] }
 }
 
-// Appends the numbers of a job, with a comma before each, and the end of the line.
-fn add_numbers(text: &mut [u8], at: usize, job: Job) -> usize
-    requires { (at + longest_numbers ≤ length text.old) × (job.size.0 < 2 ^ 32) }
-    ensures { Grown text.old text.new at result ((comma ∷ []) ++ decimal job.release.0 ++ (comma ∷ []) ++ decimal job.size.0 ++ (comma ∷ []) ++ decimal job.deadline.0 ++ line_end) × (result ≤ at + longest_numbers) }
-{
-    let release = job.release;
-    let size = job.size;
-    let deadline = job.deadline;
-    let mut next = add(text, at, b",");
-    next = add_number(text, next, release.0);
-    next = add(text, next, b",");
-    next = add_number(text, next, size.0 as u32);
-    next = add(text, next, b",");
-    next = add_number(text, next, deadline.0);
-    add(text, next, b"\r\n")
+// A text that is being made: the first `length` of the bytes.
+#[derive(Drop)]
+struct Draft {
+    bytes: [u8; LONGEST_TEXT],
+    length: usize,
 }
 
-// Appends the line of a job.
-fn add_line(text: &mut [u8], at: usize, job: Job) -> usize
-    requires { (at + longest_line ≤ length text.old) × (job.size.0 < 2 ^ 32) }
-    ensures { Grown text.old text.new at result (line_text job) × (result ≤ at + longest_line) }
-{
-    let after_name = add_name(text, at, job.name);
-    let after_comma = add(text, after_name, b",");
-    let letter = letter_of(job.grade);
-    let after_grade = add(text, after_comma, &letter);
-    add_numbers(text, after_grade, job)
-}
-
-// Appends the lines of a list.
-fn add_lines(text: &mut [u8], at: usize, list: JobList) -> usize
-    requires { (at + most_jobs * longest_line ≤ length text.old) × (list.count ≤ most_jobs) × ((i : ℕ) → i < list.count → (job_in list i).size.0 < 2 ^ 32) }
-    ensures { Grown text.old text.new at result (lines_text list list.count) × (result ≤ at + list.count * longest_line) }
-{
-    let count = list.count;
-    let mut next = at;
-    let mut i = 0;
-    while i < count {
-        let job = list.jobs[i];
-        next = add_line(text, next, job);
-        i += 1;
+impl Draft {
+    // Appends some bytes.
+    #[tactic(auto, using(crate::proofs::Growing::grows))]
+    fn push(&mut self, piece: &[u8])
+        ensures { Grows self.old piece.now self.new }
+    {
+        self.length = add(&mut self.bytes, self.length, piece);
     }
-    next
+
+    // Appends a number in decimal.
+    #[tactic(auto, using(crate::proofs::Growing::grows))]
+    fn push_number(&mut self, number: u32)
+        ensures { Grows self.old (decimal number) self.new }
+    {
+        self.length = add_number(&mut self.bytes, self.length, number);
+    }
+
+    // Appends the bytes of a field in quotes: a quote is doubled.
+    fn push_doubled(&mut self, bytes: &[u8])
+        ensures { Grows self.old (doubled bytes.now) self.new }
+    {
+        for byte in bytes {
+            self.push(&[*byte]);
+            if *byte == b'"' {
+                self.push(b"\"");
+            }
+        }
+    }
+
+    // Appends a name as a field.
+    fn push_name(&mut self, name: Name)
+        ensures { Grows self.old (field_text (name_text name.0)) self.new }
+    {
+        let bytes = name_text(name);
+        if !needs_quotes(&bytes) {
+            self.push(&bytes);
+            return;
+        }
+        self.push(b"\"");
+        self.push_doubled(&bytes);
+        self.push(b"\"");
+    }
+
+    // Appends the line of a job.
+    fn push_line(&mut self, job: Job)
+        requires { job.size.0 < 2 ^ 32 }
+        ensures { Grows self.old (line_text job) self.new }
+    {
+        self.push_name(job.name);
+        self.push(b",");
+        self.push(&letter_of(job.grade));
+        self.push(b",");
+        self.push_number(job.release.0);
+        self.push(b",");
+        self.push_number(job.size.0 as u32);
+        self.push(b",");
+        self.push_number(job.deadline.0);
+        self.push(b"\r\n");
+    }
+
+    // Appends the lines of a list.
+    fn push_lines(&mut self, list: &JobList)
+        requires { (list.now.count ≤ most_jobs) × ((i : ℕ) → i < list.now.count → (job_in list.now i).size.0 < 2 ^ 32) }
+        ensures { Grows self.old (lines_text list.now list.now.count) self.new }
+    {
+        for job in &list.jobs[..list.count] {
+            self.push_line(*job);
+        }
+    }
 }
 
 // Writes the text of a job list if the list meets rules 5 to 9 and the output has room for it; otherwise
 // nothing is written.
-pub fn export(list: JobList, out: &mut [u8]) -> Exported
+pub fn export(list: JobList, out: &mut [u8]) -> Result<usize, Reason>
     ensures { Exports list out.old result out.new }
 {
     if !jobs_hold(list) {
-        return Exported::Refused(UNSOUND);
+        return Err(Reason::Unsound);
     }
-    let mut text = [0u8; LONGEST_TEXT];
-    let first = header();
-    let after_header = add(&mut text, 0, &first);
-    let length = add_lines(&mut text, after_header, list);
+    let mut text = Draft {
+        bytes: [0; LONGEST_TEXT],
+        length: 0,
+    };
+    text.push(HEADER);
+    text.push_lines(&list);
+    let length = text.length;
     if out.len() < length {
-        return Exported::Refused(BUFFER_TOO_SHORT);
+        return Err(Reason::BufferTooShort);
     }
-    add(out, 0, &text[..length]);
-    Exported::Length(length)
+    out[..length].copy_from_slice(&text.bytes[..length]);
+    Ok(length)
 }

@@ -1,122 +1,66 @@
 // The import: from comma-separated text to a list of jobs.
 ghost use Rattle.std.specs.Prelude.{◌≡◌, []};
 ghost use Rattle.plan.specs.Edition.{most_jobs};
-ghost use Rattle.fields.specs.Parsers.{no};
-ghost use Rattle.plan.specs.JobLists.{list_of};
-ghost use Rattle.joblist.specs.Import.{all_lines, imported_from};
-ghost use Rattle.joblist.specs.Answers.{import_view, Imports};
-ghost use Rattle.joblist.specs.Inner.Parts.{LinesAnswer};
+ghost use Rattle.joblist.specs.Import.{all_lines};
+ghost use Rattle.joblist.specs.Answers.{Imports};
+ghost use Rattle.joblist.specs.Inner.Parts.{list_view, lines_listed};
 
-use crate::header::header;
-use crate::line::{JobRead, job_refusal, read_job};
+use crate::header::HEADER;
+use crate::line::read_job;
 use csvtext::item::read_exactly;
-use fields::field::{Passed, passed_refusal};
+use fields::field::Parsed;
 use plan::edition::Edition;
 use plan::kinds::{JobList, no_job};
-use plan::refusal::{Refusal, WRONG_HEADER, WRONG_JOB_COUNT};
+use plan::refusal::{Reason, Refusal};
 
-#[derive(Clone, Copy)]
-pub enum Answer {
-    Read,
-    Refused(Refusal),
-}
-
-#[derive(Clone, Copy)]
-pub struct Imported {
-    pub answer: Answer,
-    pub list: JobList,
-}
-
-// The offset after the last line, or the refusal; and the jobs.
-#[derive(Clone, Copy)]
-struct Lines {
-    answer: Passed,
-    list: JobList,
-}
-
-fn no_jobs() -> JobList
-    ensures { result ≡ list_of [] }
+// The jobs of the lines from an offset to the end of the text, and the offset after them. One line more than
+// MOST_JOBS is refused before its text is looked at.
+#[tactic(auto, using(crate::proofs::LineLoop::lines_start, crate::proofs::LineLoop::lines_end, crate::proofs::LineLoop::lines_too_many, crate::proofs::LineLoop::lines_refused, crate::proofs::LineLoop::lines_next))]
+fn read_lines(text: &[u8], at: usize) -> Result<Parsed<JobList>, Refusal>
+    ensures { list_view result ≡ lines_listed (all_lines most_jobs [] text.now at) }
 {
-    let jobs = [no_job(); Edition::MOST_JOBS];
-    JobList { count: 0, jobs }
-}
-
-// The lines from an offset to the end of the text. One line more than MOST_JOBS is refused before its text
-// is looked at.
-fn read_lines(text: &[u8], at: usize) -> Lines
-    ensures { LinesAnswer (all_lines most_jobs [] text.now at) result }
-{
+    // The names stand side by side, as `is_absent` scans them.
     let mut names = [0u64; Edition::MOST_JOBS];
-    let mut list = no_jobs();
+    let mut list = JobList {
+        count: 0,
+        jobs: [no_job(); Edition::MOST_JOBS],
+    };
     let mut next = at;
-    let mut i = 0;
-    while next < text.len() {
-        if i == Edition::MOST_JOBS {
-            return Lines {
-                answer: Passed::Refused(Refusal {
-                    number: WRONG_JOB_COUNT,
-                    offset: next,
-                }),
-                list,
-            };
+    for i in 0..Edition::MOST_JOBS {
+        if text.len() <= next {
+            return Ok(Parsed { value: list, next });
         }
-        let read = read_job(text, next, &names[..i]);
-        let JobRead::Job(job, after) = read else {
-            return Lines {
-                answer: Passed::Refused(job_refusal(read)),
-                list,
-            };
-        };
-        let name = job.name;
-        names[i] = name.0;
-        list.jobs[i] = job;
-        next = after;
-        i += 1;
+        let job = read_job(text, next, &names[..i])?;
+        names[i] = job.value.name.0;
+        list.jobs[i] = job.value;
+        list.count = i + 1;
+        next = job.next;
     }
-    list.count = i;
-    Lines {
-        answer: Passed::Next(next),
-        list,
+    if next < text.len() {
+        return Err(Refusal {
+            reason: Reason::WrongJobCount,
+            offset: next,
+        });
     }
+    Ok(Parsed { value: list, next })
 }
 
-// What a refused text gives: no jobs.
-fn refused(refusal: Refusal) -> Imported
-    ensures { import_view result ≡ imported_from (no refusal) }
-{
-    Imported {
-        answer: Answer::Refused(refusal),
-        list: no_jobs(),
-    }
-}
-
-// Reads a job list: the header, then a line for each job. A text that is refused gives no jobs.
-pub fn import(text: &[u8]) -> Imported
+// Reads a job list: the header, then a line for each job.
+#[tactic(auto, using(crate::proofs::ImportLaws::import_is))]
+pub fn import(text: &[u8]) -> Result<JobList, Refusal>
     ensures { Imports text.now result }
 {
     let wrong = Refusal {
-        number: WRONG_HEADER,
+        reason: Reason::WrongHeader,
         offset: 0,
     };
-    let first = header();
-    let headed = read_exactly(text, 0, &first, wrong);
-    let Passed::Next(at) = headed else {
-        return refused(passed_refusal(headed));
-    };
-    let lines = read_lines(text, at);
-    let passed = lines.answer;
-    let Passed::Next(end) = passed else {
-        return refused(passed_refusal(passed));
-    };
-    let list = lines.list;
-    if list.count < 1 {
-        return refused(Refusal {
-            number: WRONG_JOB_COUNT,
-            offset: end,
+    let at = read_exactly(text, 0, HEADER, wrong)?;
+    let lines = read_lines(text, at)?;
+    if lines.value.count < 1 {
+        return Err(Refusal {
+            reason: Reason::WrongJobCount,
+            offset: lines.next,
         });
     }
-    Imported {
-        answer: Answer::Read,
-        list,
-    }
+    Ok(lines.value)
 }

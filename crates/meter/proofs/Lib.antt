@@ -7,3 +7,4 @@ pub mod SpeedExactly
 pub mod RoundTrip
 pub mod LogTold
 pub mod Determined
+pub mod LogNumbers

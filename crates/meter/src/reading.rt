@@ -5,7 +5,7 @@ ghost use Rattle.meter.specs.Speed.{normal_allowed, are_finite, lowest_wrong, wh
 ghost use Rattle.meter.specs.Answers.{metered_view, Meters};
 
 use plan::kinds::Rate;
-use plan::refusal::{NOT_FINITE, WRONG_LOWEST, WRONG_RATES};
+use plan::refusal::Reason;
 use plan::rules::rates_allowed;
 
 // What the meter reports of a slot, in units per slot: the mean rate and the lowest.
@@ -13,13 +13,6 @@ use plan::rules::rates_allowed;
 pub struct Reading {
     pub mean: f64,
     pub lowest: f64,
-}
-
-// The speed of a reading, or the refusal.
-#[derive(Clone, Copy)]
-pub enum Metered {
-    Speed(u16),
-    Refused(u8),
 }
 
 // The least floor of rule 4.
@@ -32,21 +25,16 @@ pub(crate) fn normal_allowed(n: u16) -> bool
     rates_allowed(Rate(n), Rate(LEAST_FLOOR))
 }
 
-// Whether a float is between the infinities. What is no number is neither below nor above another.
-fn is_finite(x: f64) -> bool
-    ensures { result ≡ finite x }
-{
-    let infinity = f64::from_bits(0x7FF0_0000_0000_0000);
-    (x < infinity) & (-infinity < x)
-}
-
+// Whether both rates are numbers between the infinities.
+#[tactic(auto, using(crate::proofs::RateLaws::finite_is))]
 fn are_finite(reading: Reading) -> bool
     ensures { result ≡ are_finite reading }
 {
-    is_finite(reading.mean) & is_finite(reading.lowest)
+    reading.mean.is_finite() & reading.lowest.is_finite()
 }
 
 // Whether the lowest rate is below zero or above the mean.
+#[tactic(auto, using(crate::proofs::RateLaws::lowest_is))]
 fn lowest_wrong(reading: Reading) -> bool
     requires { are_finite reading ≡ true }
     ensures { result ≡ lowest_wrong reading }
@@ -56,15 +44,16 @@ fn lowest_wrong(reading: Reading) -> bool
 
 // The greatest whole number from 0 to n that is not above a rate, by halves: `low` is not above it, `high` is,
 // or is n + 1.
+#[tactic(auto, using(crate::proofs::RateLaws::compared_below, crate::proofs::RateLaws::compared_above))]
 fn whole_rate(rate: f64, n: u16) -> u16
     requires { finite rate ≡ true }
     ensures { result ≡ whole_rate rate n }
 {
     let mut low: u32 = 0;
-    let mut high = n as u32 + 1;
+    let mut high = u32::from(n) + 1;
     while low + 1 < high {
         let middle = (low + high) / 2;
-        if rate < middle as f64 {
+        if rate < f64::from(middle) {
             high = middle;
         } else {
             low = middle;
@@ -74,25 +63,25 @@ fn whole_rate(rate: f64, n: u16) -> u16
 }
 
 // The speed of a reading whose rates are numbers; n is not tested.
-pub(crate) fn speed_within(reading: Reading, n: u16) -> Metered
+pub(crate) fn speed_within(reading: Reading, n: u16) -> Result<u16, Reason>
     requires { are_finite reading ≡ true }
     ensures { metered_view result ≡ told_within reading n }
 {
     if lowest_wrong(reading) {
-        return Metered::Refused(WRONG_LOWEST);
+        return Err(Reason::WrongLowest);
     }
-    Metered::Speed(whole_rate(reading.lowest, n))
+    Ok(whole_rate(reading.lowest, n))
 }
 
 // The speed of a reading on a link with the normal rate n.
-pub fn speed_of(reading: Reading, n: u16) -> Metered
+pub fn speed_of(reading: Reading, n: u16) -> Result<u16, Reason>
     ensures { Meters reading n result }
 {
     if !normal_allowed(n) {
-        return Metered::Refused(WRONG_RATES);
+        return Err(Reason::WrongRates);
     }
     if !are_finite(reading) {
-        return Metered::Refused(NOT_FINITE);
+        return Err(Reason::NotFinite);
     }
     speed_within(reading, n)
 }

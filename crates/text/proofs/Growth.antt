@@ -2,11 +2,11 @@
 -- appending two pieces appends their concatenation.
 use mathlib.Core.Path.{◌≡◌, refl, sym, ◌∙◌, ap}
 use mathlib.Core.List.{List, [], ◌++◌, append_assoc, append-nil}
-use Prim.Native.Nat.{ℕ, ◌+◌, ◌-◌, ◌≤◌, ◌<◌}
+use Prim.Native.Nat.{ℕ, ◌+◌, ◌≤◌}
 use native.Mathlib.Omega.{arith}
-use lib.ListN.{length, take, drop, length-append, length-drop}
-use lib.Seq.{paste, take-paste, length-paste, take-length, take_all}
-use borrow.Author.Tests.{le-leb, lt-leb}
+use lib.ListN.{length, take, drop, length-append}
+use lib.Seq.{paste, take-paste, length-paste, take-length}
+use borrow.Author.Tests.{le-leb}
 use Rattle.text.specs.Append.{end_after, appended, Adds}
 use Rattle.text.specs.Inner.Growth.{Grown}
 
@@ -37,22 +37,7 @@ grown_twice {l} {m} {n} {at} {next} {end} {s} {t} g h =
 pub grown_same : {l m : List ℕ} {at next : ℕ} {s t : List ℕ} → s ≡ t → Grown l m at next s → Grown l m at next t
 grown_same e g = rw e at g
 
--- A part that reaches the end of a list is a suffix.
-pub part_to_end : (l : List ℕ) (from end : ℕ) → length l ≡ end → take (end - from) (drop from l) ≡ drop from l
-part_to_end l from end e = take_all (end - from) (drop from l) (simp length-drop (omega arith))
-
--- What a call that appends leaves, with room for the piece and without.
-pub adds_room : (l : List ℕ) (at : ℕ) (t : List ℕ) {m : List ℕ} → at + length t ≤ length l → m ≡ paste l at t (length t)
-    → Adds l at t (at + length t) m
-unfolding end_after appended
-adds_room l at t h e =
-    rw (le-leb (at + length t) (length l) h) (refl, e ∙ ap (λ s. take at l ++ s ++ drop (at + length t) l) (take-length t))
-
-pub adds_none : (l : List ℕ) (at : ℕ) (t : List ℕ) → length l < at + length t → Adds l at t at l
-unfolding end_after appended
-adds_none l at t h = rw (lt-leb (at + length t) (length l) h) (refl, refl)
-
--- The same for an equal piece.
+-- What a call that appends leaves, for an equal piece.
 pub adds_same : (l : List ℕ) (at : ℕ) {m : List ℕ} {r : ℕ} {s t : List ℕ} → s ≡ t → Adds l at s r m → Adds l at t r m
 adds_same l at e a = rw e at a
 

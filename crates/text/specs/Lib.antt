@@ -1,3 +1,4 @@
 pub mod Text
 pub mod Append
+pub mod Line
 pub mod Inner

@@ -2,8 +2,9 @@
 #![tactic(auto)]
 
 pub mod append;
+pub mod line;
 
-ghost use Rattle.std.specs.Prelude.{◌≡◌, ◌%◌};
+ghost use Rattle.std.specs.Prelude.{◌≡◌, drop};
 ghost use Rattle.text.specs.Text.{digits_of, name_text};
 
 use plan::edition::Edition;
@@ -17,6 +18,15 @@ pub const MOST_DIGITS: usize = 10;
 pub struct Digits {
     pub bytes: [u8; MOST_DIGITS],
     pub from: usize,
+}
+
+impl Digits {
+    // The digits alone.
+    pub fn as_slice(&self) -> &[u8]
+        ensures { result.now ≡ drop self.now.from self.now.bytes }
+    {
+        &self.bytes[self.from.min(MOST_DIGITS)..]
+    }
 }
 
 // The decimal digits of a number, computed from the last to the first.
@@ -35,26 +45,9 @@ pub fn digits_of(number: u32) -> Digits
     Digits { bytes, from }
 }
 
-// The lowest byte of a number.
-fn low_byte(x: u64) -> u8
-    ensures { result ≡ x % 256 }
-{
-    (x % 256) as u8
-}
-
 // The eight bytes of a name.
 pub fn name_text(name: Name) -> [u8; Edition::NAME_BYTES]
     ensures { result ≡ name_text name.0 }
 {
-    let x = name.0;
-    [
-        low_byte(x / 0x0100_0000_0000_0000),
-        low_byte(x / 0x01_0000_0000_0000),
-        low_byte(x / 0x0100_0000_0000),
-        low_byte(x / 0x01_0000_0000),
-        low_byte(x / 0x0100_0000),
-        low_byte(x / 0x01_0000),
-        low_byte(x / 0x0100),
-        low_byte(x),
-    ]
+    name.0.to_be_bytes()
 }

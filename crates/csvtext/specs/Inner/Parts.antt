@@ -1,24 +1,23 @@
 -- No promise rests on this file: it is here for the contracts of inner functions.
 -- Items as the code tells them.
-use Rattle.std.specs.Prelude.{cond, ◌&&◌, List, ℕ, eqb}
-use Rattle.plan.specs.Refusal.{Refusal, no_refusal}
+use Rattle.std.specs.Prelude.{cond, ◌&&◌, List, ℕ, eqb, Result}
 use Rattle.plan.specs.Rules.{lo, hi}
+use Rattle.plan.specs.declared.refusal.Refusal.{Refusal}
+use Rattle.fields.specs.Answers.{parsed_view}
+use Rattle.fields.specs.declared.field.Parsed as code
 use Rattle.fields.specs.Parsers.{Parsed, got, no}
 use Rattle.csvtext.specs.declared.field.Seen.{Seen}
-use Rattle.csvtext.specs.declared.item.ItemRead.{ItemRead}
-use Rattle.csvtext.specs.declared.item.ItemRead.TheVariants as item
 use Rattle.csvtext.specs.Items.{no_grade}
 use Rattle.csvtext.specs.Inner.Seen.{nothing, with_bytes}
 
--- An item as the code tells it: what is known of the bytes of its field.
-abbrev pub item_seen : Parsed (List ℕ) → ItemRead
-item_seen (got l next) = item.Item (with_bytes nothing l) next
-item_seen (no refusal) = item.Refused refusal
+-- The view of an item: what is known of the bytes of its field.
+abbrev pub item_view : Result (code.Parsed Seen) Refusal → Parsed Seen
+item_view = parsed_view (λ s. s)
 
--- The refusal of an `ItemRead`, or `no_refusal` if it is an item.
-abbrev pub item_refusal : ItemRead → Refusal
-item_refusal (item.Item s next) = no_refusal
-item_refusal (item.Refused refusal) = refusal
+-- An item as the code tells it.
+abbrev pub item_seen : Parsed (List ℕ) → Parsed Seen
+item_seen (got l next) = got (with_bytes nothing l) next
+item_seen (no refusal) = no refusal
 
 -- The bytes of the letters that name the grades, H and L.
 abbrev pub letter_hi : ℕ

@@ -1,11 +1,10 @@
 -- No promise rests on this file: it is here for the contracts of inner functions.
 -- What the code knows of the bytes that a field stands for, byte by byte.
-use Rattle.std.specs.Prelude.{true, not, ◌&&◌, ◌||◌, List, [], ◌∷◌, ℕ, ◌+◌, ◌*◌, ◌-◌, ◌%◌, min, eqb}
+use Rattle.std.specs.Prelude.{true, not, ◌&&◌, ◌||◌, List, [], ◌∷◌, ℕ, ◌+◌, ◌*◌, ◌-◌, ◌%◌, min, eqb, Option, Some, None}
 use Rattle.plan.specs.Edition.{name_bytes}
 use Rattle.text.specs.Text.{digit}
+use Rattle.fields.specs.declared.field.Parsed.{Parsed}
 use Rattle.csvtext.specs.declared.field.Seen.{Seen}
-use Rattle.csvtext.specs.declared.field.FieldRead.{FieldRead}
-use Rattle.csvtext.specs.declared.field.FieldRead.TheVariants as field
 use Rattle.csvtext.specs.Grammar.{Found, found, broken}
 use Rattle.csvtext.specs.Decimals.{is_digit, most_number}
 
@@ -33,8 +32,12 @@ unfoldable pub with_bytes : Seen → List ℕ → Seen
 with_bytes s [] = s
 with_bytes s (b ∷ l) = with_bytes (with_byte s b) l
 
+-- What is known of a field that ends at an offset.
+abbrev pub known : Seen → ℕ → Option (Parsed Seen)
+known s next = Some (record { value = s; next = next })
+
 -- The field of a grammar as the code tells it, for a field that goes on at an offset after bytes of which
 -- this is known.
-abbrev pub seen_at : (at : ℕ) (s : Seen) → Found → FieldRead
-seen_at at s (found l used) = field.Found (with_bytes s l) (at + used)
-seen_at at s broken = field.Broken
+abbrev pub seen_at : (at : ℕ) (s : Seen) → Found → Option (Parsed Seen)
+seen_at at s (found l used) = known (with_bytes s l) (at + used)
+seen_at at s broken = None

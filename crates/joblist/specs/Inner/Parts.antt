@@ -1,54 +1,41 @@
 -- No promise rests on this file: it is here for the contracts of inner functions.
--- The views and contracts of the parts of the import.
-use Rattle.std.specs.Prelude.{◌≡◌, List}
-use Rattle.plan.specs.Refusal.{Refusal, no_refusal}
+-- The views of the parts of the import.
+use Rattle.std.specs.Prelude.{List, Result}
 use Rattle.plan.specs.JobLists.{list_of}
 use Rattle.plan.specs.declared.kinds.Job.{Job}
-use Rattle.fields.specs.declared.field.Passed.TheVariants as passed
+use Rattle.plan.specs.declared.kinds.JobList.{JobList}
+use Rattle.plan.specs.declared.refusal.Refusal.{Refusal}
+use Rattle.fields.specs.Answers.{parsed_view}
+use Rattle.fields.specs.declared.field.Parsed as code
 use Rattle.fields.specs.Parsers.{Parsed, got, no}
+use Rattle.csvtext.specs.Answers.{grade_told}
 use Rattle.joblist.specs.declared.line.Line.{Line}
-use Rattle.joblist.specs.declared.line.LineRead.{LineRead}
-use Rattle.joblist.specs.declared.line.LineRead.TheVariants as line
-use Rattle.joblist.specs.declared.line.JobRead.{JobRead}
-use Rattle.joblist.specs.declared.line.JobRead.TheVariants as job
-use Rattle.joblist.specs.declared.import.Lines.{Lines}
 use Rattle.joblist.specs.Import as rule
 
 -- A line as the rules have it.
 abbrev pub line_of : Line → rule.Line
 line_of l =
     record {
-      name = l.job.name.0;
+      name = l.name.0;
       grade_at = l.grade_at;
-      grade = l.job.grade;
+      grade = grade_told l.grade;
       release_at = l.release_at;
-      release = l.job.release.0;
-      size = l.job.size.0;
-      deadline = l.job.deadline.0;
+      release = l.release.0;
+      size = l.size.0;
+      deadline = l.deadline.0;
     }
 
--- The view of a `LineRead`: the line and the offset of the next one, or the refusal.
-abbrev pub line_view : LineRead → Parsed rule.Line
-line_view (line.Line l next) = got (line_of l) next
-line_view (line.Refused refusal) = no refusal
+-- The views of a line, of a job and of a list that is read, each with the offset of the next line.
+abbrev pub line_view : Result (code.Parsed Line) Refusal → Parsed rule.Line
+line_view = parsed_view line_of
 
--- The refusal of a `LineRead`, or `no_refusal` if it is a line.
-abbrev pub line_refusal : LineRead → Refusal
-line_refusal (line.Line l next) = no_refusal
-line_refusal (line.Refused refusal) = refusal
+abbrev pub job_view : Result (code.Parsed Job) Refusal → Parsed Job
+job_view = parsed_view (λ j. j)
 
--- The view of a `JobRead`: the record and the offset of the next line, or the refusal.
-abbrev pub job_view : JobRead → Parsed Job
-job_view (job.Job j next) = got j next
-job_view (job.Refused refusal) = no refusal
+abbrev pub list_view : Result (code.Parsed JobList) Refusal → Parsed JobList
+list_view = parsed_view (λ l. l)
 
--- The refusal of a `JobRead`, or `no_refusal` if it is a job.
-abbrev pub job_refusal : JobRead → Refusal
-job_refusal (job.Job j next) = no_refusal
-job_refusal (job.Refused refusal) = refusal
-
--- The contract of `read_lines`: the offset after the last line and the jobs; after a refusal, only the
--- refusal.
-abbrev pub LinesAnswer : Parsed (List Job) → Lines → Type 0
-LinesAnswer (got jobs next) r = (r.answer ≡ passed.Next next) × (r.list ≡ list_of jobs)
-LinesAnswer (no refusal) r = r.answer ≡ passed.Refused refusal
+-- The jobs that are read, as a list.
+abbrev pub lines_listed : Parsed (List Job) → Parsed JobList
+lines_listed (got jobs next) = got (list_of jobs) next
+lines_listed (no refusal) = no refusal

@@ -18,18 +18,6 @@ pub loop-rest-init : goal.loop-rest-init
 loop-rest-init c =
     (([], refl, digits_ten c.args.number (omega arith)), omega arith, omega arith, refl)
 
-pub overflow_sub-from-in-loop-rest : goal.overflow_sub-from-in-loop-rest
-overflow_sub-from-in-loop-rest c =
-    let more : 0 < c.loop-rest.from
-    = more_left c.loop-rest.rest c.loop-rest.from (omega arith) c.loop-rest.invariant.2 in
-    more
-
-pub loop-rest-smaller : goal.loop-rest-smaller
-loop-rest-smaller c =
-    let more : 0 < c.loop-rest.from
-    = more_left c.loop-rest.rest c.loop-rest.from (omega arith) c.loop-rest.invariant.2 in
-    omega (arith, more)
-
 pub loop-rest-preserved : goal.loop-rest-preserved
 loop-rest-preserved c =
     let more : 0 < c.loop-rest.from

@@ -1,86 +1,48 @@
--- `joblist::export::export` meets its contract: a list that breaks no rule is written whole, or not at all.
-use mathlib.Core.Path.{◌≡◌, sym, ap}
-use mathlib.Core.Bool.{true}
-use Prim.Native.Nat.{◌≤◌}
-use native.Mathlib.Omega.{arith}
-use lib.ListN.{length, replicate}
+-- `joblist::export::export` meets its contract: the text is made in a buffer, and copied if all of it has room.
+use Rattle.std.proofs.Common.{sym, ◌∙◌, arith}
 use lib.Seq.{length-take-le}
-use Rattle.plan.specs.Rules.{jobs_hold}
-use Rattle.fields.proofs.ParserLaws.{failed, held}
-use Rattle.text.specs.Inner.Growth.{Grown}
-use Rattle.text.proofs.Growth.{adds_grown, grown_twice, grown_same}
-use Rattle.joblist.specs.Import.{header}
-use Rattle.joblist.specs.Export.{list_text}
-use Rattle.joblist.specs.Longest.{longest_text}
-use Rattle.joblist.proofs.RuleParts.{Meets, meets, small}
-use Rattle.joblist.proofs.ExportLaws.{list_text_lem, exported_unsound, exported_short, exported_whole}
-use mathlib.Core.Bool.{not}
+use Rattle.joblist.proofs.RuleParts.{meets, small}
+use Rattle.joblist.proofs.ExportLaws.{exported_unsound, exported_short, exported_whole}
+use Rattle.joblist.proofs.TextFits.{text_fits, text_made}
 use Rattle.joblist.proofs.export.export.Goals as goal
 
 pub returns-then-not-jobs_hold : goal.returns-then-not-jobs_hold
-returns-then-not-jobs_hold c =
-    exported_unsound c.args.list c.args.out.now (failed c.jobs_hold.ensures (ap not c.if-not-jobs_hold.true))
+returns-then-not-jobs_hold c = exported_unsound c.args.list c.args.out.now (sym c.jobs_hold.ensures ∙ c.if-not-jobs_hold.true)
 
-pub add_lines-length-requires : goal.add_lines-length-requires
-add_lines-length-requires c =
-    let holds : jobs_hold c.args.list ≡ true = held c.jobs_hold.ensures (ap not c.if-not-jobs_hold.false) in
-    let rules : Meets c.args.list = meets c.args.list holds in
-    let headed : Grown (replicate longest_text 0) c.add-after_header.new.line 0 c.add-after_header.result header
-    = let e = c.header-first.ensures in
-    grown_same e (adds_grown (omega (arith, ap length e)) c.add-after_header.ensures) in
-    let m = rules in
-    let g = headed in
-    (omega (arith, g.end, g.room), m.few, small m)
+pub push_lines-requires : goal.push_lines-requires
+push_lines-requires c =
+    let m = meets c.args.list (sym c.jobs_hold.ensures ∙ c.if-not-jobs_hold.false) in
+    (m.few, small m)
 
 pub returns-then-out-length : goal.returns-then-out-length
 returns-then-out-length c =
-    let holds : jobs_hold c.args.list ≡ true = held c.jobs_hold.ensures (ap not c.if-not-jobs_hold.false) in
-    let rules : Meets c.args.list = meets c.args.list holds in
-    let headed : Grown (replicate longest_text 0) c.add-after_header.new.line 0 c.add-after_header.result header
-    = let e = c.header-first.ensures in
-    grown_same e (adds_grown (omega (arith, ap length e)) c.add-after_header.ensures) in
-    let whole : Grown (replicate longest_text 0) c.add_lines-length.new.text 0 c.add_lines-length.result (list_text c.args.list)
-    = let m = rules in
-    grown_same (list_text_lem c.args.list m.few) (grown_twice headed c.add_lines-length.ensures.0) in
-    let w = whole in
-    exported_short c.args.list c.args.out.now holds (omega (arith, w.end, c.if-out-length.true))
+    let holds = sym c.jobs_hold.ensures ∙ c.if-not-jobs_hold.false in
+    let made = text_made c.args.list holds c.push.ensures c.push_lines.ensures in
+    exported_short c.args.list c.args.out.now holds (omega (arith, made.end, c.if-out-length.true))
 
-pub slice_bounds-text-end : goal.slice_bounds-text-end
-slice_bounds-text-end c =
-    let holds : jobs_hold c.args.list ≡ true = held c.jobs_hold.ensures (ap not c.if-not-jobs_hold.false) in
-    let rules : Meets c.args.list = meets c.args.list holds in
-    let headed : Grown (replicate longest_text 0) c.add-after_header.new.line 0 c.add-after_header.result header
-    = let e = c.header-first.ensures in
-    grown_same e (adds_grown (omega (arith, ap length e)) c.add-after_header.ensures) in
-    let whole : Grown (replicate longest_text 0) c.add_lines-length.new.text 0 c.add_lines-length.result (list_text c.args.list)
-    = let m = rules in
-    grown_same (list_text_lem c.args.list m.few) (grown_twice headed c.add_lines-length.ensures.0) in
-    let fits : c.add_lines-length.result ≤ longest_text
-    = omega (arith, headed.end, rules.few, c.add_lines-length.ensures.1) in
-    omega (arith, fits, whole.room)
+pub shared_ref_as_front-copy_from_slice : goal.shared_ref_as_front-copy_from_slice
+shared_ref_as_front-copy_from_slice c =
+    let holds = sym c.jobs_hold.ensures ∙ c.if-not-jobs_hold.false in
+    let made = text_made c.args.list holds c.push.ensures c.push_lines.ensures in
+    omega (arith, made.end, made.room, text_fits c.args.list holds)
 
-pub slice_bounds-add-end-3 : goal.slice_bounds-add-end-3
-slice_bounds-add-end-3 c =
-    let holds : jobs_hold c.args.list ≡ true = held c.jobs_hold.ensures (ap not c.if-not-jobs_hold.false) in
-    let rules : Meets c.args.list = meets c.args.list holds in
-    let headed : Grown (replicate longest_text 0) c.add-after_header.new.line 0 c.add-after_header.result header
-    = let e = c.header-first.ensures in
-    grown_same e (adds_grown (omega (arith, ap length e)) c.add-after_header.ensures) in
-    let whole : Grown (replicate longest_text 0) c.add_lines-length.new.text 0 c.add_lines-length.result (list_text c.args.list)
-    = let m = rules in
-    grown_same (list_text_lem c.args.list m.few) (grown_twice headed c.add_lines-length.ensures.0) in
-    let fits : c.add_lines-length.result ≤ longest_text
-    = omega (arith, headed.end, rules.few, c.add_lines-length.ensures.1) in
-    sym (length-take-le c.add_lines-length.result c.add_lines-length.new.text (omega (arith, fits, whole.room)))
+pub slice_bounds-copy_from_slice-end-3 : goal.slice_bounds-copy_from_slice-end-3
+slice_bounds-copy_from_slice-end-3 c =
+    let holds = sym c.jobs_hold.ensures ∙ c.if-not-jobs_hold.false in
+    let made = text_made c.args.list holds c.push.ensures c.push_lines.ensures in
+    let text = c.push_lines.new.self in
+    sym (length-take-le text.length text.bytes (omega (arith, made.end, made.room, text_fits c.args.list holds)))
+
+pub copy_from_slice-requires : goal.copy_from_slice-requires
+copy_from_slice-requires c =
+    let holds = sym c.jobs_hold.ensures ∙ c.if-not-jobs_hold.false in
+    let made = text_made c.args.list holds c.push.ensures c.push_lines.ensures in
+    let text = c.push_lines.new.self in
+    length-take-le text.length c.args.out.now c.if-out-length.false
+    ∙ sym (length-take-le text.length text.bytes (omega (arith, made.end, made.room, text_fits c.args.list holds)))
 
 pub returns : goal.returns
 returns c =
-    let holds : jobs_hold c.args.list ≡ true = held c.jobs_hold.ensures (ap not c.if-not-jobs_hold.false) in
-    let rules : Meets c.args.list = meets c.args.list holds in
-    let headed : Grown (replicate longest_text 0) c.add-after_header.new.line 0 c.add-after_header.result header
-    = let e = c.header-first.ensures in
-    grown_same e (adds_grown (omega (arith, ap length e)) c.add-after_header.ensures) in
-    let whole : Grown (replicate longest_text 0) c.add_lines-length.new.text 0 c.add_lines-length.result (list_text c.args.list)
-    = let m = rules in
-    grown_same (list_text_lem c.args.list m.few) (grown_twice headed c.add_lines-length.ensures.0) in
-    exported_whole c.args.list c.args.out.now holds whole c.if-out-length.false c.add.ensures
+    let holds = sym c.jobs_hold.ensures ∙ c.if-not-jobs_hold.false in
+    let made = text_made c.args.list holds c.push.ensures c.push_lines.ensures in
+    exported_whole c.args.list c.args.out.now holds made c.if-out-length.false c.copy_from_slice.ensures.after

@@ -1,24 +1,22 @@
--- `joblist::export::needs_quotes` meets its contract. Loop invariant: what was found among the first k
--- bytes, or what is to be found after them, is the answer.
-use mathlib.Core.Path.{refl, sym, ◌∙◌, ap}
-use mathlib.Core.Bool.{◌||◌, or_assoc}
-use native.Mathlib.Numerals.{add-one}
-use native.Mathlib.Omega.{arith}
-use Rattle.joblist.proofs.ExportLaws.{needs_next, needs_over}
+-- `joblist::export::needs_quotes` meets its contract.
+use Rattle.std.proofs.Common.{◌≡◌, ◌||◌, Bool, ℕ, List, [], ◌∷◌, refl, ◌∙◌, ap, rules, tests}
+use lib.Dec.{eqb}
+use Rattle.std.specs.List.{list_any}
+use Rattle.std.proofs.lemmas.Iterator.{YieldsList-from_slice}
+use Rattle.std.proofs.lemmas.Iterator.Search.{any_from_yields_List}
+use Rattle.csvtext.specs.Grammar.{comma, quote, carriage_return, line_feed}
+use Rattle.joblist.specs.Export.{needs_quotes}
 use Rattle.joblist.proofs.export.needs_quotes.Goals as goal
 
-pub loop-k-init : goal.loop-k-init
-loop-k-init c =
-    (omega arith, refl)
+special : ℕ → Bool
+special b = eqb b quote || eqb b comma || eqb b carriage_return || eqb b line_feed
 
-pub loop-k-preserved : goal.loop-k-preserved
-loop-k-preserved c =
-    let l = c.loop-k in
-    let bytes = c.args.bytes.now in
-    let e = needs_next bytes l.k c.loop-k-test.true in
-    (omega arith, rw (c.is_special-found.ensures, add-one) (or_assoc l.found _ _ ∙ ap (λ t. l.found || t) (sym e) ∙ l.invariant.1))
+any_is : (l : List ℕ) → list_any special l ≡ needs_quotes l
+unfolding needs_quotes special
+any_is [] = refl
+any_is (b ∷ l) = ap (λ t. special b || t) (any_is l)
 
 pub returns : goal.returns
+unfolding special
 returns c =
-    let l = c.loop-k in
-    sym (needs_over c.args.bytes.now l.k c.loop-k-test.false) ∙ l.invariant.1
+    any_from_yields_List special _ _ c.any.result c.any.ensures.ran (YieldsList-from_slice c.args.bytes.now cc) (λ x b q k. search (rules, tests)) ∙ any_is c.args.bytes.now
