@@ -5,5 +5,5 @@ pub mod Fits
 pub mod Stages
 pub mod Closed
 pub mod Accepted
-pub mod CodeLaws
 pub mod Alone
+pub mod CodeLaws

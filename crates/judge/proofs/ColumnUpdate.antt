@@ -1,20 +1,19 @@
 -- A column of pairs as the loop visits it, last interval first: updating a figure with two pairs of
 -- one deadline is updating it with the better one.
 use mathlib.Core.Path.{◌≡◌, refl, sym, ◌∙◌, ap}
-use mathlib.Core.Bool.{Bool, true, false, cond, not, ◌&&◌, ◌||◌, or-true, true≢false}
+use mathlib.Core.Bool.{Bool, true, false, cond, ◌&&◌, ◌||◌, or-true, true≢false}
 use mathlib.Core.List.{List}
 use Prim.Native.Nat.{ℕ, zero, suc, ◌+◌, ◌*◌, ◌-◌, ◌≤◌, ◌<◌}
 use native.Mathlib.Nat.{mul-le-mul}
 use native.Mathlib.Omega.{arith}
-use borrow.Author.Tests.{ltb-true, eqb-true, lt-ltb}
-use lib.Dec.{ltb, eqb}
+use borrow.Author.Tests.{ltb-true, lt-ltb}
+use lib.Dec.{ltb}
 use lib.IntN.{ℤ, pos, sub_ℕ}
 use lib.ListN.{get_or}
 use lib.Signed.{lt_z, le_z}
 use Rattle.base.specs.Sum.{sum}
 use Rattle.judge.specs.Slack.{Figure, none_essential, least, refused}
 use Rattle.judge.specs.Inner.Columns.{spare, sooner, column_taken}
-use Rattle.judge.proofs.Columns.{sum_back}
 use Rattle.judge.proofs.Signed.{difference_at_most, below_not, at_most_not, not_below_at_most, not_at_most_below, not_below_two}
 
 -- The test by which `sooner` lets a pair replace the figure so far.
@@ -78,20 +77,6 @@ sooner_two (least s l D) a b i j t h = go (comes a i s l) refl (le_z b a) refl
     go false e false k = rw (e, comes_neither a b s i j l h k e) refl
 sooner_two (refused report) a b i j t h = refl
 
--- A boundary that is no HI deadline, or boundary 0, leaves the figure unchanged; any
--- other is due and has an interval before it.
-pub taken_none : (due : Bool) (d : ℕ) (sums times : List ℕ) (m : ℕ) (f : Figure) → (not due || eqb m 0) ≡ true
-    → f ≡ cond due (column_taken d sums times m m f) f
-unfolding column_taken
-taken_none true d sums times zero f h = refl
-taken_none true d sums times (suc m) f h = absurd (omega (arith, eqb-true (suc m) 0 h))
-taken_none false d sums times m f h = refl
-
-pub taken_some : (due : Bool) (m : ℕ) → (not due || eqb m 0) ≡ false → (due ≡ true) × (0 < m)
-taken_some true zero h = absurd (true≢false h)
-taken_some true (suc m) h = (refl, omega arith)
-taken_some false m h = absurd (true≢false h)
-
 -- A starting pair at interval m, with a slack that none of the
 -- column exceeds, does not change the result.
 pub taken_start : (d : ℕ) (sums times : List ℕ) (m top : ℕ) (f : Figure) → 0 < m → d * get_or times m 0 ≤ top
@@ -104,26 +89,21 @@ taken_start d sums times (suc m) top f h b =
     ap (column_taken d sums times (suc m) m)
     (sooner_two f (pos top) (spare d sums times (suc m) m) (suc m) m (get_or times (suc m) 0) (omega arith) ∙ rw no_more refl)
 
--- One iteration of the backward loop: the sum from interval l − 1 on,
--- and the figure updated with that interval.
-pub taken_next : (d : ℕ) (sums times : List ℕ) (m l asked : ℕ) (s : ℤ) (so_far f : Figure) → 0 < l → l ≤ m
-    → asked ≡ sum (λ k. get_or sums (l + k) 0) (m - l)
-    → s ≡ sub_ℕ (d * (get_or times m 0 - get_or times (l - 1) 0)) (asked + get_or sums (l - 1) 0)
-    → f ≡ sooner so_far s (l - 1) (get_or times m 0)
-    → (asked + get_or sums (l - 1) 0 ≡ sum (λ k. get_or sums (l - 1 + k) 0) (m - (l - 1)))
-    × (column_taken d sums times m (l - 1) f ≡ column_taken d sums times m l so_far)
+-- One iteration of the backward loop: the figure updated with interval l − 1, where it is that of
+-- one best pair so far, which that interval replaces if its slack is no greater.
+pub taken_best : (d : ℕ) (sums times : List ℕ) (m l asked i : ℕ) (a b : ℤ) (known whole : Figure) (t : Bool) → 0 < l → l ≤ i
+    → asked ≡ sum (λ k. get_or sums (l - 1 + k) 0) (m - (l - 1))
+    → b ≡ sub_ℕ (d * (get_or times m 0 - get_or times (l - 1) 0)) asked
+    → le_z b a ≡ t
+    → column_taken d sums times m l (sooner known a i (get_or times m 0)) ≡ whole
+    → column_taken d sums times m (l - 1) (sooner known (cond t b a) (cond t (l - 1) i) (get_or times m 0)) ≡ whole
 unfolding column_taken
-taken_next d sums times m zero asked s so_far f h b p q e = absurd (omega arith)
-taken_next d sums times m (suc l) asked s so_far f h b p q e =
+taken_best d sums times m zero asked i a b known whole t some later p q e so_far = absurd (omega arith)
+taken_best d sums times m (suc l) asked i a b known whole t some later p q e so_far =
+    let time = get_or times m 0 in
     let back : suc l - 1 ≡ l = omega arith in
-    let whole : asked + get_or sums l 0 ≡ sum (λ k. get_or sums (l + k) 0) (m - l)
-    = ap (λ n. n + get_or sums l 0) p ∙ sym (sum_back (λ k. get_or sums k 0) l m (omega arith)) in
-    let slack : s ≡ spare d sums times m l = rw back at q ∙ ap (sub_ℕ (d * (get_or times m 0 - get_or times l 0))) whole in (
-      rw back whole,
-      rw back (ap (column_taken d sums times m l) (rw back at e ∙ ap (λ z. sooner so_far z l (get_or times m 0)) slack)),
-    )
-
--- A choice of two numbers that are at least l is at least l.
-pub choice_from : (x : Bool) (a b l : ℕ) → l ≤ a → l ≤ b → l ≤ cond x a b
-choice_from true a b l h k = h
-choice_from false a b l h k = k
+    let slack : b ≡ spare d sums times m l = rw back at q ∙ ap (sub_ℕ (d * (get_or times m 0 - get_or times l 0))) (rw back at p) in
+    rw back (ap (column_taken d sums times m l)
+    (ap (λ x. sooner known (cond x b a) (cond x l i) time) (sym e) ∙ sym (sooner_two known a b i l time (omega arith))
+    ∙ ap (λ z. sooner (sooner known a i time) z l time) slack)
+    ∙ so_far)

@@ -8,32 +8,35 @@ use Prim.Native.Nat.{ℕ, zero, suc, ◌+◌, ◌*◌, ◌-◌, ◌≤◌, ◌<�
 use native.Mathlib.Nat.{zero-add, mul-le-mul_right}
 use native.Mathlib.Decide.{dec_lt}
 use native.Mathlib.Omega.{arith}
-use borrow.Author.Tests.{lt-ltb, le-ltb, le-leb, lt-leb, eq-eqb, ne_eqb, not-false}
+use borrow.Author.Tests.{ltb-true, ltb-false, lt-ltb, le-ltb, le-leb, lt-leb, eq-eqb, ne_eqb, not-false}
 use lib.Dec.{leb, ltb, eqb}
 use lib.ListN.{length, get_or, replicate}
 use Rattle.base.proofs.Choice.{on_and, on_sum}
 use Rattle.base.specs.Sum.{sum, on}
 use Rattle.base.proofs.SumLaws.{sum_ext, sum_add, sum_split, sum_swap, sum_none, sum_bound}
-use Rattle.plan.specs.Edition.{most_jobs, most_intervals, places}
+use Rattle.plan.specs.Edition.{most_jobs, most_intervals}
 use Rattle.plan.specs.Refusal.{below_floor_rule}
 use Rattle.base.specs.Below.{every}
 use Rattle.plan.specs.Rules.{is_absent, counted, deadline, is_hi, rules_hold}
 use Rattle.plan.specs.Boundaries.{boundaries, boundary, intervals}
 use Rattle.plan.specs.declared.kinds.Plan.{Plan}
-use Rattle.plan.proofs.BoundaryOrder.{boundaries_few}
 use Rattle.base.proofs.Below.{every_start, every_next, every_ext, every_cut, every_all, greatest_attained}
 use Rattle.base.proofs.Logic.{by_order}
 use Rattle.plan.proofs.PresentInterval.{deadline_is_boundary, last_boundary}
+use Rattle.std.specs.Prelude.{Result, Ok}
+use Rattle.judge.specs.declared.answers.Fault.{Fault}
+use Rattle.judge.specs.Answers.{verdict_view}
 use Rattle.judge.specs.Constraints.{units, demand}
 use Rattle.judge.specs.Inner.Widths.{most_at_place}
 use Rattle.judge.specs.Verdict.{is_hi_deadline, is_pair, falls_short, floor_fault}
 use Rattle.plan.specs.Report.{Report, fault, is_none, first}
-use Rattle.judge.specs.Inner.Columns.{never, hi_deadline, asks_more, lowest}
+use Rattle.judge.specs.Inner.Columns.{never, HiDeadlines, due_before, column_sum, Summed, asks_more, lowest}
 use Rattle.plan.proofs.Soundness.{rules_bounded}
 use Rattle.base.proofs.Padding.{get_or_replicate}
 use Rattle.plan.proofs.Reports.{none_empty, none_plain, none_first, first_found, found_here}
 use Rattle.base.proofs.Choice.{on_at_most}
 use Rattle.judge.proofs.Demand.{end_by_boundary, demand_is, early_pair, other_pair, true_pair}
+use Rattle.judge.proofs.HandFault.{few_intervals}
 use Rattle.judge.proofs.HiDeadlinesSuffice.{boundary_less, deadline_before}
 use Rattle.judge.proofs.Columns.{lowest_before, lowest_at_lem}
 
@@ -48,14 +51,12 @@ pub record Lowest (p : Plan) (table : List ℕ) (m low until : ℕ) : Type 0 whe
   pub below : (l : ℕ) → l < low → every (holds_at p table l) m ≡ true
   pub there : low < intervals p → (until < m) × (holds_at p table low until ≡ false) × (every (holds_at p table low) until ≡ true)
 
--- Job i is HI, with a deadline at or before boundary m − 1; false for m = 0.
-unfoldable pub due_before : Plan → ℕ → ℕ → Bool
-due_before p zero i = false
-due_before p (suc m) i = is_hi p i && leb (deadline p i) (boundary p m)
-
--- The units of these jobs in interval j.
-abbrev pub column_sum : Plan → List ℕ → ℕ → ℕ → ℕ
-column_sum p table m j = sum (λ i. on (due_before p m i) (units table i j)) (counted p)
+-- The verdict names the lowest violating interval, and the first boundary at which it violates
+-- rule 18; or it is acceptance, if there is none.
+pub record Found (p : Plan) (table : List ℕ) (m low : ℕ) (verdict : Result (Unit {0}) Fault) : Type 0 where
+  pub until : ℕ
+  pub lowest : Lowest p table m low until
+  pub named : verdict_view verdict ≡ fault (ltb low (intervals p)) (below_floor_rule ∷ low ∷ boundary p until ∷ [])
 
 -- If x < high implies x ≤ low, then x ≤ high splits into the disjoint cases x ≤ low and x = high.
 by_or_at : (x low high u : ℕ) → low < high → (x < high → x ≤ low) → on (leb x high) u ≡ on (leb x low) u + on (eqb x high) u
@@ -72,6 +73,10 @@ by_is_at x high u h =
     (λ q. rw (le-leb x high (omega arith), eq-eqb x high q) refl)
     (λ q. absurd (omega arith))
     (λ q. rw (lt-leb x high q, ne_eqb x high (λ e. omega arith)) refl)
+
+-- The units that job i has in interval j if its deadline is `time`, otherwise 0.
+abbrev pub due_of : (table deadlines : List ℕ) (time j i : ℕ) → ℕ
+due_of table deadlines time j i = on (eqb (get_or deadlines i 0) time) (units table i j)
 
 -- Boundary m adds the HI jobs whose deadline it is.
 due_next : (p : Plan) (m i u : ℕ) → i < counted p → m ≤ intervals p
@@ -212,32 +217,9 @@ early_boundary p rules m h =
     (λ q. absurd (omega arith)) in
     omega (arith, b.deadlines last.0 last.1, last.2, end, rises)
 
--- The inputs of a pass: the plan's boundaries, all before `never`, its HI deadlines, the number of
--- its intervals, and a table with all its places.
-pub record ReadyFor (p : Plan) (table times deadlines : List ℕ) (spans : ℕ) : Type 0 where
-  pub are_boundaries : times ≡ boundaries p
-  pub some : spans < length times
-  pub are_intervals : spans ≡ intervals p
-  pub long : places ≤ length table
-  pub all_records : length deadlines ≡ most_jobs
-  pub are_deadlines : (i : ℕ) → i < most_jobs → get_or deadlines i 0 ≡ hi_deadline p i
-  pub early : (m : ℕ) → m ≤ intervals p → boundary p m < never
-
--- The preconditions of a pass, and what `hi_deadlines_of` ensures, provide them.
-pub ready_from : (p : Plan) (table times deadlines : List ℕ) (spans : ℕ)
-    → (times ≡ boundaries p) × (spans ≡ intervals p) × (spans < length times) × (places ≤ length table) × (rules_hold p ≡ true)
-    → (length deadlines ≡ most_jobs) × ((k : ℕ) → k < most_jobs → get_or deadlines k 0 ≡ hi_deadline p k)
-    → ReadyFor p table times deadlines spans
-ready_from p table times deadlines spans h ds =
-    record {
-      are_boundaries = h.0;
-      some = h.2;
-      are_intervals = h.1;
-      long = h.3;
-      all_records = ds.0;
-      are_deadlines = ds.1;
-      early = early_boundary p h.4;
-    }
+pub early_time : (p : Plan) {times : List ℕ} → times ≡ boundaries p → rules_hold p ≡ true → (m : ℕ) → m < length times → get_or times m 0 < never
+early_time p e rules m h =
+    omega (arith, ap (λ t. get_or t m 0) e, early_boundary p rules m (omega (arith, ap length e)))
 
 -- A sum whose terms are 0 from m on is the sum of its first m terms.
 sum_cut : (f : ℕ → ℕ) (m n : ℕ) → m ≤ n → ((k : ℕ) → m ≤ k → k < n → f k ≡ 0) → sum f n ≡ sum f m
@@ -245,30 +227,36 @@ sum_cut f m n h more =
     let e : n ≡ m + (n - m) = omega arith in
     ap (sum f) e ∙ omega (arith, sum_split f m (n - m), sum_none (λ k. f (m + k)) (n - m) (λ k b. more (m + k) (omega arith) (omega arith)))
 
--- `sums` holds the column sums after the first m boundaries.
-pub record Summed (p : Plan) (table : List ℕ) (m : ℕ) (sums : List ℕ) : Type 0 where
-  pub room : length sums ≡ most_intervals
-  pub columns : (j : ℕ) → j < intervals p → get_or sums j 0 ≡ column_sum p table m j
-
 pub summed_start : (p : Plan) (table : List ℕ) → Summed p table 0 (replicate most_intervals 0)
 summed_start p table = record { room = refl; columns = λ j b. get_or_replicate most_intervals j 0 ∙ sym (column_none p table j) }
 
-pub few_intervals : (p : Plan) → intervals p ≤ most_intervals
-few_intervals p = omega (arith, boundaries_few p (counted p))
+-- The column sums are small.
+pub sums_fit : {p : Plan} {table : List ℕ} {m : ℕ} {sums : List ℕ} → Summed p table m sums → ((q : ℕ) → get_or table q 0 ≤ most_at_place)
+    → (j : ℕ) → j < intervals p → get_or sums j 0 ≤ most_jobs * most_at_place
+sums_fit {p} {table} {m} so most j b = omega (arith, so.columns j b, column_bound p table m j most)
 
--- One iteration of a pass: the sums meet the bounds of `add_rows`, it returns whether boundary m is
--- a HI deadline, and the new sums include the jobs due there.
-module _ {p : Plan} {table times deadlines : List ℕ} {spans m : ℕ} (ready : ReadyFor p table times deadlines spans)
-    (most : (q : ℕ) → get_or table q 0 ≤ most_at_place) (h : m ≤ spans) where
+pub column_fits : {p : Plan} {table times sums : List ℕ} {m : ℕ} → times ≡ boundaries p → m < length times → Summed p table (suc m) sums
+    → ((q : ℕ) → get_or table q 0 ≤ most_at_place)
+    → (m ≤ most_intervals) × ((j : ℕ) → j < m → get_or sums j 0 ≤ most_jobs * most_at_place)
+column_fits {p} e h so most =
+    (omega (arith, ap length e, few_intervals p), λ j b. sums_fit so most j (omega (arith, ap length e)))
+
+-- One iteration of a pass: boundary m is a HI deadline if it is in the row of deadlines, and the
+-- new sums include the jobs due there.
+module _ {p : Plan} {times deadlines : List ℕ} {m : ℕ} (are : times ≡ boundaries p) (rules : rules_hold p ≡ true) (ds : HiDeadlines p deadlines)
+    (h : m < length times) where
+  last : m ≤ intervals p
+  last = omega (arith, ap length are)
+
   -- Entry i of the deadline row is boundary m exactly if job i is counted, HI and due at that boundary.
   at_deadline : (i : ℕ) → i < most_jobs
       → eqb (get_or deadlines i 0) (get_or times m 0) ≡ (ltb i (counted p) && is_hi p i && eqb (deadline p i) (boundary p m))
   at_deadline i b =
-      ap₂ eqb (ready.are_deadlines i b) (ap (λ t. get_or t m 0) ready.are_boundaries) ∙ by_test (ltb i (counted p) && is_hi p i)
+      ap₂ eqb (ds.each i b) (ap (λ t. get_or t m 0) are) ∙ by_test (ltb i (counted p) && is_hi p i)
     where
       by_test : (t : Bool) → eqb (cond t (deadline p i) never) (boundary p m) ≡ (t && eqb (deadline p i) (boundary p m))
       by_test true = refl
-      by_test false = ne_eqb never (boundary p m) (λ e. omega (arith, ready.early m (omega (arith, ready.are_intervals))))
+      by_test false = ne_eqb never (boundary p m) (λ e. omega (arith, early_boundary p rules m last))
 
   counted_deadline : (i : ℕ) → i < counted p → eqb (get_or deadlines i 0) (get_or times m 0) ≡ (is_hi p i && eqb (deadline p i) (boundary p m))
   counted_deadline i b =
@@ -277,49 +265,27 @@ module _ {p : Plan} {table times deadlines : List ℕ} {spans m : ℕ} (ready : 
   no_deadline : (i : ℕ) → counted p ≤ i → i < most_jobs → eqb (get_or deadlines i 0) (get_or times m 0) ≡ false
   no_deadline i b l = at_deadline i l ∙ ap (λ t. t && is_hi p i && eqb (deadline p i) (boundary p m)) (le-ltb i (counted p) b)
 
-  pub rows_fit : {sums : List ℕ} → Summed p table m sums
-      → (spans ≤ length sums) × (length deadlines ≤ most_jobs) × (spans ≤ most_intervals) × (places ≤ length table)
-      × ((j : ℕ) → j < spans → get_or sums j 0 ≤ most_jobs * most_at_place)
-  rows_fit so = (
-    omega (arith, so.room, ready.are_intervals, few_intervals p),
-    omega (arith, ready.all_records),
-    omega (arith, ready.are_intervals, few_intervals p),
-    ready.long,
-    λ j b. omega (arith, so.columns j (omega (arith, ready.are_intervals)), column_bound p table m j most),
-  )
-
-  pub due_is : {due : Bool} → due ≡ not (is_absent deadlines (get_or times m 0)) → due ≡ is_hi_deadline p (boundary p m)
+  pub due_is : not (is_absent deadlines (get_or times m 0)) ≡ is_hi_deadline p (boundary p m)
   unfolding is_hi_deadline is_absent
-  due_is e =
-      e
-      ∙ ap not (ap (every _) ready.all_records
+  due_is =
+      ap not (ap (every _) ds.room
       ∙ every_cut _ (counted p) most_jobs (omega arith) (λ i a b. ap not (no_deadline i a b))
       ∙ every_ext _ _ (counted p) (λ i b. ap not (counted_deadline i b)))
 
-  pub summed_next : {old : List ℕ} (new : List ℕ) → Summed p table m old → length new ≡ length old
-      → ((j : ℕ) → j < spans → get_or new j 0
-      ≡ get_or old j 0 + sum (λ i. on (eqb (get_or deadlines i 0) (get_or times m 0)) (units table i j)) (length deadlines))
+  pub summed_next : {table old : List ℕ} (new : List ℕ) → Summed p table m old → length new ≡ length old
+      → ((j : ℕ) → j < intervals p → get_or new j 0 ≡ get_or old j 0 + sum (due_of table deadlines (get_or times m 0) j) (length deadlines))
       → Summed p table (suc m) new
-  summed_next new so same more =
+  summed_next {table} new so same more =
       record {
         room = same ∙ so.room;
         columns = λ j b.
-            more j (omega (arith, ready.are_intervals))
+            more j b
             ∙ ap₂ ◌+◌ (so.columns j b)
-            (ap (sum _) ready.all_records
+            (ap (sum _) ds.room
             ∙ sum_cut _ (counted p) most_jobs (omega arith) (λ i a l. ap (λ t. on t (units table i j)) (no_deadline i a l))
             ∙ sum_ext _ _ (counted p) (λ i a. ap (λ t. on t (units table i j)) (counted_deadline i a)))
-            ∙ sym (column_more p table m j (omega (arith, ready.are_intervals)));
+            ∙ sym (column_more p table m j last);
       }
-
-  pub column_fits : {sums : List ℕ} → Summed p table (suc m) sums
-      → (m < length times) × (m ≤ length sums) × (m ≤ most_intervals) × ((j : ℕ) → j < m → get_or sums j 0 ≤ most_jobs * most_at_place)
-  column_fits so = (
-    omega (arith, ready.some),
-    omega (arith, so.room, ready.are_intervals, few_intervals p),
-    omega (arith, ready.are_intervals, few_intervals p),
-    λ j b. omega (arith, so.columns j (omega (arith, ready.are_intervals)), column_bound p table (suc m) j most),
-  )
 
 -- The result of the whole pass is the report of rule 18: empty, or with its first location.
 module _ (p : Plan) (table : List ℕ) (low until : ℕ) (found : Lowest p table (suc (intervals p)) low until) where
@@ -359,3 +325,43 @@ module _ (p : Plan) (table : List ℕ) (low until : ℕ) (found : Lowest p table
       go (yes h) = ap (λ b. fault b (below_floor_rule ∷ low ∷ boundary p until ∷ [])) (lt-ltb low (intervals p) h) ∙ short_at_lowest h
       go (no h) =
           ap (λ b. fault b (below_floor_rule ∷ low ∷ boundary p until ∷ [])) (le-ltb low (intervals p) (omega arith)) ∙ nothing_short (omega arith)
+
+-- The loop's start, step and end. `t` says that the lowest violating interval is below the earlier one.
+pub found_start : (p : Plan) (table : List ℕ) {low : ℕ} → low ≡ intervals p → Found p table 0 low (Ok tt)
+found_start p table e =
+    rw e (record {
+      until = 0;
+      lowest = lowest_start p table;
+      named = sym (ap (λ b. fault b (below_floor_rule ∷ intervals p ∷ boundary p 0 ∷ [])) (le-ltb (intervals p) (intervals p) (omega arith)));
+    })
+
+pub found_next : (p : Plan) (table sums times : List ℕ) (m low r : ℕ) (verdict next : Result (Unit {0}) Fault) (due t : Bool) → times ≡ boundaries p
+    → m ≤ intervals p → Summed p table (suc m) sums
+    → due ≡ is_hi_deadline p (boundary p m)
+    → r ≡ cond due (min low (lowest (asks_more p.d.0 sums times m) low 0 m)) low
+    → ltb r low ≡ t
+    → verdict_view next ≡ cond t (below_floor_rule ∷ r ∷ get_or times m 0 ∷ []) (verdict_view verdict)
+    → Found p table m low verdict → Found p table (m + 1) r next
+found_next p table sums times m low r verdict next due t e h so d q f g found =
+    record {
+      until = cond t m found.until;
+      lowest = lowest_next p table sums times m low found.until r (cond t m found.until) due e h so.columns d q (ap (λ x. cond x m found.until) (sym f)) found.lowest;
+      named = go t f g;
+    }
+  where
+    at_most : (x : Bool) → r ≡ cond x (min low (lowest (asks_more p.d.0 sums times m) low 0 m)) low → r ≤ low
+    at_most true k = omega (arith, k)
+    at_most false k = omega (arith, k)
+
+    go : (t : Bool) → ltb r low ≡ t → verdict_view next ≡ cond t (below_floor_rule ∷ r ∷ get_or times m 0 ∷ []) (verdict_view verdict)
+        → verdict_view next ≡ fault (ltb r (intervals p)) (below_floor_rule ∷ r ∷ boundary p (cond t m found.until) ∷ [])
+    go true f g =
+        g ∙ ap (λ s. below_floor_rule ∷ r ∷ get_or s m 0 ∷ []) e
+        ∙ sym (ap (λ b. fault b (below_floor_rule ∷ r ∷ boundary p m ∷ [])) (lt-ltb r (intervals p) (omega (arith, ltb-true r low f, found.lowest.few))))
+    go false f g =
+        let same : r ≡ low = omega (arith, ltb-false r low f, at_most due q) in
+        rw same (g ∙ found.named)
+
+pub found_end : (p : Plan) (table : List ℕ) (m low : ℕ) (verdict : Result (Unit {0}) Fault) → m ≡ suc (intervals p) → Found p table m low verdict
+    → verdict_view verdict ≡ floor_fault p table
+found_end p table m low verdict e found = found.named ∙ place_is p table low found.until (rw e at found.lowest)

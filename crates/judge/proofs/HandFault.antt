@@ -1,27 +1,28 @@
 -- A plan in hand that neither 22 nor 21 refuses: its table is long enough,
 -- rules 4 to 9 hold, and it has boundaries.
-use mathlib.Core.Path.{◌≡◌, refl, sym, ◌∙◌, ap₂}
+use mathlib.Core.Path.{◌≡◌, refl, sym, ◌∙◌, ap, ap₂}
 use mathlib.Core.Bool.{Bool, true, false, not}
 use mathlib.Core.List.{List, [], ◌∷◌}
-use Prim.Native.Nat.{ℕ, suc, ◌-◌, ◌≤◌, ◌<◌}
+use Prim.Native.Nat.{ℕ, suc, ◌-◌, ◌≤◌, ◌<◌, min}
 use native.Mathlib.Omega.{arith}
 use borrow.Author.Tests.{ltb-false, le-ltb, not-false}
 use lib.Dec.{ltb}
-use lib.ListN.{length, get_or, take}
-use Rattle.plan.specs.Edition.{most_boundaries, places}
+use lib.ListN.{length, take}
+use Rattle.plan.specs.Edition.{most_boundaries, most_intervals, places}
 use Rattle.plan.specs.Refusal.{unsound, buffer_too_short}
 use Rattle.plan.specs.Rules.{counted, rules_hold, deadline}
-use Rattle.plan.specs.Boundaries.{insert, boundaries_to, boundaries, in_room}
-use Rattle.plan.specs.Table.{sound}
+use Rattle.plan.specs.Boundaries.{insert, boundaries_to, boundaries, intervals, present, in_room}
+use Rattle.plan.specs.Table.{sound, sound_within}
+use Rattle.plan.proofs.Stray.{sound_told}
 use Rattle.plan.specs.declared.kinds.Plan.{Plan}
 use Rattle.plan.specs.declared.boundaries.Boundaries.{Boundaries}
 use Rattle.plan.proofs.BoundaryOrder.{insert_grows, boundaries_few, room_take, room_length}
+use Rattle.plan.proofs.BoundaryCount.{come_few}
 use Rattle.base.proofs.Logic.{both}
-use Rattle.plan.proofs.Soundness.{sound_parts, rules_bounded, sound_bounded}
-use Rattle.judge.specs.Verdict.{hand_fault, constraint_fault}
+use Rattle.plan.proofs.Soundness.{sound_parts, sound_bounded}
+use Rattle.judge.specs.Verdict.{hand_fault}
 use Rattle.plan.specs.Report.{or_else, fault, is_none}
-use Rattle.plan.proofs.Reports.{empty_none, none_or, or_empty, fault_none}
-use Rattle.base.proofs.Padding.{get_or_pad}
+use Rattle.plan.proofs.Reports.{empty_none, none_or, fault_none}
 
 -- The reports 22 and 21 are both absent exactly if the table is long enough and the plan is sound.
 pub hand_none : (p : Plan) (table : List ℕ) → hand_fault p table ≡ [] → (places ≤ length table) × (sound p table ≡ true)
@@ -36,6 +37,10 @@ hand_none p table h =
 pub hand_sound : (p : Plan) (table : List ℕ) → places ≤ length table → sound p table ≡ true → hand_fault p table ≡ []
 hand_sound p table h e =
     ap₂ (λ a b. or_else (fault a (buffer_too_short ∷ [])) (fault (not b) (unsound ∷ []))) (le-ltb (length table) places h) e
+
+pub hand_unsound : (p : Plan) (table : List ℕ) → places ≤ length table → sound p table ≡ false → unsound ∷ [] ≡ hand_fault p table
+hand_unsound p table h e =
+    sym (ap₂ (λ a b. or_else (fault a (buffer_too_short ∷ [])) (fault (not b) (unsound ∷ []))) (le-ltb (length table) places h) e)
 
 -- An insertion is nonempty, so a plan with a job has boundaries.
 insert_some : (x : ℕ) (l : List ℕ) → 1 ≤ length (insert x l)
@@ -56,15 +61,13 @@ unbounded p table none = go (sound p table) refl
     go true h = absurd (omega (arith, boundaries_some p (counted p) (sound_bounded p table h).some))
     go false h = refl
 
--- What the constraints and the passes require holds for a plan that 22 and 21 do not refuse.
-pub hand_ready : (p : Plan) (table : List ℕ) → hand_fault p table ≡ [] → (0 < length (boundaries p)) × (places ≤ length table) × (rules_hold p ≡ true)
-hand_ready p table h =
-    let rules = (sound_parts p table (hand_none p table h).1).rules in
-    (boundaries_some p (counted p) (rules_bounded p rules).some, (hand_none p table h).0, rules)
+-- Soundness as it is tested, within one interval fewer than there are boundaries.
+pub sound_here : (p : Plan) (table : List ℕ) {times : List ℕ} {tested b : Bool} → times ≡ boundaries p
+    → tested ≡ sound_within (min (length times - 1) most_intervals) p table → tested ≡ b → sound p table ≡ b
+sound_here p table {times} e is h = sym (sound_told p table (length times - 1) (ap (λ t. length t - 1) e)) ∙ sym is ∙ h
 
-pub refused_by_none : (p : Plan) (table : List ℕ) → or_else (hand_fault p table) (constraint_fault p table) ≡ []
-    → (0 < length (boundaries p)) × (places ≤ length table) × (rules_hold p ≡ true)
-refused_by_none p table h = hand_ready p table (or_empty (hand_fault p table) (constraint_fault p table) h)
+pub sound_rules : (p : Plan) (table : List ℕ) → sound p table ≡ true → rules_hold p ≡ true
+sound_rules p table h = (sound_parts p table h).rules
 
 -- The first `count` times of the `Boundaries` record are the plan's boundaries.
 pub in_their_room : (p : Plan) (b : Boundaries) → b ≡ record { times = in_room (boundaries p); count = length (boundaries p) }
@@ -73,6 +76,12 @@ in_their_room p b e =
     let few : length (boundaries p) ≤ most_boundaries = omega (arith, boundaries_few p (counted p)) in
     rw e (room_take (boundaries p), omega (arith, room_length (boundaries p) few))
 
--- A list padded with zeros reads like the list, with 0 past its end.
-pub room_at : (l : List ℕ) (k : ℕ) → get_or (in_room l) k 0 ≡ get_or l k 0
-room_at l k = get_or_pad l (most_boundaries - length l) k 0
+-- A plan's intervals are at most those that a row of the table has places for.
+pub few_intervals : (p : Plan) → intervals p ≤ most_intervals
+few_intervals p = omega (arith, boundaries_few p (counted p))
+
+pub few_times : (p : Plan) {times : List ℕ} → times ≡ boundaries p → length times ≤ suc most_intervals
+few_times p e = omega (arith, ap length e, boundaries_few p (counted p))
+
+pub few_present : (p : Plan) (t : ℕ) → present p t ≤ most_intervals
+few_present p t = omega (arith, come_few t (boundaries p), boundaries_few p (counted p))

@@ -3,7 +3,6 @@ pub mod IncreasingTimes
 pub mod Demand
 pub mod HandFault
 pub mod Signed
-pub mod RefusedFigure
 pub mod HiDeadlinesSuffice
 pub mod Exact
 pub mod FirstLocation

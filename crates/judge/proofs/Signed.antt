@@ -1,30 +1,18 @@
 -- Laws of signed numbers: their order, and that the difference of two numbers below 2^62 fits 64 bits.
-use mathlib.Core.Path.{◌≡◌, refl, sym, ◌∙◌, ap, ap₂}
+use mathlib.Core.Path.{◌≡◌, refl, sym, ◌∙◌, ap}
 use mathlib.Core.Bool.{Bool, true, false, cond, true≢false, false≢true}
-use Prim.Native.Nat.{ℕ, zero, suc, ◌-◌, ◌^◌, ◌≤◌, ◌<◌}
-use native.Mathlib.Nat.{add-zero, sub-zero}
+use Prim.Native.Nat.{ℕ, suc, ◌-◌, ◌≤◌, ◌<◌}
 use native.Mathlib.Omega.{arith}
-use borrow.Author.Tests.{ltb-true, ltb-false, lt-ltb, le-ltb, leb-true, le-leb}
+use borrow.Author.Tests.{ltb-true, ltb-false, le-ltb, leb-true, le-leb}
 use lib.Dec.{ltb}
-use lib.IntN.{ℤ, pos, negsuc, sub_ℕ, ◌-ℤ◌}
+use lib.IntN.{ℤ, pos, negsuc, sub_ℕ}
 use lib.Signed.{lt_z, le_z}
 use mir.Syntax.{w64}
-use mir.Val.{SFits, to_z, of_z, sel}
+use mir.Val.{SFits, to_z, of_z}
 use mir.Facts.{to_z-of_z}
 use Rattle.judge.specs.Inner.Widths.{most_side}
 
--- A number below 2^62 reads as itself in 64 signed bits.
-reads_itself : (a : ℕ) → a < most_side → to_z w64 a ≡ pos a
-reads_itself a h = ap (λ b. sel b (pos a) (negsuc (2 ^ 64 - suc a))) (lt-ltb a (2 ^ 63) (omega arith))
-
--- The signed difference of two naturals is `sub_ℕ`; for numbers below 2^62 it fits 64 bits.
-difference : (a b : ℕ) → pos a -ℤ pos b ≡ sub_ℕ a b
-difference a zero = ap pos (add-zero a) ∙ sym (ap (λ t. cond t (negsuc (zero - suc a)) (pos (a - zero))) (le-ltb a zero (omega arith)) ∙ ap pos (sub-zero a))
-difference a (suc b) = refl
-
-pub small_difference : (a b : ℕ) → a < most_side → b < most_side → to_z w64 a -ℤ to_z w64 b ≡ sub_ℕ a b
-small_difference a b h k = ap₂ ◌-ℤ◌ (reads_itself a h) (reads_itself b k) ∙ difference a b
-
+-- The difference of two numbers below 2^62 fits 64 bits.
 pub difference_fits : (a b : ℕ) → a < most_side → b < most_side → SFits w64 (sub_ℕ a b)
 difference_fits a b h k = go (ltb a b) refl
   where
@@ -35,11 +23,6 @@ difference_fits a b h k = go (ltb a b) refl
 -- A difference stored in 64 bits reads back unchanged.
 pub kept_difference : (a b : ℕ) (s : ℤ) → a < most_side → b < most_side → s ≡ sub_ℕ a b → to_z w64 (of_z w64 s) ≡ sub_ℕ a b
 kept_difference a b s h k e = ap (λ z. to_z w64 (of_z w64 z)) e ∙ to_z-of_z (difference_fits a b h k)
-
--- So does a choice of two signed numbers that fit.
-pub kept_choice : (x : Bool) (s t r : ℤ) → SFits w64 s → SFits w64 t → r ≡ cond x s t → (to_z w64 (of_z w64 r) ≡ cond x s t) × SFits w64 (to_z w64 (of_z w64 r))
-kept_choice true s t r f g e = rw (e, to_z-of_z f) (refl, f)
-kept_choice false s t r f g e = rw (e, to_z-of_z g) (refl, g)
 
 -- If a ≤ c, then a − b ≤ c.
 pub difference_at_most : (a b c : ℕ) → a ≤ c → le_z (sub_ℕ a b) (pos c) ≡ true

@@ -16,10 +16,10 @@ use Rattle.plan.specs.declared.kinds.Plan.{Plan}
 use Rattle.base.proofs.Logic.{both, below-or-last}
 use Rattle.judge.specs.Verdict.{is_hi_deadline, is_pair}
 use Rattle.judge.specs.Slack.{Figure, none_essential, slack_of, least_slack}
-use Rattle.judge.specs.Inner.Columns.{spare, column_taken}
+use Rattle.judge.specs.Inner.Columns.{Summed, spare, column_taken}
 use Rattle.judge.proofs.Demand.{true_pair}
 use Rattle.judge.proofs.HiDeadlinesSuffice.{boundary_less}
-use Rattle.judge.proofs.FloorPass.{Summed, demand_columns}
+use Rattle.judge.proofs.FloorPass.{demand_columns}
 use Rattle.judge.proofs.LeastSlack.{Pairs, among_none, among_same, among_one, sooner_among, first_of_all}
 use Rattle.judge.specs.Slack.{LeastAmong}
 

@@ -1,17 +1,15 @@
 // The answers of `judge` and `slack`.
 ghost use Rattle.std.specs.Prelude.{◌≡◌};
-ghost use Rattle.plan.specs.Report.{is_none, number_of};
-ghost use Rattle.judge.specs.Answers.{verdict_view};
+ghost use Rattle.plan.specs.Refusal as refusal;
+ghost use Rattle.plan.specs.Report.{number_of};
+ghost use Rattle.judge.specs.Answers.{report_of, verdict_view};
 
 use plan::kinds::Slots;
-use plan::refusal::{
-    BELOW_FLOOR_RULE, BUFFER_TOO_SHORT, DONE, OUTSIDE_WINDOW, OVER_CAPACITY, UNSOUND, WRONG_TOTAL,
-};
+use plan::refusal::{DONE, Reason};
 
-// The verdict on a plan: accepted, or the first fault in the judge's order with its first location.
-#[derive(Clone, Copy)]
-pub enum Verdict {
-    Accepted,
+// Why a plan is refused: the first fault in the judge's order, with its first location.
+#[derive(Clone, Copy, Debug, PartialEq, Eq)]
+pub enum Fault {
     BufferTooShort,
     Unsound,
     // The job and the interval.
@@ -24,33 +22,36 @@ pub enum Verdict {
     BelowFloor(usize, Slots),
 }
 
-// The slack figure: none if no job is HI; the least slack with its first interval and deadline; or
-// a refusal as by the judge, except for the floor rule.
-#[derive(Clone, Copy)]
-pub enum Slack {
-    NoneEssential,
-    Least(i64, usize, Slots),
-    Refused(Verdict),
+// The least slack of a plan, with its first interval and deadline.
+#[derive(Clone, Copy, Debug, PartialEq, Eq)]
+pub struct Least {
+    pub slack: i64,
+    pub interval: usize,
+    pub deadline: Slots,
 }
 
-// The number of a verdict: that of the refusal, or that of none.
-pub fn number_of(v: Verdict) -> u8
-    ensures { result ≡ number_of (verdict_view v) }
-{
-    match v {
-        Verdict::Accepted => DONE,
-        Verdict::BufferTooShort => BUFFER_TOO_SHORT,
-        Verdict::Unsound => UNSOUND,
-        Verdict::OutsideWindow(_, _) => OUTSIDE_WINDOW,
-        Verdict::WrongTotal(_) => WRONG_TOTAL,
-        Verdict::OverCapacity(_) => OVER_CAPACITY,
-        Verdict::BelowFloor(_, _) => BELOW_FLOOR_RULE,
+impl Fault {
+    // The reason, without the location.
+    pub fn reason(self) -> Reason
+        ensures { refusal.number_of result ≡ number_of (report_of self) }
+    {
+        match self {
+            Fault::BufferTooShort => Reason::BufferTooShort,
+            Fault::Unsound => Reason::Unsound,
+            Fault::OutsideWindow(_, _) => Reason::OutsideWindow,
+            Fault::WrongTotal(_) => Reason::WrongTotal,
+            Fault::OverCapacity(_) => Reason::OverCapacity,
+            Fault::BelowFloor(_, _) => Reason::BelowFloorRule,
+        }
     }
 }
 
-// Whether a verdict is acceptance.
-pub fn is_accepted(v: Verdict) -> bool
-    ensures { result ≡ is_none (verdict_view v) }
+// The number of a verdict: that of the fault's reason, or that of no refusal.
+pub fn number_of(verdict: Result<(), Fault>) -> u8
+    ensures { result ≡ number_of (verdict_view verdict) }
 {
-    number_of(v) == DONE
+    match verdict {
+        Ok(()) => DONE,
+        Err(fault) => fault.reason().into(),
+    }
 }

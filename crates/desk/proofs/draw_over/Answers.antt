@@ -1,61 +1,50 @@
 -- `desk::draw_over` meets its contract: the table is cleared, and if nothing is short the jobs are placed in it, first
 -- those from the back.
-use mathlib.Core.Path.{◌≡◌, refl, sym, ◌∙◌, ap}
-use mathlib.Core.Bool.{false, true, true≢false}
-use mathlib.Core.List.{List, [], ◌∷◌, ◌++◌}
-use Prim.Native.Nat.{ℕ, suc, ◌*◌, ◌-◌}
-use lib.ListN.{length, get_or, drop, replicate}
+use Rattle.std.proofs.Common.{◌≡◌, ◌∙◌, false, true, ap, ap₂, sym, refl, List, [], ◌++◌, drop, ℕ}
+use lib.ListN.{replicate}
 use lib.Seq.{length-take-le}
-use Rattle.base.specs.Fill.{filled}
-use Rattle.plan.specs.Edition.{most_intervals, places}
-use Rattle.plan.specs.Boundaries.{boundaries}
-use Rattle.plan.specs.Columns.{Columns}
-use Rattle.plan.specs.Report.{Report, is_none, number_of}
-use Rattle.plan.specs.declared.kinds.Outline.{Outline}
+use Rattle.plan.specs.Edition.{places}
+use Rattle.plan.specs.Report.{number_of}
 use Rattle.plan.specs.declared.kinds.Plan.{Plan}
-use Rattle.plan.proofs.Reports.{none_empty}
 use Rattle.desk.specs.Timetable.{Draft, class_placed, all_room, cleared, timetable}
+use Rattle.desk.specs.Answers.{answer_view, shortage_view}
 use Rattle.desk.specs.Desk.{jobs_fault, table_after}
-use Rattle.desk.specs.Answers.{shortage_view}
-use Rattle.desk.proofs.CodeLaws.{job_columns}
+use Rattle.desk.specs.Inner.Tasks.{IsTaskOf, rooms_in}
+use Rattle.desk.specs.declared.answers.Shortage.{Shortage}
+use Rattle.desk.specs.declared.answers.Shortage.TheVariants.{Unsound, ReleasesDiffer, Pair}
+use Rattle.desk.specs.declared.task.Task.{Task}
 use Rattle.desk.proofs.draw_over.Goals as goal
-use Rattle.desk.proofs.draw_over.Goals.{else-is_nothing, then-is_nothing}
 
--- The rooms that the code fills are those of the plan.
-rooms-are : (p : Plan) {o : Outline} {grades releases sizes deadlines times rooms : List ℕ} → Columns p o grades releases sizes deadlines → times ≡ boundaries p
-    → rooms ≡ filled (λ j. o.n.0 * (get_or times (suc j) 0 - get_or times j 0)) (length times - 1) (replicate most_intervals 0) → rooms ≡ all_room p
+-- The rooms of a task are those of its plan.
+rooms-are : (p : Plan) {t : Task} → IsTaskOf p t → rooms_in t ≡ all_room p
 unfolding all_room
-rooms-are p cols at e = e ∙ rw (at, ← cols.n) refl
-
--- The table after both classes is the timetable.
-both-placed : (p : Plan) (table : List ℕ) {rooms cells : List ℕ} {back front : Draft} → rooms ≡ all_room p → cells ≡ cleared table
-    → back ≡ class_placed p true (record { rooms = rooms; table = cells }) → front ≡ class_placed p false back → front.table ≡ timetable p table
-unfolding timetable
-both-placed p table room cells back front =
-    ap (λ (d : Draft). d.table) (front ∙ ap (class_placed p false) (back ∙ rw (room, cells) refl))
+rooms-are p is = rw (is.times, ← is.columns.n) refl
 
 -- A refusal of the jobs leaves the table cleared.
-refused : (p : Plan) (table : List ℕ) (jobs : Report) → is_none jobs ≡ false → cleared table ≡ table_after p table [] jobs
-refused p table [] h = absurd (true≢false h)
-refused p table (number ∷ rest) h = refl
+refused : (s : Shortage) (p : Plan) (table : List ℕ) → cleared table ≡ table_after p table [] (shortage_view s)
+refused Unsound p table = refl
+refused ReleasesDiffer p table = refl
+refused (Pair D E asked carries) p table = refl
+
+pub returns-in-Err : goal.returns-in-Err
+returns-in-Err c =
+    λ p is.
+    let table = c.args.table.now in
+    let own = ap (λ l. l ++ drop places table) (c.clear.ensures ∙ ap (λ n. replicate n 0) (length-take-le places table c.requires)) in
+    let short = c.in-Err.ensures p is in
+    (c.reason.ensures ∙ ap number_of short, own ∙ refused c.in-Err.short p table ∙ ap (table_after p table []) short)
 
 pub returns : goal.returns
+unfolding timetable
 returns c =
-    let own : c.clear.new.row ++ drop places c.args.table.now ≡ cleared c.args.table.now
-    = ap (λ l. l ++ drop places c.args.table.now)
-    (c.clear.ensures ∙ ap (λ n. replicate n 0) (length-take-le places c.args.table.now c.requires.2)) in
-    λ p cols at begin.
+    λ p is.
     let table = c.args.table.now in
-    let short : shortage_view c.shortage_over-short.result ≡ jobs_fault p = c.shortage_over-short.ensures p cols at begin in
-    let told = c.is_nothing.ensures ∙ ap is_none short in (
-      c.number_of.ensures ∙ ap number_of short,
-      elim c.if-is_nothing.branch [
-        | then-is_nothing w ↦
-            let jobs = job_columns p cols w.counted_within-jobs.ensures in
-            let spans = ap (λ l. length l - 1) at in
-            w.table-is
-            ∙ both-placed p table (rooms-are p cols at w.fill_rooms.ensures) own (w.place_class.ensures.1 p jobs at spans) (w.place_class-then-is_nothing.ensures.1 p jobs at spans)
-            ∙ ap (table_after p table []) (sym (none_empty (jobs_fault p) (sym told ∙ w.if-is_nothing.true)))
-        | else-is_nothing w ↦ w.table-is ∙ own ∙ refused p table (jobs_fault p) (sym told ∙ w.if-is_nothing.false)
-      ],
+    let own = ap (λ l. l ++ drop places table) (c.clear.ensures ∙ ap (λ n. replicate n 0) (length-take-le places table c.requires)) in
+    let none : [] ≡ jobs_fault p = ap answer_view (sym c.in_default.is) ∙ c.shortage_over.ensures p is in
+    let draft : List ℕ → List ℕ → Draft = λ rooms cells. record { rooms = rooms; table = cells } in (
+      ap number_of none,
+      ap (λ (d : Draft). d.table)
+          (c.place_class-2.ensures p is
+          ∙ ap (class_placed p false) (c.place_class.ensures p is ∙ ap₂ (λ rooms cells. class_placed p true (draft rooms cells)) (c.rooms_of-rooms.ensures ∙ rooms-are p is) own))
+          ∙ ap (table_after p table []) none,
     )

@@ -1,38 +1,38 @@
 -- `judge::faults::in_hand` meets its contract.
-use mathlib.Core.Path.{◌≡◌, sym, ◌∙◌, ap, ap₂}
-use mathlib.Core.Bool.{not}
-use mathlib.Core.List.{[], ◌∷◌}
-use Prim.Native.Nat.{◌-◌}
-use native.Mathlib.Omega.{arith}
-use borrow.Author.Tests.{lt-ltb, le-ltb}
-use Rattle.plan.specs.Refusal.{unsound, buffer_too_short}
-use Rattle.plan.specs.Table.{sound}
-use Rattle.plan.proofs.Stray.{sound_told}
-use Rattle.plan.specs.Report.{fault, or_else}
-use Rattle.judge.proofs.HandFault.{unbounded}
+use Rattle.std.proofs.Common.{length, not, ap, sym, ◌∙◌, arith}
+use borrow.Author.Tests.{not-true, not-false, eqb-true, eqb-false}
+use Rattle.judge.proofs.HandFault.{unbounded, hand_sound, hand_unsound, sound_here, sound_rules}
 use Rattle.judge.proofs.faults.in_hand.Goals as goal
+use Rattle.judge.proofs.faults.in_hand.Goals.{then-is_empty-via-then-is_empty, then-is_empty-via-else-is_empty+then-not-sound_within}
 
-pub returns-then-table-lt-PLACES : goal.returns-then-table-lt-PLACES
-returns-then-table-lt-PLACES c =
-    let a = c.args in
-    ap (λ b. or_else (fault b (buffer_too_short ∷ [])) (fault (not (sound a.p a.table.now)) (unsound ∷ []))) (sym (lt-ltb _ _ c.if-table-lt-PLACES.true))
+pub returns-then-is_empty-clause-report : goal.returns-then-is_empty-clause-report
+returns-then-is_empty-clause-report c =
+    let p = c.args.plan.now in
+    let table = c.args.table.now in
+    elim c.then-is_empty.branch [
+      | then-is_empty-via-then-is_empty w ↦
+          hand_unsound p table c.if-table-lt-PLACES.false
+          (unbounded p table (sym (ap length c.requires) ∙ eqb-true _ 0 (sym c.is_empty.ensures ∙ w.if-is_empty.true)))
+      | then-is_empty-via-else-is_empty+then-not-sound_within w ↦
+          hand_unsound p table c.if-table-lt-PLACES.false
+          (sound_here p table c.requires w.sound_within.ensures (not-true _ (ap not w.if-not-sound_within.true)))
+    ]
 
-pub returns-then-count-eq0 : goal.returns-then-count-eq0
-returns-then-count-eq0 c =
-    let a = c.args in
-    ap₂ (λ x y. or_else (fault x (buffer_too_short ∷ [])) (fault y (unsound ∷ []))) (sym (le-ltb _ _ c.if-table-lt-PLACES.false))
-    (sym (ap not (unbounded a.p a.table.now (omega (arith, c.requires, c.if-count-eq0.true)))))
+pub invariant_of-result : goal.invariant_of-result
+invariant_of-result c =
+    let p = c.args.plan.now in
+    let table = c.args.table.now in
+    record {
+      are_boundaries = c.requires;
+      some = omega (arith, eqb-false (length c.args.times.now) 0 (sym c.is_empty.ensures ∙ c.if-is_empty.false));
+      all_places = c.if-table-lt-PLACES.false;
+      in_width = λ q. omega (arith, c.type_inv.table q);
+      rules = sound_rules p table (sound_here p table c.requires c.sound_within.ensures (not-false _ (ap not c.if-not-sound_within.false)));
+    }
 
-pub returns-then-not-sound_within : goal.returns-then-not-sound_within
-returns-then-not-sound_within c =
-    let tested : c.sound_within.result ≡ sound c.args.p c.args.table.now = let a = c.args in
-    c.sound_within.ensures ∙ sound_told a.p a.table.now (a.count - 1) (ap (λ n. n - 1) c.requires) in
-    ap₂ (λ x y. or_else (fault x (buffer_too_short ∷ [])) (fault y (unsound ∷ []))) (sym (le-ltb _ _ c.if-table-lt-PLACES.false))
-    (sym (ap not (sym tested) ∙ (ap not c.if-not-sound_within.true)))
-
-pub returns : goal.returns
-returns c =
-    let tested : c.sound_within.result ≡ sound c.args.p c.args.table.now = let a = c.args in
-    c.sound_within.ensures ∙ sound_told a.p a.table.now (a.count - 1) (ap (λ n. n - 1) c.requires) in
-    ap₂ (λ x y. or_else (fault x (buffer_too_short ∷ [])) (fault y (unsound ∷ []))) (sym (le-ltb _ _ c.if-table-lt-PLACES.false))
-    (sym (ap not (sym tested) ∙ (ap not c.if-not-sound_within.false)))
+pub returns-clause-report : goal.returns-clause-report
+returns-clause-report c =
+    let p = c.args.plan.now in
+    let table = c.args.table.now in
+    sym (hand_sound p table c.if-table-lt-PLACES.false
+    (sound_here p table c.requires c.sound_within.ensures (not-false _ (ap not c.if-not-sound_within.false))))

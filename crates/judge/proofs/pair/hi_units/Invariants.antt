@@ -1,8 +1,5 @@
 -- `judge::pair::hi_units` meets its contract. Loop invariant: the sum over the first i jobs.
-use mathlib.Core.Path.{◌≡◌}
-use mathlib.Core.Bool.{◌&&◌}
-use Prim.Native.Nat.{◌+◌, ◌*◌, ◌-◌, ◌≤◌}
-use lib.Dec.{leb}
+use Rattle.std.proofs.Common.{◌≡◌, ◌&&◌, ◌+◌, ◌*◌, ◌≤◌, leb}
 use Rattle.plan.specs.Edition.{most_intervals}
 use Rattle.plan.specs.Rules.{deadline, is_hi}
 use Rattle.base.specs.Sum.{sum, on, strided}
@@ -11,7 +8,4 @@ use Rattle.judge.proofs.pair.hi_units.Given as goal
 
 abbrev pub invariant-loop-i : goal.invariant-loop-i
 invariant-loop-i l =
-    (l.i ≤ l.jobs) × (l.total.0 ≡ sum (λ k. on (is_hi l.p k && leb (deadline l.p k) l.time) (sum (strided l.table (most_intervals * k + l.l) 1) l.count)) l.i) × (l.total.0 ≤ l.i * (most_intervals * most_at_place))
-
-abbrev pub decreases-loop-i : goal.decreases-loop-i
-decreases-loop-i l = l.jobs - l.i
+    (l.total.0 ≡ sum (λ k. on (is_hi l.p k && leb (deadline l.p k) l.time) (sum (strided l.table (most_intervals * k + l.l) 1) l.count)) l.i) × (l.total.0 ≤ l.i * (most_intervals * most_at_place))
