@@ -13,6 +13,7 @@ pub mod TurnLaws
 pub mod Sharing
 pub mod SlotOver
 pub mod OutcomeColumns
+pub mod SlotColumns
 pub mod EndColumns
 pub mod WordLimits
 pub mod SlotsInTurn

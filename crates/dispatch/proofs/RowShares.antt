@@ -87,6 +87,20 @@ pub before_by_rank : (p : Plan) (k i : ℕ) → deadline p k ≤ most_deadline �
     → before p k i ≡ ltb (rank p k) (rank p i)
 before_by_rank p k i = any_by_rank (is_hi p k) (is_hi p i) (deadline p k) (deadline p i) k i
 
+-- A row of n numbers in front of what another row holds after them.
+pub front_filled : (f : ℕ → ℕ) (n : ℕ) (front row : List ℕ) → length front ≡ n → n ≤ length row → ((k : ℕ) → k < n → get_or front k 0 ≡ f k)
+    → front ++ drop n row ≡ filled f n row
+front_filled f n front row long room each =
+    sym
+    (is_filled f n row (front ++ drop n row)
+    (rw (length-append front (drop n row), length-drop) (omega arith))
+    (λ k inside below. get_or-append front (drop n row) 0 k (omega arith) ∙ each k below)
+    (λ k after.
+    let at : length front + (k - n) ≡ k = omega arith in
+    let far : n + (k - n) ≡ k = omega arith in
+    ap (λ x. get_or (front ++ drop n row) x 0) (sym at) ∙ get_or-append-add front (drop n row) (k - n) 0
+    ∙ get_or-drop n row (k - n) 0 ∙ ap (λ x. get_or row x 0) far))
+
 -- The row of zeros for the first n jobs, in front of what the row holds after them.
 pub blank_none : (n : ℕ) (grants : List ℕ) (k : ℕ) → k < n → get_or (replicate n 0 ++ drop n grants) k 0 ≡ 0
 blank_none n grants k h =

@@ -18,7 +18,7 @@ use Rattle.plan.specs.Edition.{most_jobs, most_intervals}
 use Rattle.plan.specs.Rules.{hi, counted, size, deadline, is_hi}
 use Rattle.plan.specs.Boundaries.{present}
 use Rattle.plan.specs.Table.{allotment}
-use Rattle.plan.specs.declared.kinds.Outline.{Outline}
+use Rattle.plan.specs.declared.columns.Columns.{Columns}
 use Rattle.plan.specs.declared.kinds.Plan.{Plan}
 use Rattle.plan.specs.declared.kinds.Slots.{Slots}
 use Rattle.dispatch.specs.declared.Run.{Run}
@@ -75,35 +75,35 @@ stays_shared true x e = refl
 stays_shared false true e = e
 stays_shared false false e = refl
 
-module _ (o : Outline) (grades releases sizes deadlines table : List ℕ) (run : Run) (v : ℕ) where
+module _ (cols : Columns) (table : List ℕ) (run : Run) (v : ℕ) where
   abbrev q : Plan
-  q = plan_on o grades releases sizes deadlines
+  q = plan_on cols
 
   abbrev n : ℕ
-  n = min o.count most_jobs
+  n = min cols.count most_jobs
 
   abbrev t : ℕ
   t = run.clock.0
 
   module _ (unended : run.ended ≡ []) where
-    live_on : (k : ℕ) → k < n → live q run k ≡ in_window_in t releases deadlines k
+    live_on : (k : ℕ) → k < n → live q run k ≡ in_window_in t cols k
     live_on k l =
         ap (λ e. not (get_or e k false) && in_its_window q t k) unended
-        ∙ ap₂ (λ a b. leb a t && ltb t b) (release_on o grades releases sizes deadlines k l) (deadline_on o grades releases sizes deadlines k l)
+        ∙ ap₂ (λ a b. leb a t && ltb t b) (release_on cols k l) (deadline_on cols k l)
 
-    hi_on : (k : ℕ) → k < n → is_hi q k ≡ eqb (get_or grades k 0) hi
-    hi_on k l = ap (λ g. eqb g hi) (grade_on o grades releases sizes deadlines k l)
+    hi_on : (k : ℕ) → k < n → is_hi q k ≡ eqb (get_or cols.grades k 0) hi
+    hi_on k l = ap (λ g. eqb g hi) (grade_on cols k l)
 
-    rank_on : (k : ℕ) → k < n → rank q k ≡ rank_in grades deadlines k
-    rank_on k l = ap₂ (λ h d. rank_at h d k) (hi_on k l) (deadline_on o grades releases sizes deadlines k l)
+    rank_on : (k : ℕ) → k < n → rank q k ≡ rank_in cols k
+    rank_on k l = ap₂ (λ h d. rank_at h d k) (hi_on k l) (deadline_on cols k l)
 
     -- The queues of the columns are those of the rules.
-    hi_queue_lem : queue (class_in true t grades releases deadlines) (rank_in grades deadlines) n
+    hi_queue_lem : queue (class_in true t cols) (rank_in cols) n
         ≡ queue (λ k. live q run k && is_hi q k) (deadline q) n
     hi_queue_lem =
         sym
         (by_rank q (λ k. live q run k && is_hi q k) true (λ k l e. and_second (live q run k) (is_hi q k) e)
-        ∙ queue_ext _ (class_in true t grades releases deadlines) _ (rank_in grades deadlines) n
+        ∙ queue_ext _ (class_in true t cols) _ (rank_in cols) n
         (λ k l. ap₂ ◌&&◌ (live_on k l) (hi_on k l)) rank_on)
       where
         and_second : (a b : Bool) → (a && b) ≡ true → b ≡ true
@@ -112,12 +112,12 @@ module _ (o : Outline) (grades releases sizes deadlines table : List ℕ) (run :
         and_second false false e = e
 
     -- With goals that are those of the rules, what is due is the goal less what is carried.
-    module _ (goals : ℕ → ℕ) (right : Goals o grades releases sizes deadlines table run.clock run.slow goals) where
+    module _ (goals : ℕ → ℕ) (right : Goals cols table run.clock run.slow goals) where
       abbrev dues_in : ℕ → ℕ
       dues_in k = goals k - carried_of run k
 
       abbrev claims_in : ℕ → ℕ
-      claims_in k = on (served_in t run.slow grades releases deadlines k) (dues_in k)
+      claims_in k = on (served_in t run.slow cols k) (dues_in k)
 
       due_of : (k : ℕ) → k < n → due q table run run.slow k ≡ dues_in k
       due_of k l =
@@ -136,19 +136,19 @@ module _ (o : Outline) (grades releases sizes deadlines table : List ℕ) (run :
       fits_stays fits =
           if_true run.slow
           (λ e. rw e refl)
-          (λ e. rw e (le-ltb v (min o.n.0 (all_dues q table run)) (omega (arith, claims_are_dues e))))
+          (λ e. rw e (le-ltb v (min cols.n.0 (all_dues q table run)) (omega (arith, claims_are_dues e))))
 
-      normal_stays : (run.slow ≡ false → o.n.0 ≤ v) → slow_after q table run v ≡ run.slow
+      normal_stays : (run.slow ≡ false → cols.n.0 ≤ v) → slow_after q table run v ≡ run.slow
       normal_stays normal =
           if_true run.slow
           (λ e. rw e refl)
-          (λ e. rw e (le-ltb v (min o.n.0 (all_dues q table run)) (omega (arith, normal e))))
+          (λ e. rw e (le-ltb v (min cols.n.0 (all_dues q table run)) (omega (arith, normal e))))
 
       module _ (grants : List ℕ) where
         -- A slot that is slow under a clear mark is not shared out under it.
-        pub shared_not : run.slow ≡ false → v < o.n.0 → v < sum claims_in n → Shared q table run v grants false grants
+        pub shared_not : run.slow ≡ false → v < cols.n.0 → v < sum claims_in n → Shared q table run v grants false grants
         shared_not clear below over =
-            (rw (clear, lt-ltb v (min o.n.0 (all_dues q table run)) (omega (arith, claims_are_dues clear))) refl, refl)
+            (rw (clear, lt-ltb v (min cols.n.0 (all_dues q table run)) (omega (arith, claims_are_dues clear))) refl, refl)
 
         module _ (room : n ≤ length grants) where
           module _ (marked : slow_after q table run v ≡ run.slow) where
@@ -168,13 +168,13 @@ module _ (o : Outline) (grades releases sizes deadlines table : List ℕ) (run :
                 ∙ fitting_claims q table run v grants room
                 (rw (sym (sum_ext _ (claim q table run (slow_after q table run v)) n claim_on)) fits)
 
-            lo_queue_lem : run.slow ≡ false → queue (class_in false t grades releases deadlines) (rank_in grades deadlines) n
+            lo_queue_lem : run.slow ≡ false → queue (class_in false t cols) (rank_in cols) n
                 ≡ queue (λ k. live q run k && not (is_hi q k) && not (slow_after q table run v)) (deadline q) n
             lo_queue_lem e =
                 sym
                 (by_rank q (λ k. live q run k && not (is_hi q k) && not (slow_after q table run v)) false
                 (λ k l passes. lower (live q run k) (is_hi q k) (not (slow_after q table run v)) passes)
-                ∙ queue_ext _ (class_in false t grades releases deadlines) _ (rank_in grades deadlines) n
+                ∙ queue_ext _ (class_in false t cols) _ (rank_in cols) n
                 (λ k l. rw (marked, e) (last (live q run k) (is_hi q k) ∙ ap₂ (λ a h. a && not h) (live_on k l) (hi_on k l))) rank_on)
               where
                 lower : (a h b : Bool) → (a && not h && b) ≡ true → h ≡ false
@@ -204,13 +204,13 @@ module _ (o : Outline) (grades releases sizes deadlines table : List ℕ) (run :
 
             -- What the code writes for the HI jobs, and then for the others.
             abbrev first_in : List ℕ
-            first_in = serve dues_in v (queue (class_in true t grades releases deadlines) (rank_in grades deadlines) n) (filled (λ k. 0) n grants)
+            first_in = serve dues_in v (queue (class_in true t cols) (rank_in cols) n) (filled (λ k. 0) n grants)
 
             abbrev claimed_in : ℕ
-            claimed_in = sum (λ k. on (class_in true t grades releases deadlines k) (dues_in k)) n
+            claimed_in = sum (λ k. on (class_in true t cols k) (dues_in k)) n
 
             abbrev second_in : List ℕ
-            second_in = serve dues_in (v - claimed_in) (queue (class_in false t grades releases deadlines) (rank_in grades deadlines) n) first_in
+            second_in = serve dues_in (v - claimed_in) (queue (class_in false t cols) (rank_in cols) n) first_in
 
             first_row : first_in ≡ serve dues v essential blank
             first_row =
@@ -237,7 +237,7 @@ module _ (o : Outline) (grades releases sizes deadlines table : List ℕ) (run :
                 (queue_none lo_test (deadline q) n (λ k l. rw (marked, e) (and-false (live q run k && not (is_hi q k)))))
 
             -- What the jobs get in turns is what the rules grant.
-            turns_granted : in_turns t run.slow grades releases deadlines dues_in v n (filled (λ k. 0) n grants) ≡ granted q table run v grants
+            turns_granted : in_turns t run.slow cols dues_in v n (filled (λ k. 0) n grants) ≡ granted q table run v grants
             turns_granted =
                 if_true run.slow
                 (λ e. ap (λ s. cond s first_in second_in) e ∙ first_row ∙ sym (no_others e))
@@ -248,8 +248,8 @@ module _ (o : Outline) (grades releases sizes deadlines table : List ℕ) (run :
           pub shared_claims : sum claims_in n ≤ v → Shared q table run v grants true (filled claims_in n grants)
           shared_claims fits = (stays_shared run.slow _ (fits_stays fits), claims_granted (fits_stays fits) fits)
 
-          pub shared_turns : (run.slow ≡ false → o.n.0 ≤ v)
-              → Shared q table run v grants true (in_turns t run.slow grades releases deadlines dues_in v n (filled (λ k. 0) n grants))
+          pub shared_turns : (run.slow ≡ false → cols.n.0 ≤ v)
+              → Shared q table run v grants true (in_turns t run.slow cols dues_in v n (filled (λ k. 0) n grants))
           shared_turns normal = (stays_shared run.slow _ (normal_stays normal), turns_granted (normal_stays normal))
 
 -- The sum of the first numbers of a row is the sum of the allotments in as many intervals.
@@ -260,16 +260,16 @@ allotted table i spans =
 
 -- The column of sizes has the whole goals under the slow mark; otherwise the rows of the table, as far as intervals have
 -- begun, make the goals.
-pub sizes_are_goals : (o : Outline) (grades releases sizes deadlines table : List ℕ) (clock : Slots) (slow : Bool) (spans : ℕ)
-    → (slow ≡ false → spans ≡ suc (present (plan_on o grades releases sizes deadlines) clock.0))
-    → Goals o grades releases sizes deadlines table clock slow (goal_in slow spans sizes table)
-sizes_are_goals o grades releases sizes deadlines table clock slow spans begun k l = by slow begun
+pub sizes_are_goals : (cols : Columns) (table : List ℕ) (clock : Slots) (slow : Bool) (spans : ℕ)
+    → (slow ≡ false → spans ≡ suc (present (plan_on cols) clock.0))
+    → Goals cols table clock slow (goal_in slow spans cols.sizes table)
+sizes_are_goals cols table clock slow spans begun k l = by slow begun
   where
-    size_is : get_or sizes k 0 ≡ size (plan_on o grades releases sizes deadlines) k
-    size_is = sym (size_on o grades releases sizes deadlines k l)
+    size_is : get_or cols.sizes k 0 ≡ size (plan_on cols) k
+    size_is = sym (size_on cols k l)
 
-    by : (s : Bool) → (s ≡ false → spans ≡ suc (present (plan_on o grades releases sizes deadlines) clock.0))
-        → goal_in s spans sizes table k ≡ goal (plan_on o grades releases sizes deadlines) table clock.0 s k
+    by : (s : Bool) → (s ≡ false → spans ≡ suc (present (plan_on cols) clock.0))
+        → goal_in s spans cols.sizes table k ≡ goal (plan_on cols) table clock.0 s k
     by true b = size_is
     by false b = ap₂ (λ s m. min s (sum (allotment most_intervals table k) m)) size_is (b refl)
 

@@ -1,5 +1,5 @@
 -- What a shift does and never does, for every plan, table, run, speeds and buffers.
-use mathlib.Core.Path.{◌≡◌, refl, sym, ◌∙◌, ap, ap₂}
+use mathlib.Core.Path.{◌≡◌, refl, sym, ◌∙◌, ap, ap₂, subst}
 use mathlib.Core.Bool.{Bool, true, false, not, ◌||◌}
 use mathlib.Core.List.{List, [], ◌∷◌, ◌++◌, append_assoc}
 use Prim.Native.Nat.{ℕ, suc, ◌+◌, ◌*◌, ◌-◌, ◌≤◌, ◌<◌}
@@ -64,6 +64,16 @@ module _ (p : Plan) (table : List ℕ) where
         → shifted p table run speeds rows numbers ≡ record { answer = number ∷ rest; run = run; rows = rows; numbers = numbers }
     unfolding shifted
     refused_shift_changes_nothing number rest e = ap (λ r. shift_by r p table run speeds rows numbers) (sym shift_answer ∙ e)
+
+    -- So the run is the one that went in, whatever is told of the run beside a refusal.
+    pub refused_shift_run : {number : ℕ} {next : Run} {rows_left numbers_left : List ℕ}
+        → record { answer = number ∷ []; run = next; rows = rows_left; numbers = numbers_left } ≡ shifted p table run speeds rows numbers
+        → record { answer = number ∷ []; run = run; rows = rows_left; numbers = numbers_left } ≡ shifted p table run speeds rows numbers
+    refused_shift_run {number} {next} {rows_left} {numbers_left} e =
+        let same : next ≡ run
+        = ap (λ (s : ShiftEffect). s.run) e
+        ∙ ap (λ (s : ShiftEffect). s.run) (refused_shift_changes_nothing number [] (sym (ap (λ (s : ShiftEffect). s.answer) e))) in
+        subst (λ r. record { answer = number ∷ []; run = r; rows = rows_left; numbers = numbers_left } ≡ shifted p table run speeds rows numbers) same e
 
 -- The rows of a shift: where row k lies, and that no row is longer or shorter than the jobs.
 pub row_fits : (k n jobs long : ℕ) → (k + suc n) * jobs ≤ long → k * jobs + jobs ≤ long

@@ -1,5 +1,5 @@
 -- The effect of a slot's call from what the code finds: a refusal, or marks, grants and carried units.
-use mathlib.Core.Path.{◌≡◌, refl, sym, ◌∙◌, ap, ap₂}
+use mathlib.Core.Path.{◌≡◌, refl, sym, ◌∙◌, ap, ap₂, subst}
 use mathlib.Core.Bool.{Bool, true, false, not, cond, ◌&&◌, ◌||◌, and-true}
 use mathlib.Core.List.{List, [], ◌∷◌, ◌++◌}
 use Prim.Native.Nat.{ℕ, ◌+◌, ◌-◌, ◌≤◌, ◌<◌, ◌^◌, min}
@@ -19,7 +19,7 @@ use Rattle.plan.specs.declared.kinds.Slots.{Slots}
 use Rattle.dispatch.specs.declared.Run.{Run}
 use Rattle.dispatch.specs.Dues.{carried_of, ended_of, live, slow_at, slow_after, below_after, goal, due}
 use Rattle.dispatch.specs.Order.{before, order, serve}
-use Rattle.dispatch.specs.Step.{slot_sound, slot_fault, granted, added, advanced, slot_by, stepped}
+use Rattle.dispatch.specs.Step.{SlotEffect, slot_sound, slot_fault, granted, added, advanced, slot_by, stepped}
 use Rattle.dispatch.specs.Inner.Shares.{settled_of, settled_run, served, claim, share, Shared}
 use Rattle.dispatch.proofs.Readiness.{left_by}
 use Rattle.dispatch.proofs.RowShares.{filled_is_added, granted_rest, granted_length}
@@ -32,6 +32,21 @@ pub slot_refused : (p : Plan) (table : List ℕ) (run : Run) (v : ℕ) (grants :
 unfolding stepped
 slot_refused p table run v grants {found} e some =
     sym (left_by found p table run v grants some) ∙ ap (λ f. slot_by f p table run v grants) e
+
+-- So the run is the one that went in, whatever is told of the run beside a refusal.
+pub refused_run : (p : Plan) (table : List ℕ) (run : Run) (v : ℕ) (grants : List ℕ) {number : ℕ} {next : Run} {left : List ℕ}
+    → record { answer = number ∷ []; run = next; grants = left } ≡ stepped p table run v grants
+    → record { answer = number ∷ []; run = run; grants = left } ≡ stepped p table run v grants
+unfolding stepped
+refused_run p table run v grants {number} {next} {left} e = by (slot_fault p table run v grants) refl
+  where
+    by : (r : Report) → slot_fault p table run v grants ≡ r → record { answer = number ∷ []; run = run; grants = left } ≡ stepped p table run v grants
+    by [] f =
+        let none : number ∷ [] ≡ [] = ap (λ (s : SlotEffect). s.answer) e ∙ ap (λ r. (slot_by r p table run v grants).answer) f in
+        absurd (cc)
+    by (m ∷ rest) f =
+        let same : next ≡ run = ap (λ (s : SlotEffect). s.run) e ∙ ap (λ r. (slot_by r p table run v grants).run) f in
+        subst (λ r. record { answer = number ∷ []; run = r; grants = left } ≡ stepped p table run v grants) same e
 
 -- A job's claim is at most what is left of its size.
 pub claim_small : (p : Plan) (table : List ℕ) (run : Run) (slow : Bool) (i : ℕ) → claim p table run slow i ≤ size p i - carried_of run i

@@ -1,15 +1,24 @@
 -- What the soundness of a plan and a run for a slot says, part by part.
-use mathlib.Core.Path.{◌≡◌, refl}
-use mathlib.Core.Bool.{true, false, ◌&&◌, and-false}
+use mathlib.Core.Path.{◌≡◌, refl, sym, ◌∙◌, subst}
+use Rattle.std.proofs.Common.{Result, Ok, Err}
+use mathlib.Core.Bool.{Bool, true, false, ◌&&◌, and-false}
+use mathlib.Core.List.{List}
 use Prim.Native.Nat.{ℕ, ◌≤◌, ◌<◌}
 use borrow.Author.Tests.{leb-true}
 use lib.Dec.{leb}
+use lib.ListN.{length, replicate, length-replicate}
 use Rattle.base.specs.Below.{every}
 use Rattle.base.proofs.Logic.{both}
 use Rattle.base.proofs.Below.{every_at}
+use Rattle.plan.specs.Columns.{HasColumns, PutsColumns, sizes_fit}
+use Rattle.plan.specs.Edition.{most_jobs}
 use Rattle.plan.specs.Rules.{jobs_of, counted, size, grades_hold, rates_hold, count_holds, bounds_hold}
 use Rattle.plan.specs.Boundaries.{first_release, last_deadline}
+use Rattle.plan.specs.declared.columns.Columns.{Columns}
 use Rattle.plan.specs.declared.kinds.Plan.{Plan}
+use Rattle.plan.specs.declared.refusal.Reason.{Reason}
+use Rattle.plan.specs.declared.refusal.Reason.TheVariants.{Unsound}
+use Rattle.plan.proofs.ColumnLaws.{columns_put, sizes_too_large}
 use Rattle.plan.proofs.Soundness.{Bounded, bounded}
 use Rattle.dispatch.specs.declared.Run.{Run}
 use Rattle.dispatch.specs.Dues.{carried_of}
@@ -44,3 +53,31 @@ slot_sound_lem p run e =
 pub too_large_unsound : (p : Plan) (run : Run) → bounds_hold (jobs_of p) ≡ false → slot_sound p run ≡ false
 unfolding slot_sound
 too_large_unsound p run e = rw (e, and-false (rates_hold p && count_holds (jobs_of p) && grades_hold (jobs_of p))) refl
+
+-- Columns of no jobs, at rates of zero.
+abbrev empty : Columns
+empty =
+    let zeros : List ℕ = replicate most_jobs 0 in
+    record { n = record { 0 = 0 }; d = record { 0 = 0 }; count = 0; grades = zeros; releases = zeros; sizes = zeros; deadlines = zeros }
+
+module _ (p : Plan) {r : Result Unit Reason} {left : Columns} (puts : PutsColumns p empty r left) where
+  -- A plan that has no room in columns is refused with 21, and sound for no slot.
+  pub unput_lem : {reason : Reason} → r ≡ Err reason → (reason ≡ Unsound) × ((run : Run) → slot_sound p run ≡ false)
+  unput_lem {reason} e = by (sizes_fit p) refl
+    where
+      by : (b : Bool) → sizes_fit p ≡ b → (reason ≡ Unsound) × ((run : Run) → slot_sound p run ≡ false)
+      by true fits = let none : ◌≡◌ {A = Result Unit Reason} (Err reason) (Ok tt) = sym e ∙ puts.0 ∙ rw fits refl in absurd (cc)
+      by false large =
+          let is : ◌≡◌ {A = Result Unit Reason} (Err reason) (Err Unsound) = sym e ∙ puts.0 ∙ rw large refl in
+          (cc, λ run. too_large_unsound p run (sizes_too_large p large))
+
+  -- A plan that was put into columns has them.
+  pub put_lem : {u : Unit} → r ≡ Ok u → HasColumns p left
+  put_lem {u} e = by (sizes_fit p) refl
+    where
+      long : length {A = ℕ} (replicate most_jobs 0) ≡ most_jobs
+      long = length-replicate {A = ℕ} most_jobs 0
+
+      by : (b : Bool) → sizes_fit p ≡ b → HasColumns p left
+      by true fits = subst (λ l. HasColumns p l) (sym puts.1) (columns_put p empty fits long long long long)
+      by false large = let none : ◌≡◌ {A = Result Unit Reason} (Ok u) (Err Unsound) = sym e ∙ puts.0 ∙ rw large refl in absurd (cc)

@@ -5,6 +5,7 @@ use mathlib.Core.Logic.{◌≢◌}
 use mathlib.Core.Bool.{Bool, true, false, ◌&&◌, ◌||◌}
 use mathlib.Core.List.{List, [], ◌∷◌, ◌++◌, append-nil}
 use Prim.Native.Nat.{ℕ, suc, ◌+◌, ◌*◌, ◌-◌, ◌≤◌, ◌<◌, min}
+use native.Mathlib.Nat.{mul-le-mul}
 use native.Mathlib.Omega.{arith}
 use borrow.Author.Tests.{le-leb, le-ltb, lt-ltb, eq-eqb, ne_eqb}
 use lib.Dec.{leb, ltb, eqb}
@@ -13,21 +14,23 @@ use lib.Seq.{drop-cons, take_all}
 use Rattle.base.specs.Below.{every}
 use Rattle.base.proofs.Below.{every_all}
 use Rattle.base.proofs.Logic.{both}
+use Rattle.plan.specs.Columns.{HasColumns}
 use Rattle.plan.specs.Edition.{most_jobs, most_speeds, places}
 use Rattle.plan.specs.Refusal.{clock_at_end, speed_above_normal, unsound, buffer_too_short, too_many_speeds}
 use Rattle.plan.specs.Report.{Report, number_of}
 use Rattle.plan.specs.Rules.{jobs_of, counted, size, rates_hold, count_holds, grades_hold, bounds_hold}
 use Rattle.plan.specs.Boundaries.{first_release, last_deadline, present}
-use Rattle.plan.specs.declared.kinds.Outline.{Outline}
+use Rattle.plan.specs.declared.columns.Columns.{Columns}
 use Rattle.plan.specs.declared.kinds.Plan.{Plan}
 use Rattle.plan.specs.declared.kinds.Slots.{Slots}
 use Rattle.dispatch.specs.declared.Run.{Run}
 use Rattle.dispatch.specs.Dues.{carried_of, slow_after}
 use Rattle.dispatch.specs.Step.{SlotEffect, slot_sound, slot_fault, granted, advanced, slot_by, stepped}
-use Rattle.dispatch.specs.Shift.{row_start, slot_at, slots_from, shift_fault, shift_by, shifted}
+use Rattle.dispatch.specs.Shift.{ShiftEffect, row_start, slot_at, slots_from, shift_fault, shift_by, shifted}
 use Rattle.dispatch.specs.Inner.Columns.{plan_on}
 use Rattle.dispatch.specs.Inner.Turns.{goal_in, Goals, KeepsGoals}
 use Rattle.dispatch.proofs.Alike.{Alike, done, counted_same, slot_sound_same, long_same, alike_slot}
+use Rattle.dispatch.proofs.ColumnPlan.{columns_alike}
 use Rattle.dispatch.proofs.RowShares.{added_most, granted_rest, granted_length}
 use Rattle.dispatch.proofs.Shares.{within_claim}
 use Rattle.dispatch.proofs.Sharing.{sizes_are_goals}
@@ -146,6 +149,10 @@ module _ (rows : List ℕ) (at all : ℕ) (long : length rows ≡ all) (inside :
       ap length (put_back part) ∙ length-append (take at rows) part
       ∙ ap₂ ◌+◌ (length-take at rows) (e ∙ ap length part_lent ∙ length-drop at rows) ∙ omega (arith, long, inside)
 
+-- The places of some rows have room in 64 bits.
+pub few_places : (k jobs : ℕ) → k ≤ most_speeds → jobs ≤ most_jobs → k * jobs ≤ most_speeds * most_jobs
+few_places k jobs few many = mul-le-mul {n₁ = k} {m₁ = jobs} {n₂ = most_speeds} {m₂ = most_jobs} few many
+
 -- A call of a shift, made on the rows that are lent from its own row on.
 pub call_made : (p : Plan) (table speeds : List ℕ) (k : ℕ) (run next : Run) (rows numbers part : List ℕ) (answer : Report) (number jobs all : ℕ)
     → k < length speeds → jobs ≡ counted p → length rows ≡ all → k * jobs ≤ all
@@ -168,15 +175,15 @@ unfolding slots_from
 no_more_speeds p table speeds k run rows numbers h = ap (λ l. slots_from p table k l run rows numbers) (drop_of_length-le speeds h)
 
 -- The goals that a shift keeps are those of a slot, for the intervals begun, or none under the slow mark.
-pub kept_are_goals : (o : Outline) (grades releases sizes deadlines table goals : List ℕ) (clock : Slots) (slow : Bool) (spans : ℕ)
-    → (slow ≡ true → spans ≡ 0) → (slow ≡ false → spans ≡ suc (present (plan_on o grades releases sizes deadlines) clock.0))
-    → KeepsGoals (min o.count most_jobs) spans sizes table goals
-    → Goals o grades releases sizes deadlines table clock slow (goal_in true spans goals table)
-kept_are_goals o grades releases sizes deadlines table goals clock slow spans none begun kept k l =
-    kept k l ∙ ap (λ w. goal_in w spans sizes table k) (by slow none begun)
-    ∙ sizes_are_goals o grades releases sizes deadlines table clock slow spans begun k l
+pub kept_are_goals : (cols : Columns) (table goals : List ℕ) (clock : Slots) (slow : Bool) (spans : ℕ)
+    → (slow ≡ true → spans ≡ 0) → (slow ≡ false → spans ≡ suc (present (plan_on cols) clock.0))
+    → KeepsGoals (min cols.count most_jobs) spans cols.sizes table goals
+    → Goals cols table clock slow (goal_in true spans goals table)
+kept_are_goals cols table goals clock slow spans none begun kept k l =
+    kept k l ∙ ap (λ w. goal_in w spans cols.sizes table k) (by slow none begun)
+    ∙ sizes_are_goals cols table clock slow spans begun k l
   where
-    by : (s : Bool) → (s ≡ true → spans ≡ 0) → (s ≡ false → spans ≡ suc (present (plan_on o grades releases sizes deadlines) clock.0)) → eqb spans 0 ≡ s
+    by : (s : Bool) → (s ≡ true → spans ≡ 0) → (s ≡ false → spans ≡ suc (present (plan_on cols) clock.0)) → eqb spans 0 ≡ s
     by true a b = eq-eqb spans 0 (a refl)
     by false a b = ne_eqb spans 0 (λ e. absurd (omega (arith, b refl)))
 
@@ -205,6 +212,12 @@ module _ (p : Plan) (table : List ℕ) (q : Plan) (other : List ℕ) (same : Ali
       by : (r : Report) → shift_by r p table run speeds rows numbers ≡ shift_by r q other run speeds rows numbers
       by [] = alike_slots 0 speeds run rows numbers
       by (number ∷ rest) = refl
+
+-- The effect of a shift for the plan made from columns is that for every plan that has them.
+pub shifts_for_all : (cols : Columns) (table : List ℕ) (run : Run) (speeds rows numbers : List ℕ) {e : ShiftEffect}
+    → e ≡ shifted (plan_on cols) table run speeds rows numbers → (p : Plan) → HasColumns p cols → e ≡ shifted p table run speeds rows numbers
+shifts_for_all cols table run speeds rows numbers is p has =
+    is ∙ sym (alike_shift p table (plan_on cols) table (columns_alike cols p table has) run speeds rows numbers)
 
 module _ (p : Plan) (table : List ℕ) (run : Run) (speeds rows numbers : List ℕ) where
   -- A refused shift leaves all as it was.

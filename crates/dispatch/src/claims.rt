@@ -1,93 +1,78 @@
 // A job's claim on a slot: its due if it is served, otherwise 0.
-ghost use Rattle.std.specs.Prelude.{◌≡◌, not, ◌&&◌, ◌||◌, ◌-◌, ◌≤◌, ◌<◌, min, replicate, leb, ltb, eqb};
+ghost use Rattle.std.specs.Prelude.{◌≡◌, not, ◌&&◌, ◌||◌, ◌≤◌, ◌<◌, replicate, leb, ltb, eqb, get_or};
 ghost use Rattle.plan.specs.Edition.{most_jobs};
 ghost use Rattle.plan.specs.Rules.{hi};
-ghost use Rattle.dispatch.specs.Inner.Turns.{due_in, claim_in, unknown, KnownDue, Claimed};
+ghost use Rattle.dispatch.specs.Inner.Turns.{served_in, goal_by, due_by, claim_by, unknown, KnownDue, Claimed};
 
 use base::sum_of;
+use plan::columns::Columns;
 use plan::edition::Edition;
-use plan::kinds::{HI, Slots, Units, as_units};
+use plan::kinds::{HI, Slots, Units};
 
 // The entry of a row of claims whose claim is not known yet. A claim that is as great would only be
 // worked out once more.
 pub(crate) const UNKNOWN: u32 = u32::MAX;
 
-// Whether a job is served: it is in its window, and HI if the slow mark is set.
-pub(crate) fn is_served(
-    grade: u32,
-    release: Slots,
-    deadline: Slots,
-    clock: Slots,
-    slow: bool,
-) -> bool
-    ensures { result ≡ (leb release.0 clock.0 && ltb clock.0 deadline.0 && (eqb grade hi || not slow)) }
-{
-    (release.0 <= clock.0) & (clock.0 < deadline.0) & ((grade == HI as u32) | !slow)
+// A column of goals: they are whole, or cut at the allotments of the intervals begun.
+#[derive(Clone, Copy)]
+pub(crate) struct GoalColumn<'a> {
+    pub(crate) whole: bool,
+    pub(crate) spans: u32,
+    pub(crate) goals: &'a [u32; Edition::MOST_JOBS],
+    pub(crate) table: &'a [u32],
 }
 
-// The lesser of two numbers of units.
-pub(crate) fn lesser_of(a: Units, b: Units) -> Units
-    ensures { result ≡ record { 0 = min a.0 b.0 } }
-{
-    if a.0 <= b.0 { a } else { b }
-}
-
-// A stored number as units. Nothing else tells that an entry of a lent row has 32 bits.
-pub(crate) fn bounded(stored: u32) -> Units
-    ensures { (result ≡ record { 0 = stored }) × (result.0 ≤ unknown) }
-{
-    Units(stored as u64)
-}
-
-// What is left of a goal after what is carried, or 0 if more is carried.
-pub(crate) fn left_of(goal: Units, carried: Units) -> Units
-    ensures { result ≡ record { 0 = goal.0 - carried.0 } }
-{
-    if goal.0 <= carried.0 {
-        return Units(0);
+impl GoalColumn<'_> {
+    // The goal of job i. If the column has the whole goal, no row is added up.
+    pub(crate) fn at(&self, i: usize) -> u32
+        requires { i < most_jobs }
+        ensures { result ≡ goal_by self.now i }
+    {
+        if self.whole {
+            return self.goals[i];
+        }
+        let allotted = sum_of(self.table, Edition::MOST_INTERVALS * i, 1, self.spans);
+        u64::from(self.goals[i]).min(allotted) as u32
     }
-    Units(goal.0 - carried.0)
 }
 
-// What is due to job i when `spans` intervals have begun. If the column has the whole goal, no row is added up.
-fn due_at(
-    whole: bool,
-    spans: u32,
-    goals: &[u32; Edition::MOST_JOBS],
-    carried: &[u32; Edition::MOST_JOBS],
-    table: &[u32],
-    i: usize,
-) -> Units
+// What the dues of a slot are worked out from: the goals, and what the jobs count as carried.
+#[derive(Clone, Copy)]
+pub(crate) struct Dues<'a> {
+    pub(crate) goals: GoalColumn<'a>,
+    pub(crate) carried: &'a [u32; Edition::MOST_JOBS],
+}
+
+impl Dues<'_> {
+    // What is due to job i: what is left of its goal, or 0 if more is carried.
+    fn of(&self, i: usize) -> u32
+        requires { i < most_jobs }
+        ensures { result ≡ due_by self.now i }
+    {
+        self.goals.at(i).saturating_sub(self.carried[i])
+    }
+
+    // What is due to a served job: its claim if it is known, otherwise worked out.
+    pub(crate) fn claimed(&self, claims: &[u32; Edition::MOST_JOBS], i: usize) -> u32
+        requires { (i < most_jobs) × KnownDue claims.now (due_by self.now) i }
+        ensures { result ≡ due_by self.now i }
+    {
+        let known = claims[i];
+        if known != UNKNOWN {
+            return known;
+        }
+        self.of(i)
+    }
+}
+
+// Whether job i is served: it is in its window, and HI if the slow mark is set.
+pub(crate) fn is_served(cols: &Columns, clock: Slots, slow: bool, i: usize) -> bool
     requires { i < most_jobs }
-    ensures { (result.0 ≡ due_in whole spans goals.now carried.now table.now i) × (result.0 ≤ unknown) }
+    ensures { result ≡ served_in clock.0 slow cols.now i }
 {
-    let most = bounded(goals[i]);
-    let had = as_units(carried[i]);
-    if whole {
-        return left_of(most, had);
-    }
-    let allotted = Units(sum_of(table, Edition::MOST_INTERVALS * i, 1, spans));
-    left_of(lesser_of(most, allotted), had)
-}
-
-// What is due to a served job: its claim if it is known, otherwise worked out.
-pub(crate) fn claim_at(
-    claims: &[u32; Edition::MOST_JOBS],
-    whole: bool,
-    spans: u32,
-    goals: &[u32; Edition::MOST_JOBS],
-    carried: &[u32; Edition::MOST_JOBS],
-    table: &[u32],
-    i: usize,
-) -> Units
-    requires { (i < most_jobs) × KnownDue claims.now (due_in whole spans goals.now carried.now table.now) i }
-    ensures { (result.0 ≡ due_in whole spans goals.now carried.now table.now i) × (result.0 ≤ unknown) }
-{
-    let known = claims[i];
-    if known != UNKNOWN {
-        return bounded(known);
-    }
-    due_at(whole, spans, goals, carried, table, i)
+    (cols.releases[i] <= clock.0)
+        & (clock.0 < cols.deadlines[i])
+        & ((cols.grades[i] == HI as u32) | !slow)
 }
 
 // Writes the claims of the jobs in the order of their positions as long as they fit into v, and tells
@@ -98,29 +83,24 @@ pub(crate) fn all_fit(
     v: Units,
     clock: Slots,
     slow: bool,
-    spans: u32,
-    grades: &[u32; Edition::MOST_JOBS],
-    releases: &[u32; Edition::MOST_JOBS],
-    sizes: &[u32; Edition::MOST_JOBS],
-    deadlines: &[u32; Edition::MOST_JOBS],
-    carried: &[u32; Edition::MOST_JOBS],
-    table: &[u32],
+    cols: &Columns,
+    dues: &Dues,
 ) -> bool
     requires { (jobs ≤ most_jobs) × (v.0 ≤ unknown) × (claims.old ≡ replicate most_jobs unknown) }
-    ensures { Claimed (claim_in clock.0 slow slow spans grades.now releases.now sizes.now deadlines.now carried.now table.now) v.0 jobs claims.new result }
+    ensures { Claimed (claim_by clock.0 slow cols.now dues.now) v.0 jobs claims.new result }
 {
-    let mut total = Units(0);
-    let mut i = 0;
-    while (i < jobs) & (total.0 <= v.0) {
-        let mut claim = Units(0);
-        let release = Slots(releases[i]);
-        let deadline = Slots(deadlines[i]);
-        if is_served(grades[i], release, deadline, clock, slow) {
-            claim = due_at(slow, spans, sizes, carried, table, i);
+    let mut total = 0;
+    for i in 0..jobs {
+        if v.0 < total {
+            return false;
         }
-        claims[i] = claim.0 as u32;
-        total = Units(total.0 + claim.0);
-        i += 1;
+        let claim = if is_served(cols, clock, slow, i) {
+            dues.of(i)
+        } else {
+            0
+        };
+        claims[i] = claim;
+        total += u64::from(claim);
     }
-    total.0 <= v.0
+    total <= v.0
 }

@@ -4,10 +4,11 @@ ghost use Rattle.base.specs.Fill.{filled};
 ghost use Rattle.base.specs.Sum.{sum, on};
 ghost use Rattle.plan.specs.Edition.{most_jobs, most_deadline};
 ghost use Rattle.dispatch.specs.Order.{queue, serve};
-ghost use Rattle.dispatch.specs.Inner.Turns.{class_in, rank_in, due_in, KnownDue, Granted};
+ghost use Rattle.dispatch.specs.Inner.Turns.{class_in, rank_in, due_by, KnownDue, Granted};
 
-use crate::claims::{UNKNOWN, claim_at};
+use crate::claims::{Dues, UNKNOWN};
 use crate::turns::{gather, is_of, serve_gathered};
+use plan::columns::Columns;
 use plan::edition::Edition;
 use plan::kinds::{Slots, Units};
 
@@ -16,11 +17,7 @@ fn clear_grants(jobs: usize, grants: &mut [u32])
     requires { jobs ≤ length grants.old }
     ensures { grants.new ≡ filled (λ k. 0) jobs grants.old }
 {
-    let mut i = 0;
-    while i < jobs {
-        grants[i] = 0;
-        i += 1;
-    }
+    grants[..jobs].fill(0);
 }
 
 // Writes to the grant row what is due to each HI job in its window, and 0 for the others, in the order of their
@@ -32,30 +29,25 @@ fn grant_hi(
     jobs: usize,
     v: Units,
     clock: Slots,
-    whole: bool,
-    spans: u32,
-    grades: &[u32; Edition::MOST_JOBS],
-    releases: &[u32; Edition::MOST_JOBS],
-    goals: &[u32; Edition::MOST_JOBS],
-    deadlines: &[u32; Edition::MOST_JOBS],
-    carried: &[u32; Edition::MOST_JOBS],
-    table: &[u32],
+    cols: &Columns,
+    dues: &Dues,
     grants: &mut [u32],
 ) -> Units
-    requires { (jobs ≤ most_jobs) × (jobs ≤ length grants.old) × ((k : ℕ) → k < jobs → class_in true clock.0 grades.now releases.now deadlines.now k ≡ true → KnownDue claims.old (due_in whole spans goals.now carried.now table.now) k) }
-    ensures { Granted (λ k. on (class_in true clock.0 grades.now releases.now deadlines.now k) (due_in whole spans goals.now carried.now table.now k)) v.0 jobs grants.old grants.new result.0 × ((k : ℕ) → KnownDue claims.old (due_in whole spans goals.now carried.now table.now) k → KnownDue claims.new (due_in whole spans goals.now carried.now table.now) k) }
+    requires { (jobs ≤ most_jobs) × (jobs ≤ length grants.old) × ((k : ℕ) → k < jobs → class_in true clock.0 cols.now k ≡ true → KnownDue claims.old (due_by dues.now) k) }
+    ensures { Granted (λ k. on (class_in true clock.0 cols.now k) (due_by dues.now k)) v.0 jobs grants.old grants.new result.0 × ((k : ℕ) → KnownDue claims.old (due_by dues.now) k → KnownDue claims.new (due_by dues.now) k) }
 {
     let mut total = Units(0);
-    let mut i = 0;
-    while (i < jobs) & (total.0 <= v.0) {
-        let mut due = Units(0);
-        if is_of(true, clock, grades, releases, deadlines, i) {
-            due = claim_at(claims, whole, spans, goals, carried, table, i);
-            claims[i] = due.0 as u32;
+    for i in 0..jobs {
+        if v.0 < total.0 {
+            return total;
         }
-        grants[i] = due.0 as u32;
-        total = Units(total.0 + due.0);
-        i += 1;
+        let mut due = 0;
+        if is_of(true, clock, cols, i) {
+            due = dues.claimed(claims, i);
+            claims[i] = due;
+        }
+        grants[i] = due;
+        total = Units(total.0 + u64::from(due));
     }
     total
 }
@@ -69,33 +61,22 @@ pub(crate) fn serve_hi(
     v: Units,
     clock: Slots,
     slow: bool,
-    whole: bool,
-    spans: u32,
-    grades: &[u32; Edition::MOST_JOBS],
-    releases: &[u32; Edition::MOST_JOBS],
-    goals: &[u32; Edition::MOST_JOBS],
-    deadlines: &[u32; Edition::MOST_JOBS],
-    carried: &[u32; Edition::MOST_JOBS],
-    table: &[u32],
+    cols: &Columns,
+    dues: &Dues,
     claims: &mut [u32; Edition::MOST_JOBS],
     ranks: &mut [u32; Edition::MOST_JOBS],
     grants: &mut [u32],
 ) -> Units
-    requires { (jobs ≤ most_jobs) × (jobs ≤ length ranks.old) × (jobs ≤ length grants.old) × ((k : ℕ) → k < jobs → get_or deadlines.now k 0 ≤ most_deadline) × ((k : ℕ) → k < jobs → class_in true clock.0 grades.now releases.now deadlines.now k ≡ true → KnownDue claims.old (due_in whole spans goals.now carried.now table.now) k) }
-    ensures { (grants.new ≡ serve (due_in whole spans goals.now carried.now table.now) v.0 (queue (class_in true clock.0 grades.now releases.now deadlines.now) (rank_in grades.now deadlines.now) jobs) (filled (λ k. 0) jobs grants.old)) × (result.0 ≡ v.0 - sum (λ k. on (class_in true clock.0 grades.now releases.now deadlines.now k) (due_in whole spans goals.now carried.now table.now k)) jobs) × (length ranks.new ≡ length ranks.old) × ((k : ℕ) → KnownDue claims.old (due_in whole spans goals.now carried.now table.now) k → KnownDue claims.new (due_in whole spans goals.now carried.now table.now) k) }
+    requires { (jobs ≤ most_jobs) × (jobs ≤ length grants.old) × ((k : ℕ) → k < jobs → get_or cols.now.deadlines k 0 ≤ most_deadline) × ((k : ℕ) → k < jobs → class_in true clock.0 cols.now k ≡ true → KnownDue claims.old (due_by dues.now) k) }
+    ensures { (grants.new ≡ serve (due_by dues.now) v.0 (queue (class_in true clock.0 cols.now) (rank_in cols.now) jobs) (filled (λ k. 0) jobs grants.old)) × (result.0 ≡ v.0 - sum (λ k. on (class_in true clock.0 cols.now k) (due_by dues.now k)) jobs) × ((k : ℕ) → KnownDue claims.old (due_by dues.now) k → KnownDue claims.new (due_by dues.now) k) }
 {
     if !slow & (claims[jobs / 2] != UNKNOWN) {
-        let total = grant_hi(
-            claims, jobs, v, clock, whole, spans, grades, releases, goals, deadlines, carried,
-            table, grants,
-        );
+        let total = grant_hi(claims, jobs, v, clock, cols, dues, grants);
         if total.0 <= v.0 {
             return Units(v.0 - total.0);
         }
     }
     clear_grants(jobs, grants);
-    let count = gather(true, jobs, clock, grades, releases, deadlines, ranks);
-    serve_gathered(
-        ranks, count, v, whole, spans, goals, carried, table, claims, grants,
-    )
+    let count = gather(true, jobs, clock, cols, ranks);
+    serve_gathered(ranks, count, v, dues, claims, grants)
 }

@@ -15,6 +15,9 @@ pub mod start;
 pub mod step;
 mod turns;
 
+ghost use Rattle.std.specs.Prelude.{◌≡◌};
+ghost use Rattle.dispatch.specs.Answers.{run_at};
+
 use plan::edition::Edition;
 use plan::kinds::Slots;
 
@@ -35,4 +38,36 @@ pub struct Moment {
     pub clock: Slots,
     pub slow: bool,
     pub below: bool,
+}
+
+impl Run {
+    // The run but for its carried units and ended marks.
+    pub(crate) fn moment(&self) -> Moment
+        ensures { result ≡ record { clock = self.now.clock; slow = self.now.slow; below = self.now.below } }
+    {
+        Moment {
+            clock: self.clock,
+            slow: self.slow,
+            below: self.below,
+        }
+    }
+}
+
+impl Moment {
+    // A run, from its parts.
+    pub(crate) fn with(
+        self,
+        carried: [u32; Edition::MOST_JOBS],
+        ended: [bool; Edition::MOST_JOBS],
+    ) -> Run
+        ensures { result ≡ run_at self carried ended }
+    {
+        Run {
+            clock: self.clock,
+            slow: self.slow,
+            below: self.below,
+            carried,
+            ended,
+        }
+    }
 }

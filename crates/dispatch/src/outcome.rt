@@ -3,68 +3,39 @@ ghost use Rattle.dispatch.specs.Answers.{Ends, EndsOver};
 
 use crate::Run;
 use crate::answers::Outcome;
-use crate::soundness::{is_sound, readiness_of};
-use plan::columns::columns_of;
-use plan::edition::Edition;
-use plan::kinds::{HI, Outline, Plan, Slots, as_units};
-use plan::refusal::UNSOUND;
+use crate::soundness::readiness_of;
+use plan::columns::Columns;
+use plan::kinds::{HI, Plan};
+use plan::refusal::Reason;
 
-// The outcome of the job at a position, or 21, for a plan whose outline and columns are lent.
-pub fn outcome_over(
-    o: Outline,
-    grades: &[u32; Edition::MOST_JOBS],
-    releases: &[u32; Edition::MOST_JOBS],
-    sizes: &[u32; Edition::MOST_JOBS],
-    deadlines: &[u32; Edition::MOST_JOBS],
-    run: Run,
-    position: usize,
-) -> Outcome
-    ensures { EndsOver o grades.now releases.now sizes.now deadlines.now run position result }
+// The outcome of the job at a position, or 21, for a plan whose columns are lent.
+pub fn outcome_over(cols: &Columns, run: Run, position: usize) -> Result<Outcome, Reason>
+    ensures { EndsOver cols.now run position result }
 {
-    let clock = run.clock;
-    let carried = run.carried;
-    let ended = run.ended;
-    if !is_sound(readiness_of(o, grades, releases, sizes, deadlines, clock, &carried)) {
-        return Outcome::Refused(UNSOUND);
+    readiness_of(cols, run.clock, &run.carried)?;
+    if cols.count <= position {
+        return Err(Reason::Unsound);
     }
-    if o.count <= position {
-        return Outcome::Refused(UNSOUND);
+    if run.carried[position] == cols.sizes[position] {
+        return Ok(Outcome::Met);
     }
-    let had = as_units(carried[position]);
-    let size = as_units(sizes[position]);
-    if had.0 == size.0 {
-        return Outcome::Met;
+    if run.ended[position] {
+        return Ok(Outcome::Ended);
     }
-    if ended[position] {
-        return Outcome::Ended;
+    if (cols.grades[position] != HI as u32) & run.slow {
+        return Ok(Outcome::Discarded);
     }
-    if (grades[position] != HI as u32) & run.slow {
-        return Outcome::Discarded;
+    if cols.deadlines[position] <= run.clock.0 {
+        return Ok(Outcome::Missed);
     }
-    let deadline = Slots(deadlines[position]);
-    if deadline.0 <= clock.0 {
-        return Outcome::Missed;
-    }
-    Outcome::Open
+    Ok(Outcome::Open)
 }
 
 // The outcome of the job at a position, or 21. A size that has no room in a column is too large for rule 9.
-pub fn outcome(p: Plan, run: Run, position: usize) -> Outcome
+pub fn outcome(p: Plan, run: Run, position: usize) -> Result<Outcome, Reason>
     ensures { Ends p run position result }
 {
-    let mut grades = [0u32; Edition::MOST_JOBS];
-    let mut releases = [0u32; Edition::MOST_JOBS];
-    let mut sizes = [0u32; Edition::MOST_JOBS];
-    let mut deadlines = [0u32; Edition::MOST_JOBS];
-    if !columns_of(p, &mut grades, &mut releases, &mut sizes, &mut deadlines) {
-        return Outcome::Refused(UNSOUND);
-    }
-    let n = p.n;
-    let d = p.d;
-    let o = Outline {
-        n,
-        d,
-        count: p.count,
-    };
-    outcome_over(o, &grades, &releases, &sizes, &deadlines, run, position)
+    let mut cols = Columns::EMPTY;
+    cols.put(p)?;
+    outcome_over(&cols, run, position)
 }

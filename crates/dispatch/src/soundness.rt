@@ -5,30 +5,20 @@ ghost use Rattle.base.specs.Below.{every, least, greatest};
 ghost use Rattle.plan.specs.Edition.{most_jobs};
 ghost use Rattle.plan.specs.Rules.{grade_allowed};
 ghost use Rattle.dispatch.specs.Inner.Columns.{plan_on};
-ghost use Rattle.dispatch.specs.Inner.Readiness.{readiness, is_sound, is_over, job_sound};
+ghost use Rattle.dispatch.specs.Inner.Readiness.{readiness, job_sound};
 
+use plan::columns::Columns;
 use plan::edition::Edition;
-use plan::kinds::{HI, LO, Outline, Slots, as_units};
+use plan::kinds::{HI, LO, Slots, as_units};
+use plan::refusal::Reason;
 use plan::rules::{count_allowed, counted_within, rates_allowed, size_allowed, window_allowed};
 
-#[derive(Clone, Copy)]
+// Where the clock of a sound run stands.
+#[derive(Clone, Copy, Debug, PartialEq, Eq)]
 pub(crate) enum Readiness {
-    Unsound,
-    // The clock is at the last deadline.
+    // At the last deadline.
     Over,
     Running,
-}
-
-fn lesser(a: u32, b: u32) -> u32
-    ensures { result ≡ min a b }
-{
-    if a <= b { a } else { b }
-}
-
-fn greater(a: u32, b: u32) -> u32
-    ensures { result ≡ max a b }
-{
-    if a <= b { b } else { a }
 }
 
 // The least of the first releases; 0 without jobs.
@@ -40,10 +30,8 @@ fn first_of(releases: &[u32; Edition::MOST_JOBS], jobs: usize) -> Slots
         return Slots(0);
     }
     let mut so_far = releases[0];
-    let mut i = 1;
-    while i < jobs {
-        so_far = lesser(so_far, releases[i]);
-        i += 1;
+    for i in 1..jobs {
+        so_far = so_far.min(releases[i]);
     }
     Slots(so_far)
 }
@@ -54,10 +42,8 @@ pub(crate) fn last_of(deadlines: &[u32; Edition::MOST_JOBS], jobs: usize) -> Slo
     ensures { result.0 ≡ greatest (λ i. get_or deadlines.now i 0) jobs }
 {
     let mut so_far = 0;
-    let mut i = 0;
-    while i < jobs {
-        so_far = greater(so_far, deadlines[i]);
-        i += 1;
+    for i in 0..jobs {
+        so_far = so_far.max(deadlines[i]);
     }
     Slots(so_far)
 }
@@ -71,28 +57,16 @@ fn is_grade(grade: u32) -> bool
 
 // Rules 8 and 9 over the first jobs, none of which has more carried than its size. It looks at all of
 // them, which is faster than stopping at the first that is at fault.
-fn jobs_sound(
-    jobs: usize,
-    grades: &[u32; Edition::MOST_JOBS],
-    releases: &[u32; Edition::MOST_JOBS],
-    sizes: &[u32; Edition::MOST_JOBS],
-    deadlines: &[u32; Edition::MOST_JOBS],
-    carried: &[u32; Edition::MOST_JOBS],
-) -> bool
+fn jobs_sound(jobs: usize, cols: &Columns, carried: &[u32; Edition::MOST_JOBS]) -> bool
     requires { jobs ≤ most_jobs }
-    ensures { result ≡ every (job_sound grades.now releases.now sizes.now deadlines.now carried.now) jobs }
+    ensures { result ≡ every (job_sound cols.now carried.now) jobs }
 {
     let mut sound = true;
-    let mut i = 0;
-    while i < jobs {
-        let size = as_units(sizes[i]);
-        let had = as_units(carried[i]);
-        let release = Slots(releases[i]);
-        let deadline = Slots(deadlines[i]);
-        let bounds = window_allowed(release, deadline) & size_allowed(size);
-        let job = is_grade(grades[i]) & bounds & (had.0 <= size.0);
+    for i in 0..jobs {
+        let window = window_allowed(Slots(cols.releases[i]), Slots(cols.deadlines[i]));
+        let bounds = window & size_allowed(as_units(cols.sizes[i]));
+        let job = is_grade(cols.grades[i]) & bounds & (carried[i] <= cols.sizes[i]);
         sound = sound & job;
-        i += 1;
     }
     sound
 }
@@ -100,50 +74,26 @@ fn jobs_sound(
 // The readiness at a clock with given carried units: sound if rules 4, 5, 8 and 9 hold, the clock lies
 // from the first release to the last deadline, and no counted job has more carried than its size.
 pub(crate) fn readiness_of(
-    o: Outline,
-    grades: &[u32; Edition::MOST_JOBS],
-    releases: &[u32; Edition::MOST_JOBS],
-    sizes: &[u32; Edition::MOST_JOBS],
-    deadlines: &[u32; Edition::MOST_JOBS],
+    cols: &Columns,
     clock: Slots,
     carried: &[u32; Edition::MOST_JOBS],
-) -> Readiness
-    ensures { result ≡ readiness (plan_on o grades.now releases.now sizes.now deadlines.now) clock.0 carried.now }
+) -> Result<Readiness, Reason>
+    ensures { result ≡ readiness (plan_on cols.now) clock.0 carried.now }
 {
-    let jobs = counted_within(o.count);
-    let rules = rates_allowed(o.n, o.d)
-        & count_allowed(o.count)
-        & jobs_sound(jobs, grades, releases, sizes, deadlines, carried);
+    let jobs = counted_within(cols.count);
+    let rules = rates_allowed(cols.n, cols.d)
+        & count_allowed(cols.count)
+        & jobs_sound(jobs, cols, carried);
     if !rules {
-        return Readiness::Unsound;
+        return Err(Reason::Unsound);
     }
-    let first = first_of(releases, jobs);
-    let last = last_of(deadlines, jobs);
+    let first = first_of(&cols.releases, jobs);
+    let last = last_of(&cols.deadlines, jobs);
     if (clock.0 < first.0) | (last.0 < clock.0) {
-        return Readiness::Unsound;
+        return Err(Reason::Unsound);
     }
     if clock.0 == last.0 {
-        return Readiness::Over;
+        return Ok(Readiness::Over);
     }
-    Readiness::Running
-}
-
-pub(crate) fn is_sound(s: Readiness) -> bool
-    ensures { result ≡ is_sound s }
-{
-    match s {
-        Readiness::Unsound => false,
-        Readiness::Over => true,
-        Readiness::Running => true,
-    }
-}
-
-pub(crate) fn is_over(s: Readiness) -> bool
-    ensures { result ≡ is_over s }
-{
-    match s {
-        Readiness::Unsound => false,
-        Readiness::Over => true,
-        Readiness::Running => false,
-    }
+    Ok(Readiness::Running)
 }

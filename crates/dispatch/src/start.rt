@@ -1,35 +1,26 @@
-// The start of a run, by value: the judge's verdict and the run.
+// The start of a run, by value: the run, or the judge's fault.
 ghost use Rattle.std.specs.Prelude.{◌≡◌, false, replicate};
 ghost use Rattle.plan.specs.Edition.{most_jobs};
 ghost use Rattle.dispatch.specs.Step.{no_run};
 ghost use Rattle.dispatch.specs.Answers.{Starts};
 
 use crate::Run;
-use judge::answers::{Verdict, is_accepted};
+use judge::answers::Fault;
 use judge::judge;
 use plan::boundaries::first_release;
 use plan::edition::Edition;
 use plan::kinds::{Plan, Slots};
 
-// The result of a start; with a refusal the run is all zeros.
-#[derive(Clone, Copy)]
-pub struct Started {
-    pub verdict: Verdict,
-    pub run: Run,
-}
-
 // A run at a given clock, with nothing carried, no job ended and both marks clear.
 fn fresh(clock: Slots) -> Run
     ensures { result ≡ record { clock = clock; slow = false; below = false; carried = replicate most_jobs 0; ended = replicate most_jobs false } }
 {
-    let carried = [0u32; Edition::MOST_JOBS];
-    let ended = [false; Edition::MOST_JOBS];
     Run {
         clock,
         slow: false,
         below: false,
-        carried,
-        ended,
+        carried: [0; Edition::MOST_JOBS],
+        ended: [false; Edition::MOST_JOBS],
     }
 }
 
@@ -40,15 +31,10 @@ pub fn no_run() -> Run
     fresh(Slots(0))
 }
 
-// Judges a plan and starts its run if it is accepted; otherwise the run is all zeros.
-pub fn start(p: Plan, table: &[u32]) -> Started
+// The run of a plan at its start, if the judge accepts it.
+pub fn start(p: Plan, table: &[u32]) -> Result<Run, Fault>
     ensures { Starts p table.now result }
 {
-    let verdict = judge(p, table);
-    if !is_accepted(verdict) {
-        let run = no_run();
-        return Started { verdict, run };
-    }
-    let run = fresh(first_release(p));
-    Started { verdict, run }
+    judge(p, table)?;
+    Ok(fresh(first_release(p)))
 }

@@ -1,28 +1,15 @@
--- `dispatch::early::end_early` meets its contract: with columns of the plan the effect is that over them, and without room for a size
--- the plan breaks rule 9.
-use mathlib.Core.Path.{◌≡◌, refl, sym, ◌∙◌}
-use mathlib.Core.List.{List}
-use Prim.Native.Nat.{ℕ}
-use borrow.Author.Tests.{not-true, not-false}
-use lib.ListN.{length, replicate, length-replicate}
-use Rattle.plan.specs.Edition.{most_jobs}
-use Rattle.plan.proofs.ColumnLaws.{columns_put, sizes_too_large}
-use Rattle.dispatch.specs.Step.{end_fault, told_ended}
-use Rattle.dispatch.proofs.SlotSoundness.{too_large_unsound}
-use mathlib.Core.Path.{ap}
-use mathlib.Core.Bool.{not}
+-- `dispatch::early::end_early` meets its contract: with columns of the plan the answer is that over them, and
+-- without room for a size the plan breaks rule 9.
+use Rattle.dispatch.proofs.EndColumns.{unsound_told}
+use Rattle.dispatch.proofs.Readiness.{handed_on}
+use Rattle.dispatch.proofs.SlotSoundness.{unput_lem, put_lem}
 use Rattle.dispatch.proofs.early.end_early.Goals as goal
 
-pub returns-then-not-columns_of : goal.returns-then-not-columns_of
-unfolding end_fault told_ended
-returns-then-not-columns_of c =
-    let a = c.args in
-    rw (too_large_unsound a.p a.run (sizes_too_large a.p (sym c.columns_of.ensures.0 ∙ not-true _ (ap not c.if-not-columns_of.true)))) refl
+pub returns-in_err-put : goal.returns-in_err-put
+returns-in_err-put c =
+    let bad = unput_lem c.args.p c.put.ensures c.in_err-put.was in
+    rw (handed_on c.from_residual.result c.from_residual.ensures.1, bad.0) (unsound_told c.args.p c.args.run c.args.position (bad.1 c.args.run))
 
 pub returns : goal.returns
 returns c =
-    let a = c.args in
-    let none : List ℕ = replicate most_jobs 0 in
-    let long : length none ≡ most_jobs = length-replicate {A = ℕ} most_jobs 0 in
-    c.end_over.ensures a.p
-    (columns_put a.p none none none none c.columns_of.ensures (not-false _ (ap not c.if-not-columns_of.false)) long long long long)
+    c.end_over.ensures c.args.p (put_lem c.args.p c.put.ensures c.in_ok-put.was)

@@ -1,29 +1,25 @@
--- `dispatch::shift::shift` meets its contract: with columns of the plan the shift is that over them, and
+-- `dispatch::shift::shift` meets its contract: with columns of the plan the answer is that over them, and
 -- without room for a size the plan breaks rule 9.
-use mathlib.Core.Path.{◌≡◌, sym, ◌∙◌}
-use mathlib.Core.List.{List}
-use Prim.Native.Nat.{ℕ}
-use borrow.Author.Tests.{not-true, not-false}
-use lib.ListN.{length, replicate, length-replicate}
-use Rattle.plan.specs.Edition.{most_jobs}
-use Rattle.plan.proofs.ColumnLaws.{columns_put, sizes_too_large}
-use Rattle.dispatch.proofs.SlotSoundness.{too_large_unsound}
+use Rattle.dispatch.proofs.ShiftLimits.{refused_shift_run}
 use Rattle.dispatch.proofs.SlotsInTurn.{unsound_shift}
-use mathlib.Core.Path.{ap}
-use mathlib.Core.Bool.{not}
+use Rattle.dispatch.proofs.Readiness.{handed_on}
+use Rattle.dispatch.proofs.SlotSoundness.{unput_lem, put_lem}
 use Rattle.dispatch.proofs.shift.shift.Goals as goal
 
-pub returns-then-not-columns_of : goal.returns-then-not-columns_of
-returns-then-not-columns_of c =
+pub returns-in_err-put : goal.returns-in_err-put
+returns-in_err-put c =
     let a = c.args in
-    unsound_shift a.p a.table.now a.run a.speeds.now a.rows.now a.numbers.now
-    (too_large_unsound a.p a.run (sizes_too_large a.p (sym c.columns_of.ensures.0 ∙ not-true _ (ap not c.if-not-columns_of.true))))
+    let bad = unput_lem a.p c.put.ensures c.in_err-put.was in
+    rw (handed_on c.from_residual.result c.from_residual.ensures.1, bad.0) (unsound_shift a.p a.table.now a.run a.speeds.now a.rows.now a.numbers.now (bad.1 a.run))
+
+pub returns-in_err-next : goal.returns-in_err-next
+returns-in_err-next c =
+    let a = c.args in
+    let has = put_lem a.p c.put.ensures c.in_ok-put.was in
+    rw (handed_on c.from_residual-in_err-next.result c.from_residual-in_err-next.ensures.1)
+    (refused_shift_run a.p a.table.now a.run a.speeds.now a.rows.now a.numbers.now (rw c.moment.ensures at (c.in_err-next.ensures a.p has)))
 
 pub returns : goal.returns
 returns c =
-    let a = c.args in
-    let none : List ℕ = replicate most_jobs 0 in
-    let long : length none ≡ most_jobs = length-replicate {A = ℕ} most_jobs 0 in
-    rw c.run_at-after.ensures
-    (c.shift_over-s.ensures a.p
-    (columns_put a.p none none none none c.columns_of.ensures (not-false _ (ap not c.if-not-columns_of.false)) long long long long))
+    let has = put_lem c.args.p c.put.ensures c.in_ok-put.was in
+    rw c.with.ensures (rw c.moment.ensures at (c.in_ok-next.ensures c.args.p has))

@@ -9,7 +9,7 @@ use Rattle.base.specs.Fill.{filled}
 use Rattle.base.proofs.FillLaws.{filled_at}
 use Rattle.plan.specs.Edition.{most_jobs}
 use Rattle.plan.specs.Rules.{counted}
-use Rattle.plan.specs.declared.kinds.Outline.{Outline}
+use Rattle.plan.specs.declared.columns.Columns.{Columns}
 use Rattle.plan.specs.declared.kinds.Plan.{Plan}
 use Rattle.dispatch.specs.declared.Run.{Run}
 use Rattle.dispatch.specs.Answers.{run_at}
@@ -30,37 +30,30 @@ settled_by false s c = c
 
 pub share_out-slow-requires : goal.share_out-slow-requires
 share_out-slow-requires c =
-    let o : Outline = c.args.o in
-    let grades : List ℕ = c.args.grades.now in
-    let releases : List ℕ = c.args.releases.now in
-    let sizes : List ℕ = c.args.sizes.now in
-    let deadlines : List ℕ = c.args.deadlines.now in
+    let cols : Columns = c.args.cols.now in
     let run : Run = run_at c.args.at c.args.carried.now c.args.ended.now in
-    let q : Plan = plan_on o grades releases sizes deadlines in
+    let q : Plan = plan_on cols in
     let parts : SlotSound q run = slot_sound_lem q run c.requires.0 in (
       c.requires.1,
-      λ k l. rw (← (deadline_on o grades releases sizes deadlines k l)) (parts.rules.deadlines k l),
+      λ k l. rw (← (deadline_on cols k l)) (parts.rules.deadlines k l),
       omega (arith, c.requires.2, parts.rules.rate),
+      c.requires.3,
     )
 
 pub carry_grants-requires : goal.carry_grants-requires
 carry_grants-requires c =
-    let table : List ℕ = c.args.table.now in
+    let table : List ℕ = c.args.goals.now.table.now in
     let v : ℕ = c.args.v.0 in
     let grants : List ℕ = c.args.grants.now in
     let run : Run = run_at c.args.at c.args.carried.now c.args.ended.now in
-    let o : Outline = c.args.o in
-    let grades : List ℕ = c.args.grades.now in
-    let releases : List ℕ = c.args.releases.now in
-    let sizes : List ℕ = c.args.sizes.now in
-    let deadlines : List ℕ = c.args.deadlines.now in
-    let q : Plan = plan_on o grades releases sizes deadlines in
+    let cols : Columns = c.args.cols.now in
+    let q : Plan = plan_on cols in
     let parts : SlotSound q run = slot_sound_lem q run c.requires.0 in
     let settled : List ℕ = c.settle.new.settled in
     let settled_is : (k : ℕ) → k < counted q → get_or settled k 0 ≡ settled_of q run k
     = λ k l. ap (λ r. get_or r k 0) c.settle.ensures
-    ∙ filled_at (settled_in run.ended sizes run.carried) most_jobs (replicate most_jobs 0) k (rw (length-replicate {A = ℕ} most_jobs 0) (omega arith)) (omega arith)
-    ∙ ap (λ s. settled_by (ended_of run k) s (carried_of run k)) (sym (size_on o grades releases sizes deadlines k l)) in
+    ∙ filled_at (settled_in run.ended cols.sizes run.carried) most_jobs (replicate most_jobs 0) k (rw (length-replicate {A = ℕ} most_jobs 0) (omega arith)) (omega arith)
+    ∙ ap (λ s. settled_by (ended_of run k) s (carried_of run k)) (sym (size_on cols k l)) in
     let left : List ℕ = c.share_out-slow.new.grants in
     let grants-are : left ≡ granted q table run v grants
     = c.share_out-slow.ensures.1
@@ -74,22 +67,18 @@ carry_grants-requires c =
 
 pub returns : goal.returns
 returns c =
-    let table : List ℕ = c.args.table.now in
+    let table : List ℕ = c.args.goals.now.table.now in
     let v : ℕ = c.args.v.0 in
     let grants : List ℕ = c.args.grants.now in
     let run : Run = run_at c.args.at c.args.carried.now c.args.ended.now in
-    let o : Outline = c.args.o in
-    let grades : List ℕ = c.args.grades.now in
-    let releases : List ℕ = c.args.releases.now in
-    let sizes : List ℕ = c.args.sizes.now in
-    let deadlines : List ℕ = c.args.deadlines.now in
-    let q : Plan = plan_on o grades releases sizes deadlines in
+    let cols : Columns = c.args.cols.now in
+    let q : Plan = plan_on cols in
     let left : List ℕ = c.share_out-slow.new.grants in
     let settled : List ℕ = c.settle.new.settled in
     let settled_is : (k : ℕ) → k < counted q → get_or settled k 0 ≡ settled_of q run k
     = λ k l. ap (λ r. get_or r k 0) c.settle.ensures
-    ∙ filled_at (settled_in run.ended sizes run.carried) most_jobs (replicate most_jobs 0) k (rw (length-replicate {A = ℕ} most_jobs 0) (omega arith)) (omega arith)
-    ∙ ap (λ s. settled_by (ended_of run k) s (carried_of run k)) (sym (size_on o grades releases sizes deadlines k l)) in
+    ∙ filled_at (settled_in run.ended cols.sizes run.carried) most_jobs (replicate most_jobs 0) k (rw (length-replicate {A = ℕ} most_jobs 0) (omega arith)) (omega arith)
+    ∙ ap (λ s. settled_by (ended_of run k) s (carried_of run k)) (sym (size_on cols k l)) in
     let grants-are : left ≡ granted q table run v grants
     = c.share_out-slow.ensures.1
     ∙ settled_granted q table run settled v settled_is grants c.requires.1 in
@@ -102,8 +91,8 @@ returns c =
       grants-are,
     )
 
-pub overflow_add-clock : goal.overflow_add-clock
-overflow_add-clock c =
+pub overflow_add-result : goal.overflow_add-result
+overflow_add-result c =
     let a = c.args in
-    let parts = slot_sound_lem (plan_on a.o a.grades.now a.releases.now a.sizes.now a.deadlines.now) (run_at c.args.at c.args.carried.now c.args.ended.now) c.requires.0 in
+    let parts = slot_sound_lem (plan_on a.cols.now) (run_at c.args.at c.args.carried.now c.args.ended.now) c.requires.0 in
     omega (arith, parts.not_over, parts.rules.last)

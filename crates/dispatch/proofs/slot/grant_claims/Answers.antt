@@ -1,28 +1,14 @@
--- `dispatch::slot::grant_claims` meets its contract: after i iterations the first i claims are written.
-use mathlib.Core.Path.{◌≡◌, refl, sym, ◌∙◌, ap}
+-- `dispatch::slot::grant_claims` meets its contract: the claims stand in front of what the row holds after them.
+use mathlib.Core.Path.{◌∙◌, ap}
 use native.Mathlib.Omega.{arith}
-use lib.ListN.{length, get_or}
-use Rattle.base.proofs.FillLaws.{filled_start, filled_next, filled_length}
+use lib.ListN.{get_or, length-take}
+use lib.Seq.{get_or-take}
+use Rattle.dispatch.proofs.RowShares.{front_filled}
 use Rattle.dispatch.proofs.slot.grant_claims.Goals as goal
-
-pub loop-i-init : goal.loop-i-init
-loop-i-init c =
-    (omega arith, sym (filled_start _ _))
-
-pub bounds-grants-i : goal.bounds-grants-i
-bounds-grants-i c =
-    let a = c.args in
-    omega (arith, ap length c.loop-i.invariant.1, filled_length (λ k. get_or a.claims.now k 0) c.loop-i.i a.grants.now)
-
-pub loop-i-preserved : goal.loop-i-preserved
-loop-i-preserved c =
-    (omega arith, filled_next _ c.loop-i.i _ c.loop-i.invariant.1 refl)
-
-pub shape_of-grants : goal.shape_of-grants
-shape_of-grants c =
-    ap length c.loop-i.invariant.1 ∙ filled_length _ _ _
 
 pub returns : goal.returns
 returns c =
-    let whole : c.loop-i.i ≡ c.args.jobs = omega arith in
-    rw whole at c.loop-i.invariant.1
+    let a = c.args in
+    let copy = c.copy_from_slice.ensures.after in
+    front_filled (λ k. get_or a.claims.now k 0) a.jobs c.copy_from_slice.new.self a.grants.now (rw (copy, length-take) (omega arith)) c.requires.1
+    (λ k h. ap (λ l. get_or l k 0) copy ∙ get_or-take a.jobs a.claims.now k 0 h)

@@ -11,15 +11,12 @@ returns-then-jobs-eq0 c =
     sym (ap (least _) c.if-jobs-eq0.true ∙ least_start _)
 
 pub loop-i-init : goal.loop-i-init
-loop-i-init c =
-    (omega arith, omega arith, sym (least_one _))
+loop-i-init c = sym (least_one _)
 
 pub loop-i-preserved : goal.loop-i-preserved
-loop-i-preserved c =
-    let l = c.loop-i in
-    (omega arith, omega arith, c.lesser-so_far.ensures ∙ least_next _ l.i l.invariant.0 l.invariant.2)
+loop-i-preserved c = c.min-so_far.ensures ∙ least_next _ c.loop-i.i (omega arith) c.loop-i.invariant
 
 pub returns : goal.returns
 returns c =
     let whole : c.loop-i.i ≡ c.args.jobs = omega arith in
-    c.loop-i.invariant.2 ∙ ap (least _) whole
+    c.loop-i.invariant ∙ ap (least _) whole

@@ -1,4 +1,4 @@
--- `dispatch::soundness::jobs_sound` meets its contract. Loop invariant:
+-- `dispatch::soundness::jobs_sound` meets its contract:
 -- `sound` is the test over the first i jobs.
 use mathlib.Core.Path.{◌≡◌, refl, sym, ◌∙◌, ap}
 use native.Mathlib.Omega.{arith}
@@ -7,15 +7,13 @@ use Rattle.base.proofs.Below.{every_start, every_next}
 use Rattle.dispatch.proofs.soundness.jobs_sound.Goals as goal
 
 pub loop-i-init : goal.loop-i-init
-loop-i-init c =
-    (omega arith, sym (every_start _))
+loop-i-init c = sym (every_start _)
 
 pub loop-i-preserved : goal.loop-i-preserved
 loop-i-preserved c =
-    let l = c.loop-i in
-    (omega arith, every_next _ l.i l.invariant.1 (rw (c.is_grade.ensures, c.size_allowed.ensures, c.window_allowed.ensures, c.as_units-had.ensures, c.as_units-size.ensures) refl))
+    every_next _ c.loop-i.i c.loop-i.invariant (rw (c.is_grade.ensures, c.size_allowed.ensures, c.window_allowed-window.ensures, c.as_units.ensures) refl)
 
 pub returns : goal.returns
 returns c =
     let whole : c.loop-i.i ≡ c.args.jobs = omega arith in
-    c.loop-i.invariant.1 ∙ ap (every _) whole
+    c.loop-i.invariant ∙ ap (every _) whole

@@ -1,104 +1,80 @@
--- `dispatch::step::slot_over` meets its contract: for the plan made from the columns, by readiness,
--- shares and carried units; and so for every plan whose columns they are.
-use mathlib.Core.Path.{◌≡◌, sym, ◌∙◌, ap, ap₂}
-use mathlib.Core.Bool.{true, false, ◌||◌}
+-- `dispatch::step::slot_over` meets its contract: the tests are in the order of the refusals, and what they show of the plan made
+-- from the columns holds of every plan with these columns.
+use mathlib.Core.Path.{◌≡◌, refl, sym, ◌∙◌}
+use mathlib.Core.Bool.{Bool, ◌||◌}
 use mathlib.Core.List.{List}
-use Prim.Native.Nat.{ℕ, ◌≤◌}
-use borrow.Author.Tests.{not-true, not-false, ltb-false}
-use lib.Dec.{ltb, eqb}
+use Prim.Native.Nat.{ℕ}
+use borrow.Author.Tests.{ltb-false}
+use lib.Dec.{ltb}
 use lib.ListN.{length}
 use Rattle.base.proofs.Logic.{neither}
 use Rattle.plan.specs.Edition.{places}
-use Rattle.plan.specs.Rules.{counted}
-use Rattle.plan.specs.Boundaries.{last_deadline}
-use Rattle.plan.specs.Columns.{Columns}
-use Rattle.plan.specs.Report.{is_none}
-use Rattle.plan.specs.declared.kinds.Outline.{Outline}
-use Rattle.plan.specs.declared.kinds.Plan.{Plan}
-use Rattle.plan.proofs.Reports.{none_empty}
-use Rattle.dispatch.specs.declared.Run.{Run}
-use Rattle.dispatch.specs.Answers.{answer_view, run_at}
-use Rattle.dispatch.specs.Step.{sound_at, slot_sound, slot_fault, stepped}
+use Rattle.dispatch.specs.Answers.{run_at}
+use Rattle.dispatch.specs.Step.{slot_sound}
 use Rattle.dispatch.specs.Inner.Columns.{plan_on}
-use Rattle.dispatch.specs.Inner.Readiness.{readiness, fault_by}
-use Rattle.dispatch.proofs.Alike.{alike_slot}
-use Rattle.dispatch.proofs.ColumnPlan.{columns_alike}
-use Rattle.dispatch.proofs.Readiness.{readiness_fault, readiness_clear}
-use Rattle.dispatch.proofs.SlotOver.{slot_refused, slot_done}
-use mathlib.Core.Bool.{not}
+use Rattle.dispatch.proofs.Readiness.{ready_lem, unready_lem, over_lem, handed_on}
+use Rattle.dispatch.proofs.Sharing.{sizes_are_goals}
+use Rattle.dispatch.proofs.SoundColumns.{release_on, deadline_on}
+use Rattle.dispatch.proofs.SlotColumns as columns
 use Rattle.dispatch.proofs.step.slot_over.Goals as goal
 
-pub returns-then-not-is_done : goal.returns-then-not-is_done
-returns-then-not-is_done c =
-    let table : List ℕ = c.args.table.now in
-    let v : ℕ = c.args.v in
-    let grants : List ℕ = c.args.grants.now in
-    let run : Run = run_at c.args.at c.args.carried.now c.args.ended.now in
-    let o : Outline = c.args.o in
-    let grades : List ℕ = c.args.grades.now in
-    let releases : List ℕ = c.args.releases.now in
-    let sizes : List ℕ = c.args.sizes.now in
-    let deadlines : List ℕ = c.args.deadlines.now in
-    let q : Plan = plan_on o grades releases sizes deadlines in
-    let by-readiness : answer_view c.answer_to-answer.result ≡ fault_by (readiness q run.clock.0 run.carried) (ltb (length table) places || ltb (length grants) (counted q)) (ltb o.n.0 v)
-    = c.answer_to-answer.ensures
-    ∙ ap₂ (λ s n. fault_by s (ltb (length table) places || ltb (length grants) n) (ltb o.n.0 v)) c.readiness_of-readiness.ensures c.counted_within-jobs.ensures in
-    let told : answer_view c.answer_to-answer.result ≡ slot_fault q table run v grants
-    = by-readiness ∙ readiness_fault q table run v grants in
-    let carried-over : (p : Plan) → Columns p o grades releases sizes deadlines → stepped p table run v grants ≡ stepped q table run v grants
-    = λ p cols. alike_slot p table q table (columns_alike grades releases sizes deadlines o p table cols) run v grants in
-    λ p cols. slot_refused q table run v grants told
-    (sym c.is_done.ensures ∙ not-true _ (ap not c.if-not-is_done.true))
-    ∙ sym (carried-over p cols)
+-- The test of the buffers, for an equal number of jobs.
+same_count : (table grants : List ℕ) {m n : ℕ} {short : Bool} → m ≡ n → (ltb (length table) places || ltb (length grants) m) ≡ short
+    → (ltb (length table) places || ltb (length grants) n) ≡ short
+same_count table grants e short = rw (← e) short
 
-pub carry_slot-next-requires : goal.carry_slot-next-requires
+pub returns-in_err-readiness : goal.returns-in_err-readiness
+returns-in_err-readiness c = λ p has.
+    let a = c.args in
+    let run = run_at a.at a.carried.now a.ended.now in
+    let bad = unready_lem (plan_on a.cols.now) run.clock.0 run.carried c.in_err-readiness.was c.readiness_of.ensures in
+    rw (handed_on c.from_residual.result c.from_residual.ensures.1, bad.1) (columns.unsound_steps a.cols.now a.table.now run a.v a.grants.now bad.0 p has)
+
+pub returns-then-table-grants : goal.returns-then-table-grants
+returns-then-table-grants c =
+    let a = c.args in
+    let run = run_at a.at a.carried.now a.ended.now in
+    let s = ready_lem (plan_on a.cols.now) run.clock.0 run.carried c.in_ok-readiness.was c.readiness_of.ensures in
+    columns.short_steps a.cols.now a.table.now run a.v a.grants.now s.0
+    (same_count a.table.now a.grants.now c.counted_within-jobs.ensures c.if-table-grants.true)
+
+pub returns-then-eq : goal.returns-then-eq
+returns-then-eq c =
+    let a = c.args in
+    let run = run_at a.at a.carried.now a.ended.now in
+    let s = ready_lem (plan_on a.cols.now) run.clock.0 run.carried c.in_ok-readiness.was c.readiness_of.ensures in
+    columns.late_steps a.cols.now a.table.now run a.v a.grants.now s.0
+    (same_count a.table.now a.grants.now c.counted_within-jobs.ensures c.if-table-grants.false)
+    (sym (over_lem _ s.1) ∙ sym c.eq.ensures ∙ c.if-eq.true)
+
+pub returns-then-cols-v : goal.returns-then-cols-v
+returns-then-cols-v c =
+    let a = c.args in
+    let run = run_at a.at a.carried.now a.ended.now in
+    let s = ready_lem (plan_on a.cols.now) run.clock.0 run.carried c.in_ok-readiness.was c.readiness_of.ensures in
+    columns.fast_steps a.cols.now a.table.now run a.v a.grants.now s.0
+    (same_count a.table.now a.grants.now c.counted_within-jobs.ensures c.if-table-grants.false)
+    (sym (over_lem _ s.1) ∙ sym c.eq.ensures ∙ c.if-eq.false) c.if-cols-v.true
+
+pub carry_slot-requires : goal.carry_slot-requires
 unfolding slot_sound
-carry_slot-next-requires c =
-    let o : Outline = c.args.o in
-    let table : List ℕ = c.args.table.now in
-    let v : ℕ = c.args.v in
-    let grants : List ℕ = c.args.grants.now in
-    let run : Run = run_at c.args.at c.args.carried.now c.args.ended.now in
-    let grades : List ℕ = c.args.grades.now in
-    let releases : List ℕ = c.args.releases.now in
-    let sizes : List ℕ = c.args.sizes.now in
-    let deadlines : List ℕ = c.args.deadlines.now in
-    let q : Plan = plan_on o grades releases sizes deadlines in
-    let by-readiness : answer_view c.answer_to-answer.result ≡ fault_by (readiness q run.clock.0 run.carried) (ltb (length table) places || ltb (length grants) (counted q)) (ltb o.n.0 v)
-    = c.answer_to-answer.ensures
-    ∙ ap₂ (λ s n. fault_by s (ltb (length table) places || ltb (length grants) n) (ltb o.n.0 v)) c.readiness_of-readiness.ensures c.counted_within-jobs.ensures in
-    let none : is_none (answer_view c.answer_to-answer.result) ≡ true
-    = sym c.is_done.ensures ∙ not-false _ (ap not c.if-not-is_done.false) in
-    let going : (sound_at q run.clock.0 run.carried ≡ true) × ((ltb (length table) places || ltb (length grants) (counted q)) ≡ false) × (eqb run.clock.0 (last_deadline q) ≡ false) × (ltb o.n.0 v ≡ false)
-    = readiness_clear q run.clock.0 run.carried (ltb (length table) places || ltb (length grants) (counted q)) (ltb o.n.0 v)
-    (ap is_none (sym by-readiness) ∙ none) in
-    let is-sound : slot_sound q run ≡ true = going.0 in
-    let room : counted q ≤ length grants
-    = ltb-false (length grants) (counted q) (neither (ltb (length table) places) _ going.1).1 in
-    let normal : v ≤ o.n.0 = ltb-false o.n.0 v going.3 in
-    (is-sound, room, normal)
+carry_slot-requires c =
+    let a = c.args in
+    let run = run_at a.at a.carried.now a.ended.now in
+    let s = ready_lem (plan_on a.cols.now) run.clock.0 run.carried c.in_ok-readiness.was c.readiness_of.ensures in
+    let room = same_count a.table.now a.grants.now c.counted_within-jobs.ensures c.if-table-grants.false in (
+      s.0,
+      ltb-false _ _ (neither _ _ room).1,
+      c.if-cols-v.false,
+      sizes_are_goals a.cols.now a.table.now a.at.clock a.at.slow c.spans_of.result
+          (λ e. c.spans_of.ensures.1 (plan_on a.cols.now) e refl (λ i h. sym (release_on a.cols.now i h)) (λ i h. sym (deadline_on a.cols.now i h))),
+    )
 
 pub returns : goal.returns
 returns c =
-    let table : List ℕ = c.args.table.now in
-    let v : ℕ = c.args.v in
-    let grants : List ℕ = c.args.grants.now in
-    let run : Run = run_at c.args.at c.args.carried.now c.args.ended.now in
-    let o : Outline = c.args.o in
-    let grades : List ℕ = c.args.grades.now in
-    let releases : List ℕ = c.args.releases.now in
-    let sizes : List ℕ = c.args.sizes.now in
-    let deadlines : List ℕ = c.args.deadlines.now in
-    let q : Plan = plan_on o grades releases sizes deadlines in
-    let by-readiness : answer_view c.answer_to-answer.result ≡ fault_by (readiness q run.clock.0 run.carried) (ltb (length table) places || ltb (length grants) (counted q)) (ltb o.n.0 v)
-    = c.answer_to-answer.ensures
-    ∙ ap₂ (λ s n. fault_by s (ltb (length table) places || ltb (length grants) n) (ltb o.n.0 v)) c.readiness_of-readiness.ensures c.counted_within-jobs.ensures in
-    let told : answer_view c.answer_to-answer.result ≡ slot_fault q table run v grants
-    = by-readiness ∙ readiness_fault q table run v grants in
-    let carried-over : (p : Plan) → Columns p o grades releases sizes deadlines → stepped p table run v grants ≡ stepped q table run v grants
-    = λ p cols. alike_slot p table q table (columns_alike grades releases sizes deadlines o p table cols) run v grants in
-    let none : is_none (answer_view c.answer_to-answer.result) ≡ true
-    = sym c.is_done.ensures ∙ not-false _ (ap not c.if-not-is_done.false) in
-    λ p cols. slot_done q table run v grants told (none_empty _ none) c.carry_slot-next.ensures.0
-    c.carry_slot-next.ensures.1
-    ∙ sym (carried-over p cols)
+    let a = c.args in
+    let run = run_at a.at a.carried.now a.ended.now in
+    let s = ready_lem (plan_on a.cols.now) run.clock.0 run.carried c.in_ok-readiness.was c.readiness_of.ensures in
+    columns.done_steps a.cols.now a.table.now run a.v a.grants.now s.0
+    (same_count a.table.now a.grants.now c.counted_within-jobs.ensures c.if-table-grants.false)
+    (sym (over_lem _ s.1) ∙ sym c.eq.ensures ∙ c.if-eq.false) c.if-cols-v.false c.carry_slot.ensures.0 c.carry_slot.ensures.1
