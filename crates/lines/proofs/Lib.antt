@@ -1,3 +1,2 @@
-pub mod Printing
-pub mod Grants
 pub mod Injective
+pub mod Lines

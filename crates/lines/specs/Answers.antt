@@ -1,15 +1,14 @@
 -- The effect of a line's call: its answer and the lent buffer.
-use Rattle.std.specs.Prelude.{◌≡◌, cond, List, [], ◌∷◌, ◌++◌, ℕ, ltb, length, drop}
+use Rattle.std.specs.Prelude.{◌≡◌, Result, Ok, Err, cond, List, [], ◌∷◌, ◌++◌, ℕ, ltb, length, drop}
 use Rattle.plan.specs.Kinds.{Amount, Bytes, Number}
-use Rattle.plan.specs.Refusal.{buffer_too_short}
+use Rattle.plan.specs.Refusal.{number_of, buffer_too_short}
+use Rattle.plan.specs.declared.refusal.Reason.{Reason}
 use Rattle.plan.specs.Report.{Report}
 use Rattle.plan.specs.declared.kinds.Name.{Name}
 use Rattle.dispatch.specs.declared.answers.Outcome.{Outcome}
 use Rattle.dispatch.specs.Answers.{outcome_view}
 use Rattle.dispatch.specs.Step.{Ending, ending_report}
 use Rattle.lines.specs.Lines.{outcome_line, ending_word}
-use Rattle.lines.specs.declared.Printed.{Printed}
-use Rattle.lines.specs.declared.Printed.TheVariants.{Length, Refused}
 
 -- An answer: the length of the line written, or a refusal number.
 pub data Answer : Type 0 where
@@ -17,14 +16,14 @@ pub data Answer : Type 0 where
   withheld : ℕ → Answer
 
 -- The view of a result: an answer.
-abbrev pub printed_view : Printed → Answer
-printed_view (Length n) = wrote n
-printed_view (Refused number) = withheld number
+abbrev pub printed_view : Result ℕ Reason → Answer
+printed_view (Ok n) = wrote n
+printed_view (Err reason) = withheld (number_of reason)
 
 -- The length of a line that was printed; 0 if it was refused.
-abbrev pub length_of : Printed → ℕ
-length_of (Length n) = n
-length_of (Refused number) = 0
+abbrev pub length_of : Result ℕ Reason → ℕ
+length_of (Ok n) = n
+length_of (Err reason) = 0
 
 -- An answer, with the buffer that the call leaves.
 pub record PrintEffect : Type 0 where
@@ -52,10 +51,10 @@ abbrev pub outcome_printed : (x : ℕ) (ended : Ending) (carried : Amount) (out 
 outcome_printed x ended carried out = printed_unless (ending_report ended) (outcome_line x (ending_word ended) carried) out
 
 -- The contract of a line's call: its answer and the buffer at exit are those of printing the line.
-abbrev pub Prints : (line out : Bytes) (r : Printed) (left : List ℕ) → Type 0
+abbrev pub Prints : (line out : Bytes) (r : Result ℕ Reason) (left : List ℕ) → Type 0
 Prints line out r left = record { answer = printed_view r; out = left } ≡ printed line out
 
 -- The contract of `outcome_line`: the same for a job's line, or the number of a refused outcome.
-abbrev pub PrintsOutcome : (name : Name) (outcome : Outcome) (carried : Amount) (out : Bytes) (r : Printed) (left : List ℕ) → Type 0
+abbrev pub PrintsOutcome : (name : Name) (outcome : Result Outcome Reason) (carried : Amount) (out : Bytes) (r : Result ℕ Reason) (left : List ℕ) → Type 0
 PrintsOutcome name outcome carried out r left =
     record { answer = printed_view r; out = left } ≡ outcome_printed name.0 (outcome_view outcome) carried out

@@ -5,18 +5,19 @@
 
 mod pieces;
 
-ghost use Rattle.std.specs.Prelude.{◌≤◌, length};
+ghost use Rattle.std.specs.Prelude.{◌≡◌, ◌≤◌, length};
 ghost use Rattle.dispatch.specs.Answers.{outcome_view};
 ghost use Rattle.text.specs.Text.{most_digits};
 ghost use Rattle.lines.specs.Answers.{Prints, PrintsOutcome};
 ghost use Rattle.lines.specs.Lines.{slot_header, outcome_header, stray_line, refused_line, slot_line, refused_slot_line, outcome_line, ending_word, longest_line};
 
-use crate::pieces::{add, add_grants, add_name, add_number, add_times, mode_of};
+use crate::pieces::{mode_of, push_grants, push_times};
 use dispatch::answers::Outcome;
 use plan::edition::Edition;
 use plan::kinds::{Name, Plan, Slots};
-use plan::refusal::BUFFER_TOO_SHORT;
-use text::{MOST_DIGITS, append};
+use plan::refusal::Reason;
+use text::MOST_DIGITS;
+use text::line::Line;
 
 // The greatest length of a line: two numbers with a space each, the mode,
 // a grant for every job, and the line feed.
@@ -25,55 +26,49 @@ pub const LONGEST_LINE: usize = 2 * (MOST_DIGITS + 1)
     + Edition::MOST_JOBS * (1 + Edition::NAME_BYTES + 1 + MOST_DIGITS)
     + 1;
 
-// The answer of a line's call: the line's length, or a refusal.
-#[derive(Clone, Copy)]
-pub enum Printed {
-    Length(usize),
-    Refused(u8),
-}
-
 // Copies a line into a buffer if all of it fits.
-fn print(line: &[u8], out: &mut [u8]) -> Printed
+#[tactic(auto, unfolding(crate::specs::Answers::printed))]
+fn print(line: &[u8], out: &mut [u8]) -> Result<usize, Reason>
     ensures { Prints line.now out.old result out.new }
 {
     if out.len() < line.len() {
-        return Printed::Refused(BUFFER_TOO_SHORT);
+        return Err(Reason::BufferTooShort);
     }
-    append::add(out, 0, line);
-    Printed::Length(line.len())
+    out[..line.len()].copy_from_slice(line);
+    Ok(line.len())
 }
 
 // The header of the slots.
-pub fn slot_header(out: &mut [u8]) -> Printed
+pub fn slot_header(out: &mut [u8]) -> Result<usize, Reason>
     ensures { Prints slot_header out.old result out.new }
 {
     print(b"slot speed mode grants\n", out)
 }
 
 // The header of the outcomes.
-pub fn outcome_header(out: &mut [u8]) -> Printed
+pub fn outcome_header(out: &mut [u8]) -> Result<usize, Reason>
     ensures { Prints outcome_header out.old result out.new }
 {
     print(b"job outcome carried\n", out)
 }
 
 // The line for an odd last byte.
-pub fn stray_line(out: &mut [u8]) -> Printed
+pub fn stray_line(out: &mut [u8]) -> Result<usize, Reason>
     ensures { Prints stray_line out.old result out.new }
 {
     print(b"stray byte\n", out)
 }
 
 // The line of a refused plan.
-pub fn refused_line(number: u8, out: &mut [u8]) -> Printed
+pub fn refused_line(number: u8, out: &mut [u8]) -> Result<usize, Reason>
     ensures prints { Prints (refused_line number) out.old result out.new }
     ensures fits { length (refused_line number) ≤ longest_line }
 {
-    let mut line = [0u8; LONGEST_LINE];
-    let mut at = add(&mut line, 0, b"refused ");
-    at = add_number(&mut line, at, number as u32);
-    at = add(&mut line, at, b"\n");
-    print(&line[..at], out)
+    let mut line = Line::<LONGEST_LINE>::new();
+    line.push(b"refused ");
+    line.push_number(u32::from(number));
+    line.push(b"\n");
+    print(line.as_slice(), out)
 }
 
 // The line of a slot: the clock before it, the speed, the slow mark after it, and the grants.
@@ -84,59 +79,66 @@ pub fn slot_line(
     p: Plan,
     grants: &[u32],
     out: &mut [u8],
-) -> Printed
+) -> Result<usize, Reason>
     ensures prints { Prints (slot_line clock.0 speed slow p grants.now) out.old result out.new }
     ensures fits { length (slot_line clock.0 speed slow p grants.now) ≤ longest_line }
 {
-    let mut line = [0u8; LONGEST_LINE];
-    let mut at = add_times(&mut line, clock, speed);
-    let mode = mode_of(slow);
-    at = add(&mut line, at, &mode);
-    at = add_grants(&mut line, at, p, grants);
-    at = add(&mut line, at, b"\n");
-    print(&line[..at], out)
+    let mut line = Line::<LONGEST_LINE>::new();
+    push_times(&mut line, clock, speed);
+    line.push(mode_of(slow));
+    push_grants(&mut line, p, grants);
+    line.push(b"\n");
+    print(line.as_slice(), out)
 }
 
 // The line of a refused slot.
-pub fn refused_slot_line(clock: Slots, speed: u16, number: u8, out: &mut [u8]) -> Printed
+pub fn refused_slot_line(
+    clock: Slots,
+    speed: u16,
+    number: u8,
+    out: &mut [u8],
+) -> Result<usize, Reason>
     ensures prints { Prints (refused_slot_line clock.0 speed number) out.old result out.new }
     ensures fits { length (refused_slot_line clock.0 speed number) ≤ longest_line }
 {
-    let mut line = [0u8; LONGEST_LINE];
-    let mut at = add_times(&mut line, clock, speed);
-    at = add(&mut line, at, b"R ");
-    at = add_number(&mut line, at, number as u32);
-    at = add(&mut line, at, b"\n");
-    print(&line[..at], out)
+    let mut line = Line::<LONGEST_LINE>::new();
+    push_times(&mut line, clock, speed);
+    line.push(b"R ");
+    line.push_number(u32::from(number));
+    line.push(b"\n");
+    print(line.as_slice(), out)
 }
 
-// The line of a job with a word for its outcome. No such word is longer than a 32-bit number.
-fn word_line(name: Name, word: &[u8], carried: u32, out: &mut [u8]) -> Printed
-    requires { length word.now ≤ most_digits }
-    ensures prints { Prints (outcome_line name.0 word.now carried) out.old result out.new }
-    ensures fits { length (outcome_line name.0 word.now carried) ≤ longest_line }
+// The word of an outcome.
+fn word_of(outcome: Outcome) -> &'static [u8]
+    ensures { result.now ≡ ending_word (outcome_view (Ok outcome)) }
 {
-    let mut line = [0u8; LONGEST_LINE];
-    let mut at = add_name(&mut line, 0, name);
-    at = add(&mut line, at, b" ");
-    at = add(&mut line, at, word);
-    at = add(&mut line, at, b" ");
-    at = add_number(&mut line, at, carried);
-    at = add(&mut line, at, b"\n");
-    print(&line[..at], out)
+    match outcome {
+        Outcome::Met => b"met",
+        Outcome::Ended => b"ended",
+        Outcome::Discarded => b"discarded",
+        Outcome::Missed => b"missed",
+        Outcome::Open => b"open",
+    }
 }
 
-// The line of a job. A refused outcome has no line: its number is the answer.
-pub fn outcome_line(name: Name, outcome: Outcome, carried: u32, out: &mut [u8]) -> Printed
+// The line of a job. A refused outcome has no line: its reason is the answer.
+pub fn outcome_line(
+    name: Name,
+    outcome: Result<Outcome, Reason>,
+    carried: u32,
+    out: &mut [u8],
+) -> Result<usize, Reason>
     ensures prints { PrintsOutcome name outcome carried out.old result out.new }
     ensures fits { length (outcome_line name.0 (ending_word (outcome_view outcome)) carried) ≤ longest_line }
 {
-    match outcome {
-        Outcome::Met => word_line(name, b"met", carried, out),
-        Outcome::Ended => word_line(name, b"ended", carried, out),
-        Outcome::Discarded => word_line(name, b"discarded", carried, out),
-        Outcome::Missed => word_line(name, b"missed", carried, out),
-        Outcome::Open => word_line(name, b"open", carried, out),
-        Outcome::Refused(number) => Printed::Refused(number),
-    }
+    let word = word_of(outcome?);
+    let mut line = Line::<LONGEST_LINE>::new();
+    line.push_name(name);
+    line.push(b" ");
+    line.push(word);
+    line.push(b" ");
+    line.push_number(carried);
+    line.push(b"\n");
+    print(line.as_slice(), out)
 }

@@ -1,5 +1,3 @@
-pub mod OutcomeLines
-pub mod SlotTurn
 pub mod Telling
 pub mod TurnsOutput
 pub mod FileExtent

@@ -9,8 +9,8 @@ use lib.Seq.{take_at}
 use Rattle.plan.specs.Kinds.{Bytes}
 use Rattle.lines.specs.Answers.{PrintEffect, wrote, printed_view, length_of, printed, Prints}
 use Rattle.lines.specs.Lines.{longest_line}
-use Rattle.lines.specs.declared.Printed.{Printed}
-use Rattle.lines.specs.declared.Printed.TheVariants.{Length, Refused}
+use Rattle.std.specs.Prelude.{Result, Ok, Err}
+use Rattle.plan.specs.declared.refusal.Reason.{Reason}
 use Rattle.program.specs.declared.Progress.{Progress}
 use Rattle.program.specs.declared.Turn.{Turn}
 use Rattle.program.specs.Turns.{Turned, Takes, Tells}
@@ -21,14 +21,14 @@ printed_fits : (text out : Bytes) → length text ≤ length out
 unfolding printed
 printed_fits text out h = rw (le-ltb (length out) (length text) h) refl
 
-answered : (r : Printed) (n : ℕ) → printed_view r ≡ wrote n → length_of r ≡ n
-answered (Length m) n e = cc
-answered (Refused number) n e = let z : ◌≡◌ {A = ℕ} 0 1 = cc in absurd (omega arith)
+answered : (r : Result ℕ Reason) (n : ℕ) → printed_view r ≡ wrote n → length_of r ≡ n
+answered (Ok m) n e = cc
+answered (Err reason) n e = let z : ◌≡◌ {A = ℕ} 0 1 = cc in absurd (omega arith)
 
-pub answers_length : (text out : Bytes) (r : Printed) (left : List ℕ) → Prints text out r left → length text ≤ length out → length_of r ≡ length text
+pub answers_length : (text out : Bytes) (r : Result ℕ Reason) (left : List ℕ) → Prints text out r left → length text ≤ length out → length_of r ≡ length text
 answers_length text out r left p h = answered r (length text) (ap (λ (o : PrintEffect). o.answer) (p ∙ printed_fits text out h))
 
-pub line_stands : (text out : Bytes) (r : Printed) (left : List ℕ) → Prints text out r left → length text ≤ length out → take (length text) left ≡ text
+pub line_stands : (text out : Bytes) (r : Result ℕ Reason) (left : List ℕ) → Prints text out r left → length text ≤ length out → take (length text) left ≡ text
 line_stands text out r left p h =
     ap (λ (o : PrintEffect). take (length text) o.out) (p ∙ printed_fits text out h) ∙ take_at text (drop (length text) out) (length text) refl
 

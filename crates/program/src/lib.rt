@@ -6,13 +6,13 @@ mod opening;
 mod turns;
 
 use dispatch::Run;
-use lines::Printed;
 pub use opening::open;
 use plan::kinds::Plan;
+use plan::refusal::Reason;
 pub use turns::{advance, is_over, is_reading};
 
 // What the next turn prints: a slot, the header of the outcomes, the outcome of a job, or nothing more.
-#[derive(Clone, Copy)]
+#[derive(Clone, Copy, Debug, PartialEq, Eq)]
 pub enum Phase {
     Slots,
     Closing,
@@ -33,5 +33,5 @@ pub struct Progress {
 #[derive(Clone, Copy)]
 pub struct Turn {
     pub progress: Progress,
-    pub printed: Printed,
+    pub printed: Result<usize, Reason>,
 }

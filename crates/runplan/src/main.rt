@@ -14,7 +14,7 @@ ghost use Rattle.lines.specs.Lines.{longest_line};
 ghost use Rattle.runplan.specs.Counts.{IsPrefixLen};
 ghost use Rattle.program.specs.Turns.{opened, over, speed_bytes, most_read, Tells, TellsSome, Played, WholeProgram};
 
-use lines::{LONGEST_LINE, Printed};
+use lines::LONGEST_LINE;
 use plan::edition::Edition;
 use planfields::layout::Layout;
 use planfile::extent::file_bytes;
@@ -109,11 +109,7 @@ fn write_line(stdout: Stdout, told: usize, line: &[u8]) -> Written
 fn length_of(turn: Turn) -> usize
     ensures { result ≡ length_of turn.printed }
 {
-    let printed = turn.printed;
-    match printed {
-        Printed::Length(n) => n,
-        Printed::Refused(_) => 0,
-    }
+    turn.printed.unwrap_or(0)
 }
 
 // Writes the line of a turn, which stands at the start of the line buffer.
@@ -121,11 +117,9 @@ fn tell(stdout: Stdout, heard: usize, told: usize, turn: Turn, line: &[u8]) -> D
     requires { (length_of turn.printed ≤ length line.now) × (told + length line.now < 2 ^ 64) }
     ensures { (result.progress ≡ turn.progress) × (result.heard ≡ heard) × (result.told ≡ told + length_of turn.printed) }
 {
-    let n = length_of(turn);
-    let written = write_line(stdout, told, &line[..n]);
-    let progress = turn.progress;
+    let written = write_line(stdout, told, &line[..length_of(turn)]);
     Done {
-        progress,
+        progress: turn.progress,
         heard,
         told: written.told,
         written: written.all,
@@ -138,8 +132,7 @@ fn read_part(stdin: Stdin, file: &mut [u8], from: usize, to: usize) -> usize
     requires { (from ≤ to) × (to ≤ length file.old) }
     ensures { (from ≤ result) × (result ≤ to) × (take from file.new ≡ take from file.old) }
 {
-    let came = hear(stdin, from, &mut file[from..to]);
-    came.heard
+    hear(stdin, from, &mut file[from..to]).heard
 }
 
 // Reads the plan file and no byte after it; returns the number of its bytes that came.
@@ -180,10 +173,8 @@ fn one(stdin: Stdin, stdout: Stdout, done: Done, table: &[u32], line: &mut [u8])
     ensures { TellsSome done.progress table.now done.heard done.told result.progress result.heard result.told line.new }
 {
     let mut speed = [0u8; SPEED_BYTES];
-    let progress = done.progress;
-    let came = read_speed(stdin, progress, done.heard, &mut speed);
-    let n = came.bytes;
-    let turn = advance(progress, table, &speed[..n], line);
+    let came = read_speed(stdin, done.progress, done.heard, &mut speed);
+    let turn = advance(done.progress, table, &speed[..came.bytes], line);
     tell(stdout, came.heard, done.told, turn, line)
 }
 
@@ -191,8 +182,7 @@ fn one(stdin: Stdin, stdout: Stdout, done: Done, table: &[u32], line: &mut [u8])
 fn goes_on(done: Done) -> bool
     ensures { result ≡ (done.written && not (over done.progress.phase)) }
 {
-    let progress = done.progress;
-    done.written & !is_over(progress)
+    done.written && !is_over(done.progress)
 }
 
 // All turns after the first.
@@ -201,10 +191,11 @@ fn play(stdin: Stdin, stdout: Stdout, first: Done, table: &[u32], line: &mut [u8
     ensures { Played first.progress table.now first.heard first.told result.progress result.heard result.told result.written }
 {
     let mut done = first;
-    let mut turns = MOST_TURNS;
-    while turns > 0 && goes_on(done) {
+    for turn in 0..MOST_TURNS {
+        if !goes_on(done) {
+            break;
+        }
         done = one(stdin, stdout, done, table, line);
-        turns -= 1;
     }
     done
 }
