@@ -1,9 +1,20 @@
 -- The contract of each call for hosts: its number, and every lent
 -- buffer at exit, are those of its definition.
 use Rattle.std.specs.Prelude.{◌≡◌, List, ℕ, Float, ℤ}
-use Rattle.plan.specs.Kinds.{Bytes, Offset, Position, Row, Speed, Table, Words}
+use Rattle.plan.specs.Kinds.{Bytes, Number, Offset, Position, Row, Speed, Table, Words}
 use Rattle.planfile.specs.Reader.{name_found}
-use Rattle.gateway.specs.Calls.{judge_call, draw_call, shortage_call, start_call, step_call, shift_call, outcome_call, slack_call, read_call, write_call, import_call, export_call, end_call, speed_call, log_call}
+use Rattle.gateway.specs.declared.answers.Finding.{Finding}
+use Rattle.gateway.specs.declared.answers.Finding.TheVariants as finding
+use Rattle.gateway.specs.Calls.{none_number, met_number, discarded_number, missed_number, open_number, ended_number, judge_call, draw_call, shortage_call, start_call, step_call, shift_call, outcome_call, slack_call, read_call, write_call, import_call, export_call, end_call, speed_call, log_call}
+
+-- The number of what an answer tells besides that a call is done or refused.
+abbrev pub finding_number : Finding → Number
+finding_number finding.NoneEssential = none_number
+finding_number finding.Met = met_number
+finding_number finding.Discarded = discarded_number
+finding_number finding.Missed = missed_number
+finding_number finding.Open = open_number
+finding_number finding.Ended = ended_number
 
 -- The contract of `gateway_read`: the number, the lent plan, the table and the offset.
 abbrev pub HostReads : (file : Bytes) (plan : Words) (table : Table) (offset : Offset) (r : ℕ) (plan_left : Words) (table_left_lem : Table) (offset_left : Offset) → Type 0

@@ -1,318 +1,132 @@
 // The calls' answers as numbers: 0 for done, a refusal's own number,
-// and numbers above one byte for the rest.
-ghost use Rattle.std.specs.Prelude.{◌≡◌};
+// and numbers above one byte for the rest; and the locations that answers name.
+ghost use Rattle.std.specs.Prelude.{◌≡◌, [], ◌∷◌, Ok};
+ghost use Rattle.plan.specs.Refusal as refusal;
 ghost use Rattle.plan.specs.Report.{number_of};
-ghost use Rattle.judge.specs.Answers.{verdict_view, slack_view};
-ghost use Rattle.planfile.specs.Answers as files;
-ghost use Rattle.planwriter.specs.Answers as written;
-ghost use Rattle.joblist.specs.Answers as lists;
-ghost use Rattle.desk.specs.Answers.{shortage_view};
-ghost use Rattle.dispatch.specs.Answers as slots;
+ghost use Rattle.judge.specs.Answers.{report_of, verdict_view, slack_view};
+ghost use Rattle.desk.specs.Answers as desks;
+ghost use Rattle.dispatch.specs.Answers.{answer_view, outcome_view};
 ghost use Rattle.meter.specs.Answers as meters;
-ghost use Rattle.gateway.specs.Calls.{first_of, second_of, third_of, fourth_of, ending_number, figure_number, figure_slack, figure_first, figure_second, written_number, written_length, exported_number, exported_length, told_number, told_speed, log_number, log_count, log_offset};
+ghost use Rattle.gateway.specs.Calls.{first_of, second_of, third_of, fourth_of, ending_number, figure_number, figure_first, figure_second};
+ghost use Rattle.gateway.specs.Answers.{finding_number};
 
-use desk::answers::{Shortage, number_of as short_number};
-use dispatch::answers::{Answer, Outcome, number_of as answered};
-use joblist::export::Exported;
-use joblist::import::Answer as Import;
-use judge::answers::{Slack, Verdict, number_of};
-use meter::log::Answer as Log;
-use meter::reading::Metered;
-use plan::refusal::{BUFFER_TOO_SHORT, DONE, WRONG_RATES};
-use planfile::reader::Answer as Reader;
-use planwriter::writer::Written;
+use desk::answers::Shortage;
+use dispatch::answers::Outcome;
+use judge::answers::{Fault, Least};
+use plan::refusal::{DONE, Reason};
 
-pub const NONE_ESSENTIAL: u32 = 256;
-
-pub const MET: u32 = 257;
-
-pub const DISCARDED: u32 = 258;
-
-pub const MISSED: u32 = 259;
-
-pub const OPEN: u32 = 260;
-
-pub const ENDED: u32 = 261;
-
-pub(crate) fn verdict_number(v: Verdict) -> u32
-    ensures { result ≡ number_of (verdict_view v) }
-{
-    number_of(v) as u32
+// What an answer tells besides that a call is done or refused. The numbers are above those of all reasons,
+// which have one byte.
+#[derive(Clone, Copy, Debug, PartialEq, Eq)]
+pub(crate) enum Finding {
+    NoneEssential = 256,
+    Met = 257,
+    Discarded = 258,
+    Missed = 259,
+    Open = 260,
+    Ended = 261,
 }
 
-// The first part of the location that a verdict names; 0 if it names none.
-pub(crate) fn first_of(v: Verdict) -> u64
-    ensures { result ≡ first_of (verdict_view v) }
-{
-    match v {
-        Verdict::Accepted => 0,
-        Verdict::BufferTooShort => 0,
-        Verdict::Unsound => 0,
-        Verdict::OutsideWindow(job, _) => job as u64,
-        Verdict::WrongTotal(job) => job as u64,
-        Verdict::OverCapacity(interval) => interval as u64,
-        Verdict::BelowFloor(interval, _) => interval as u64,
+impl From<Finding> for u32 {
+    ghost from_gives = { λ finding number. number ≡ finding_number finding };
+
+    fn from(finding: Finding) -> u32 {
+        finding as u32
     }
 }
 
-// The second part of that location; 0 if it has none.
-pub(crate) fn second_of(v: Verdict) -> u64
-    ensures { result ≡ second_of (verdict_view v) }
-{
-    match v {
-        Verdict::Accepted => 0,
-        Verdict::BufferTooShort => 0,
-        Verdict::Unsound => 0,
-        Verdict::OutsideWindow(_, interval) => interval as u64,
-        Verdict::WrongTotal(_) => 0,
-        Verdict::OverCapacity(_) => 0,
-        Verdict::BelowFloor(_, deadline) => deadline.0 as u64,
+impl From<Outcome> for Finding {
+    ghost from_gives = { λ outcome finding. finding_number finding ≡ ending_number (outcome_view (Ok outcome)) };
+
+    fn from(outcome: Outcome) -> Finding {
+        match outcome {
+            Outcome::Met => Finding::Met,
+            Outcome::Ended => Finding::Ended,
+            Outcome::Discarded => Finding::Discarded,
+            Outcome::Missed => Finding::Missed,
+            Outcome::Open => Finding::Open,
+        }
     }
 }
 
-pub(crate) fn answer_number(a: Answer) -> u32
-    ensures { result ≡ number_of (slots.answer_view a) }
+// The number of an answer: that of no refusal if the call is done.
+pub(crate) fn number_of<T>(answer: &Result<T, Reason>) -> u32
+    ensures { result ≡ number_of (answer_view answer.now) }
 {
-    answered(a) as u32
-}
-
-pub(crate) fn outcome_number(o: Outcome) -> u32
-    ensures { result ≡ ending_number (slots.outcome_view o) }
-{
-    match o {
-        Outcome::Met => MET,
-        Outcome::Ended => ENDED,
-        Outcome::Discarded => DISCARDED,
-        Outcome::Missed => MISSED,
-        Outcome::Open => OPEN,
-        Outcome::Refused(number) => number as u32,
+    match answer {
+        Ok(_) => u32::from(DONE),
+        Err(reason) => u32::from(*reason),
     }
 }
 
-pub(crate) fn slack_number(s: Slack) -> u32
-    ensures { result ≡ figure_number (slack_view s) }
+pub(crate) fn outcome_number(told: Result<Outcome, Reason>) -> u32
+    ensures { result ≡ ending_number (outcome_view told) }
 {
-    match s {
-        Slack::NoneEssential => NONE_ESSENTIAL,
-        Slack::Least(_, _, _) => DONE as u32,
-        Slack::Refused(v) => verdict_number(v),
+    match told {
+        Ok(outcome) => Finding::from(outcome).into(),
+        Err(reason) => reason.into(),
     }
 }
 
-pub(crate) fn slack_figure(s: Slack) -> i64
-    ensures { result ≡ figure_slack (slack_view s) }
+pub(crate) fn figure_number(figure: Result<Option<Least>, Fault>) -> u32
+    ensures { result ≡ figure_number (slack_view figure) }
 {
-    match s {
-        Slack::NoneEssential => 0,
-        Slack::Least(slack, _, _) => slack,
-        Slack::Refused(_) => 0,
+    match figure {
+        Ok(None) => Finding::NoneEssential.into(),
+        Ok(Some(_)) => u32::from(DONE),
+        Err(fault) => fault.reason().into(),
     }
 }
 
-// The location of a slack figure: interval and deadline of the least slack,
-// or the location of a refusal; otherwise 0.
-pub(crate) fn slack_first(s: Slack) -> u64
-    ensures { result ≡ figure_first (slack_view s) }
+// The location that a fault names, in two parts; 0 for a part that it does not name.
+fn location_of(fault: Fault) -> [u64; 2]
+    ensures { result ≡ first_of (report_of fault) ∷ second_of (report_of fault) ∷ [] }
 {
-    match s {
-        Slack::NoneEssential => 0,
-        Slack::Least(_, interval, _) => interval as u64,
-        Slack::Refused(v) => first_of(v),
+    match fault {
+        Fault::BufferTooShort => [0, 0],
+        Fault::Unsound => [0, 0],
+        Fault::OutsideWindow(job, interval) => [job as u64, interval as u64],
+        Fault::WrongTotal(job) => [job as u64, 0],
+        Fault::OverCapacity(interval) => [interval as u64, 0],
+        Fault::BelowFloor(interval, deadline) => [interval as u64, u64::from(deadline.0)],
     }
 }
 
-pub(crate) fn slack_second(s: Slack) -> u64
-    ensures { result ≡ figure_second (slack_view s) }
+// The location that a verdict names; zeros for acceptance.
+pub(crate) fn verdict_location<T>(verdict: &Result<T, Fault>) -> [u64; 2]
+    ensures { result ≡ first_of (verdict_view verdict.now) ∷ second_of (verdict_view verdict.now) ∷ [] }
 {
-    match s {
-        Slack::NoneEssential => 0,
-        Slack::Least(_, _, deadline) => deadline.0 as u64,
-        Slack::Refused(v) => second_of(v),
+    match verdict {
+        Ok(_) => [0, 0],
+        Err(fault) => location_of(*fault),
     }
 }
 
-pub(crate) fn read_number(a: Reader) -> u32
-    ensures { result ≡ number_of (files.answer_view a) }
+// The location of a figure: interval and deadline of the least slack, or the location of a fault.
+pub(crate) fn figure_location(figure: Result<Option<Least>, Fault>) -> [u64; 2]
+    ensures { result ≡ figure_first (slack_view figure) ∷ figure_second (slack_view figure) ∷ [] }
 {
-    match a {
-        Reader::Read => DONE as u32,
-        Reader::TooShort => BUFFER_TOO_SHORT as u32,
-        Reader::Refused(refusal) => refusal.number as u32,
+    match figure {
+        Ok(None) => [0, 0],
+        Ok(Some(least)) => [least.interval as u64, u64::from(least.deadline.0)],
+        Err(fault) => location_of(fault),
     }
 }
 
-// Where a refused file is wrong; 0 if it was read or the table is too short.
-pub(crate) fn read_offset(a: Reader) -> usize
-    ensures { result ≡ first_of (files.answer_view a) }
+// The times of the pair by which there is no timetable, what is asked by them and what the link carries;
+// zeros if there is no pair.
+pub(crate) fn pair_of(found: Result<(), Shortage>) -> [u64; 4]
+    ensures { result ≡ first_of (desks.answer_view found) ∷ second_of (desks.answer_view found) ∷ third_of (desks.answer_view found) ∷ fourth_of (desks.answer_view found) ∷ [] }
 {
-    match a {
-        Reader::Read => 0,
-        Reader::TooShort => 0,
-        Reader::Refused(refusal) => refusal.offset,
-    }
-}
-
-pub(crate) fn written_number(w: Written) -> u32
-    ensures { result ≡ written_number (written.written_view w) }
-{
-    match w {
-        Written::Length(_) => DONE as u32,
-        Written::Refused(number) => number as u32,
-    }
-}
-
-// The length of a written file; 0 after a refusal.
-pub(crate) fn written_length(w: Written) -> usize
-    ensures { result ≡ written_length (written.written_view w) }
-{
-    match w {
-        Written::Length(n) => n,
-        Written::Refused(_) => 0,
-    }
-}
-
-pub(crate) fn imported_number(a: Import) -> u32
-    ensures { result ≡ number_of (lists.answer_view a) }
-{
-    match a {
-        Import::Read => DONE as u32,
-        Import::Refused(refusal) => refusal.number as u32,
-    }
-}
-
-// Where a refused text is wrong; 0 if it was read.
-pub(crate) fn imported_offset(a: Import) -> usize
-    ensures { result ≡ first_of (lists.answer_view a) }
-{
-    match a {
-        Import::Read => 0,
-        Import::Refused(refusal) => refusal.offset,
-    }
-}
-
-pub(crate) fn exported_number(e: Exported) -> u32
-    ensures { result ≡ exported_number (lists.export_view e) }
-{
-    match e {
-        Exported::Length(_) => DONE as u32,
-        Exported::Refused(number) => number as u32,
-    }
-}
-
-// The length of an exported text; 0 after a refusal.
-pub(crate) fn exported_length(e: Exported) -> usize
-    ensures { result ≡ exported_length (lists.export_view e) }
-{
-    match e {
-        Exported::Length(n) => n,
-        Exported::Refused(_) => 0,
-    }
-}
-
-pub(crate) fn shortage_number(s: Shortage) -> u32
-    ensures { result ≡ number_of (shortage_view s) }
-{
-    short_number(s) as u32
-}
-
-// The first time of a pair by which there is no timetable; 0 if there is no pair.
-pub(crate) fn due_of(s: Shortage) -> u64
-    ensures { result ≡ first_of (shortage_view s) }
-{
-    match s {
-        Shortage::Nothing => 0,
-        Shortage::Unsound => 0,
-        Shortage::ReleasesDiffer => 0,
-        Shortage::Pair(due, _, _, _) => due.0 as u64,
-    }
-}
-
-// The second time of that pair; 0 if there is none.
-pub(crate) fn late_of(s: Shortage) -> u64
-    ensures { result ≡ second_of (shortage_view s) }
-{
-    match s {
-        Shortage::Nothing => 0,
-        Shortage::Unsound => 0,
-        Shortage::ReleasesDiffer => 0,
-        Shortage::Pair(_, late, _, _) => late.0 as u64,
-    }
-}
-
-// What is asked by both times; 0 if there is no pair.
-pub(crate) fn asked_of(s: Shortage) -> u64
-    ensures { result ≡ third_of (shortage_view s) }
-{
-    match s {
-        Shortage::Nothing => 0,
-        Shortage::Unsound => 0,
-        Shortage::ReleasesDiffer => 0,
-        Shortage::Pair(_, _, asked, _) => asked.0,
-    }
-}
-
-// What the link carries of it; 0 if there is no pair.
-pub(crate) fn carried_of(s: Shortage) -> u64
-    ensures { result ≡ fourth_of (shortage_view s) }
-{
-    match s {
-        Shortage::Nothing => 0,
-        Shortage::Unsound => 0,
-        Shortage::ReleasesDiffer => 0,
-        Shortage::Pair(_, _, _, carried) => carried.0,
-    }
-}
-
-pub(crate) fn metered_number(m: Metered) -> u32
-    ensures { result ≡ told_number (meters.metered_view m) }
-{
-    match m {
-        Metered::Speed(_) => DONE as u32,
-        Metered::Refused(number) => number as u32,
-    }
-}
-
-// The speed of a reading; 0 if it is refused.
-pub(crate) fn metered_speed(m: Metered) -> u16
-    ensures { result ≡ told_speed (meters.metered_view m) }
-{
-    match m {
-        Metered::Speed(v) => v,
-        Metered::Refused(_) => 0,
-    }
-}
-
-pub(crate) fn log_number(a: Log) -> u32
-    ensures { result ≡ log_number (meters.answer_view a) }
-{
-    match a {
-        Log::Read(_) => DONE as u32,
-        Log::WrongRate => WRONG_RATES as u32,
-        Log::TooShort => BUFFER_TOO_SHORT as u32,
-        Log::Refused(refusal) => refusal.number as u32,
-    }
-}
-
-// The number of a log's speeds; 0 if it is refused.
-pub(crate) fn log_count(a: Log) -> usize
-    ensures { result ≡ log_count (meters.answer_view a) }
-{
-    match a {
-        Log::Read(count) => count,
-        Log::WrongRate => 0,
-        Log::TooShort => 0,
-        Log::Refused(_) => 0,
-    }
-}
-
-// Where a log is wrong; 0 if it was read, and with a refusal that names no offset.
-pub(crate) fn log_offset(a: Log) -> usize
-    ensures { result ≡ log_offset (meters.answer_view a) }
-{
-    match a {
-        Log::Read(_) => 0,
-        Log::WrongRate => 0,
-        Log::TooShort => 0,
-        Log::Refused(refusal) => refusal.offset,
+    match found {
+        Err(
+            Shortage::Pair {
+                due,
+                late,
+                asked,
+                carried,
+            },
+        ) => [u64::from(due.0), u64::from(late.0), asked.0, carried.0],
+        _ => [0; 4],
     }
 }

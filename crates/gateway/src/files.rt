@@ -1,10 +1,11 @@
 // The calls for hosts on plan files.
 ghost use Rattle.gateway.specs.Answers.{HostReads, HostWrites, HostShows};
 
-use crate::answers::{read_number, read_offset, written_length, written_number};
+use crate::answers::number_of;
 use hostmemory::plans::{plan_of, put_plan};
 use hostmemory::sizes::Sizes;
-use plan::refusal::BUFFER_TOO_SHORT;
+use plan::kinds::no_plan;
+use plan::refusal::{DONE, Reason};
 use planfile::lookup::name_at;
 use planfile::reader::read;
 use planwriter::writer::write;
@@ -16,14 +17,20 @@ pub fn gateway_read(file: &[u8], plan: &mut [u64], table: &mut [u32], offset: &m
     ensures { HostReads file.now plan.old table.old offset.old result plan.new table.new offset.new }
 {
     if plan.len() < Sizes::PLAN {
-        return BUFFER_TOO_SHORT as u32; // the offset stays too
+        return Reason::BufferTooShort.into(); // the offset stays too
     }
-    let reading = read(file, table);
-    let answer = reading.answer;
-    let p = reading.plan;
-    put_plan(plan, p);
-    *offset = read_offset(answer);
-    read_number(answer)
+    match read(file, table) {
+        Ok(p) => {
+            put_plan(plan, p);
+            *offset = 0;
+            u32::from(DONE)
+        }
+        Err(fault) => {
+            put_plan(plan, no_plan());
+            *offset = fault.offset();
+            fault.reason().into()
+        }
+    }
 }
 
 // Writes the plan file of a sound plan and its table, and returns its length in `length`; a refusal
@@ -32,11 +39,11 @@ pub fn gateway_write(plan: &[u64], table: &[u32], out: &mut [u8], length: &mut u
     ensures { HostWrites plan.now table.now out.old length.old result out.new length.new }
 {
     if plan.len() < Sizes::PLAN {
-        return BUFFER_TOO_SHORT as u32; // the length stays too
+        return Reason::BufferTooShort.into(); // the length stays too
     }
     let written = write(plan_of(plan), table, out);
-    *length = written_length(written);
-    written_number(written)
+    *length = written.unwrap_or(0);
+    number_of(&written)
 }
 
 // The offset in the file at which a job's name begins; 0 if no name is shown.

@@ -1,26 +1,24 @@
 // The judge's calls for hosts.
 ghost use Rattle.gateway.specs.Answers.{HostJudges, HostMeasures};
 
-use crate::answers::{
-    first_of, second_of, slack_figure, slack_first, slack_number, slack_second, verdict_number,
-};
+use crate::answers::{figure_location, figure_number, number_of, verdict_location};
 use hostmemory::plans::plan_of;
 use hostmemory::sizes::Sizes;
+use judge::answers::Fault;
 use judge::figure::slack;
 use judge::judge;
-use plan::refusal::BUFFER_TOO_SHORT;
+use plan::refusal::Reason;
 
 // The verdict on a plan and its table: its number, and its location in `location`.
 pub fn gateway_judge(plan: &[u64], table: &[u32], location: &mut [u64]) -> u32
     ensures { HostJudges plan.now table.now location.old result location.new }
 {
     if (plan.len() < Sizes::PLAN) | (location.len() < Sizes::LOCATION) {
-        return BUFFER_TOO_SHORT as u32;
+        return Reason::BufferTooShort.into();
     }
     let verdict = judge(plan_of(plan), table);
-    location[0] = first_of(verdict);
-    location[1] = second_of(verdict);
-    verdict_number(verdict)
+    location[..Sizes::LOCATION].copy_from_slice(&verdict_location(&verdict));
+    number_of(&verdict.map_err(Fault::reason))
 }
 
 // The slack figure of a plan and its table: its number, the least slack, and its location.
@@ -28,11 +26,13 @@ pub fn gateway_slack(plan: &[u64], table: &[u32], least: &mut i64, location: &mu
     ensures { HostMeasures plan.now table.now least.old location.old result least.new location.new }
 {
     if (plan.len() < Sizes::PLAN) | (location.len() < Sizes::LOCATION) {
-        return BUFFER_TOO_SHORT as u32;
+        return Reason::BufferTooShort.into();
     }
     let figure = slack(plan_of(plan), table);
-    *least = slack_figure(figure);
-    location[0] = slack_first(figure);
-    location[1] = slack_second(figure);
-    slack_number(figure)
+    *least = match figure {
+        Ok(Some(found)) => found.slack,
+        _ => 0,
+    };
+    location[..Sizes::LOCATION].copy_from_slice(&figure_location(figure));
+    figure_number(figure)
 }

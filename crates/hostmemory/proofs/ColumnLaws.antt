@@ -19,12 +19,13 @@ use Rattle.base.proofs.Padding.{get_or_replicate}
 use Rattle.plan.specs.Edition.{most_jobs, most_deadline, most_size}
 use Rattle.plan.specs.JobLists.{list_of}
 use Rattle.plan.specs.Rules.{no_job, no_plan, job_in, job_of, jobs_of, counted, release, size, deadline, lo, hi, grade_allowed, window_allowed, size_allowed, rates_hold, count_holds, grades_hold, bounds_hold}
-use Rattle.plan.specs.Columns.{Columns, column_values, in_column}
+use Rattle.plan.specs.Columns.{HasColumns, column_values, in_column}
+use Rattle.plan.specs.declared.columns.Columns.{Columns}
 use Rattle.plan.specs.declared.kinds.Job.{Job}
 use Rattle.dispatch.specs.Step.{slot_sound}
 use Rattle.dispatch.specs.declared.Run.{Run}
-use Rattle.hostmemory.specs.Memory.{count_words, head_words, plan_words, short_list, short_plan, job_index, job_start, job_at, jobs_to, list_in, list_held, plan_in, plan_of, outline_of, grade_word, release_word, size_word, deadline_word, grade_values, job_fits, words_fit}
-use Rattle.hostmemory.specs.Answers.{column_in, ReadsColumns}
+use Rattle.hostmemory.specs.Memory.{count_words, head_words, plan_words, short_list, short_plan, job_index, job_start, job_at, jobs_to, list_in, list_held, plan_in, plan_of, grade_word, release_word, size_word, deadline_word, grade_values, job_fits, words_fit}
+use Rattle.hostmemory.specs.Answers.{column_in, columns_over}
 
 -- The tests so far (a, b) and those of one job (g, r, s, d), regrouped so that the job's stand together.
 regroup : (a b g r s d : Bool) → (a && g && (b && r && s && d)) ≡ (a && b && (g && r && s && d))
@@ -105,10 +106,10 @@ unfolding plan_in plan_of
 counted_words w h = rw (le-ltb (length w) plan_words h) refl
 
 -- A column holds the word of every counted job, if it has room for it.
-column_read : (w column left : List ℕ) (word : ℕ → ℕ) (i : ℕ) → left ≡ column_in w word column → length column ≡ most_jobs → i < counted (plan_of w)
-    → word i < column_values → get_or left i 0 ≡ word i
-column_read w column left word i e long h room =
-    ap (λ l. get_or l i 0) e ∙ filled_at (λ k. in_column (word k)) (counted (plan_of w)) column i (omega (arith, long)) h ∙ mod-eq_of_lt room
+column_read : (w column : List ℕ) (word : ℕ → ℕ) (i : ℕ) → length column ≡ most_jobs → i < counted (plan_of w)
+    → word i < column_values → get_or (column_in w word column) i 0 ≡ word i
+column_read w column word i long h room =
+    filled_at (λ k. in_column (word k)) (counted (plan_of w)) column i (omega (arith, long)) h ∙ mod-eq_of_lt room
 
 -- What it says that the words of job i have room.
 record Room (w : List ℕ) (i : ℕ) : Type 0 where
@@ -133,23 +134,22 @@ room_of w i e =
       deadline = ltb-true (deadline_word w i) column_values s₁.1;
     }
 
--- If the words have room, the columns are those of the plan that the words encode.
-pub columns_read : (w grades releases sizes deadlines : List ℕ) (fit : Bool) (grades_left releases_left sizes_left deadlines_left : List ℕ)
-    → ReadsColumns w grades releases sizes deadlines fit grades_left releases_left sizes_left deadlines_left → fit ≡ true
-    → length grades ≡ most_jobs → length releases ≡ most_jobs → length sizes ≡ most_jobs → length deadlines ≡ most_jobs
-    → Columns (plan_of w) (outline_of (plan_of w)) grades_left releases_left sizes_left deadlines_left
-columns_read w grades releases sizes deadlines fit grades_left releases_left sizes_left deadlines_left e fits g r s d =
+-- If the words have room, the columns into which the words' plan was put are the plan's.
+pub columns_read : (w : List ℕ) (c : Columns) → words_fit w ≡ true
+    → length c.grades ≡ most_jobs → length c.releases ≡ most_jobs → length c.sizes ≡ most_jobs → length c.deadlines ≡ most_jobs
+    → HasColumns (plan_of w) (columns_over w c)
+columns_read w c fits g r s d =
     let room : (i : ℕ) → i < counted (plan_of w) → Room w i
-    = λ i h. room_of w i (every_at (job_fits w) (counted (plan_of w)) i (sym e.0 ∙ fits) h) in
+    = λ i h. room_of w i (every_at (job_fits w) (counted (plan_of w)) i fits h) in
     let job = job_of_words w in
     record {
       n = refl;
       d = refl;
       count = refl;
-      grade = λ i h. omega (arith, column_read w grades grades_left (grade_word w) i e.1 g h (omega (arith, (room i h).grade)), (room i h).grade, ap (λ (j : Job). j.grade) (job i h));
-      release = λ i h. omega (arith, column_read w releases releases_left (release_word w) i e.2 r h (room i h).release, (room i h).release, ap (λ (j : Job). j.release.0) (job i h));
-      size = λ i h. column_read w sizes sizes_left (size_word w) i e.3 s h (room i h).size ∙ sym (ap (λ (j : Job). j.size.0) (job i h));
-      deadline = λ i h. omega (arith, column_read w deadlines deadlines_left (deadline_word w) i e.4 d h (room i h).deadline, (room i h).deadline, ap (λ (j : Job). j.deadline.0) (job i h));
+      grade = λ i h. omega (arith, column_read w c.grades (grade_word w) i g h (omega (arith, (room i h).grade)), (room i h).grade, ap (λ (j : Job). j.grade) (job i h));
+      release = λ i h. omega (arith, column_read w c.releases (release_word w) i r h (room i h).release, (room i h).release, ap (λ (j : Job). j.release.0) (job i h));
+      size = λ i h. column_read w c.sizes (size_word w) i s h (room i h).size ∙ sym (ap (λ (j : Job). j.size.0) (job i h));
+      deadline = λ i h. omega (arith, column_read w c.deadlines (deadline_word w) i d h (room i h).deadline, (room i h).deadline, ap (λ (j : Job). j.deadline.0) (job i h));
     }
 
 -- An allowed grade fits in 8 bits.

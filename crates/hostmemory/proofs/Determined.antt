@@ -1,15 +1,17 @@
 -- The contracts of the calls that write lent words or columns determine the result and what the words or
 -- columns hold at exit, and can be met for every input.
 use mathlib.Core.Path.{◌≡◌, refl, sym, ◌∙◌}
-use mathlib.Core.Bool.{Bool}
 use mathlib.Core.List.{List}
 use Prim.Native.Nat.{ℕ}
 use Rattle.plan.specs.declared.kinds.JobList.{JobList}
 use Rattle.plan.specs.declared.kinds.Plan.{Plan}
+use Rattle.std.specs.Prelude.{Result}
+use Rattle.plan.specs.declared.columns.Columns.{Columns}
+use Rattle.plan.specs.declared.refusal.Reason.{Reason}
 use Rattle.dispatch.specs.declared.Moment.{Moment}
 use Rattle.dispatch.specs.declared.Run.{Run}
-use Rattle.hostmemory.specs.Memory.{list_put, plan_put, grade_word, release_word, size_word, deadline_word, words_fit, slot_put, run_put}
-use Rattle.hostmemory.specs.Answers.{PutsList, PutsPlan, PutsRun, PutsSlot, column_in, ReadsColumns}
+use Rattle.hostmemory.specs.Memory.{list_put, plan_put, slot_put, run_put}
+use Rattle.hostmemory.specs.Answers.{PutsList, PutsPlan, PutsRun, PutsSlot, ReadsColumns, columns_over}
 
 -- `hostmemory::plans::put_plan`.
 pub one_plan_put : (words : List ℕ) (p : Plan) (left other : List ℕ) → PutsPlan words p left → PutsPlan words p other → left ≡ other
@@ -41,16 +43,9 @@ pub some_slot_put : (words : List ℕ) (at : Moment) (carried : List ℕ) → (l
 some_slot_put words at carried = (slot_put words at carried, refl)
 
 -- `hostmemory::plans::columns_in`.
-pub one_columns_read : (words grades releases sizes deadlines : List ℕ) (r s : Bool)
-    (grades_left releases_left sizes_left deadlines_left grades_other releases_other sizes_other deadlines_other : List ℕ)
-    → ReadsColumns words grades releases sizes deadlines r grades_left releases_left sizes_left deadlines_left
-    → ReadsColumns words grades releases sizes deadlines s grades_other releases_other sizes_other deadlines_other
-    → (r ≡ s) × (grades_left ≡ grades_other) × (releases_left ≡ releases_other) × (sizes_left ≡ sizes_other) × (deadlines_left ≡ deadlines_other)
-one_columns_read words grades releases sizes deadlines r s grades_left releases_left sizes_left deadlines_left grades_other releases_other sizes_other deadlines_other d e =
-    (d.0 ∙ sym e.0, d.1 ∙ sym e.1, d.2 ∙ sym e.2, d.3 ∙ sym e.3, d.4 ∙ sym e.4)
+pub one_columns_read : (words : List ℕ) (c : Columns) (r s : Result Unit Reason) (left other : Columns)
+    → ReadsColumns words c r left → ReadsColumns words c s other → (r ≡ s) × (left ≡ other)
+one_columns_read words c r s left other d e = (d.0 ∙ sym e.0, d.1 ∙ sym e.1)
 
-pub some_columns_read : (words grades releases sizes deadlines : List ℕ)
-    → (r : Bool) × (grades_left releases_left sizes_left deadlines_left : List ℕ)
-    × ReadsColumns words grades releases sizes deadlines r grades_left releases_left sizes_left deadlines_left
-some_columns_read words grades releases sizes deadlines =
-    (words_fit words, column_in words (grade_word words) grades, column_in words (release_word words) releases, column_in words (size_word words) sizes, column_in words (deadline_word words) deadlines, (refl, refl, refl, refl, refl))
+pub some_columns_read : (words : List ℕ) (c : Columns) → (r : Result Unit Reason) × (left : Columns) × ReadsColumns words c r left
+some_columns_read words c = (_, columns_over words c, (refl, refl))

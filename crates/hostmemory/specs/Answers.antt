@@ -1,9 +1,12 @@
 -- The contracts of the calls that write lent words.
-use Rattle.std.specs.Prelude.{◌≡◌, Bool, List, ℕ}
+use Rattle.std.specs.Prelude.{◌≡◌, List, ℕ, cond, Result, Ok, Err}
 use Rattle.base.specs.Fill.{filled}
 use Rattle.plan.specs.Kinds.{Row, Words}
 use Rattle.plan.specs.Rules.{counted}
 use Rattle.plan.specs.Columns.{in_column}
+use Rattle.plan.specs.declared.columns.Columns.{Columns}
+use Rattle.plan.specs.declared.refusal.Reason.{Reason}
+use Rattle.plan.specs.declared.refusal.Reason.TheVariants as reason
 use Rattle.plan.specs.declared.kinds.JobList.{JobList}
 use Rattle.plan.specs.declared.kinds.Plan.{Plan}
 use Rattle.dispatch.specs.declared.Moment.{Moment}
@@ -30,11 +33,19 @@ PutsSlot words at carried left = left ≡ slot_put words at carried
 abbrev pub column_in : (words : Words) (word : ℕ → ℕ) (column : List ℕ) → List ℕ
 column_in words word column = filled (λ i. in_column (word i)) (counted (plan_of words)) column
 
+-- Columns after the plan that words encode was put into them.
+abbrev pub columns_over : (words : Words) (c : Columns) → Columns
+columns_over words c =
+    record {
+      n = (plan_of words).n;
+      d = (plan_of words).d;
+      count = (plan_of words).count;
+      grades = column_in words (grade_word words) c.grades;
+      releases = column_in words (release_word words) c.releases;
+      sizes = column_in words (size_word words) c.sizes;
+      deadlines = column_in words (deadline_word words) c.deadlines;
+    }
+
 -- The contract of `columns_in`: whether the words have room in the columns, and the columns at exit.
-abbrev pub ReadsColumns : (words : Words) (grades releases sizes deadlines : List ℕ) (fit : Bool) (grades_left releases_left sizes_left deadlines_left : List ℕ) → Type 0
-ReadsColumns words grades releases sizes deadlines fit grades_left releases_left sizes_left deadlines_left =
-    (fit ≡ words_fit words)
-    × (grades_left ≡ column_in words (grade_word words) grades)
-    × (releases_left ≡ column_in words (release_word words) releases)
-    × (sizes_left ≡ column_in words (size_word words) sizes)
-    × (deadlines_left ≡ column_in words (deadline_word words) deadlines)
+abbrev pub ReadsColumns : (words : Words) (c : Columns) (r : Result Unit Reason) (left : Columns) → Type 0
+ReadsColumns words c r left = (r ≡ cond (words_fit words) (Ok tt) (Err reason.Unsound)) × (left ≡ columns_over words c)

@@ -9,7 +9,6 @@ use Rattle.plan.specs.Rules.{no_job, no_plan, jobs_of, counted}
 use Rattle.plan.specs.Columns.{column_values}
 use Rattle.plan.specs.declared.kinds.Job.{Job}
 use Rattle.plan.specs.declared.kinds.JobList.{JobList}
-use Rattle.plan.specs.declared.kinds.Outline.{Outline}
 use Rattle.plan.specs.declared.kinds.Plan.{Plan}
 use Rattle.dispatch.specs.declared.Moment.{Moment}
 use Rattle.dispatch.specs.declared.Run.{Run}
@@ -126,10 +125,6 @@ plan_in w =
 -- The plan that words encode; too few words encode a plan of zeros.
 unfoldable pub plan_of : Words → Plan
 plan_of w = cond (short_plan w) no_plan (plan_in w)
-
--- A plan without its jobs.
-abbrev pub outline_of : Plan → Outline
-outline_of p = record { n = p.n; d = p.d; count = p.count }
 
 -- Word k of job i; a word that is not there counts as 0.
 abbrev pub job_word : (w : Words) (k : ℕ) (i : Position) → ℕ

@@ -1,8 +1,7 @@
 // A job list in the words that a host lends: decoding and encoding. The words of a plan from its job count
 // on are those of the list of its jobs.
-ghost use Rattle.std.specs.Prelude.{◌≡◌, ◌≤◌, length};
-ghost use Rattle.std.proofs.lemmas.List.Edits.{sets};
-ghost use Rattle.hostmemory.specs.Memory.{list_words, list_held, list_out};
+ghost use Rattle.std.specs.Prelude.{◌≡◌};
+ghost use Rattle.hostmemory.specs.Memory.{list_held};
 ghost use Rattle.hostmemory.specs.Answers.{PutsList};
 
 use crate::jobs::{jobs_in, put_jobs};
@@ -25,16 +24,6 @@ pub fn list_of(words: &[u64]) -> JobList
     }
 }
 
-// Writes a job list's words, if there are enough of them.
-fn put_whole_list(words: &mut [u64], list: JobList)
-    requires { list_words ≤ length words.old }
-    ensures { words.new ≡ sets words.old 0 (list_out list) }
-{
-    words[0] = list.count as u64;
-    let jobs = list.jobs;
-    put_jobs(words, Sizes::COUNT, jobs);
-}
-
 // Writes a job list's words; too few words are left unchanged.
 pub fn put_list(words: &mut [u64], list: JobList)
     ensures { PutsList words.old list words.new }
@@ -42,5 +31,6 @@ pub fn put_list(words: &mut [u64], list: JobList)
     if words.len() < Sizes::LIST {
         return;
     }
-    put_whole_list(words, list);
+    words[0] = list.count as u64;
+    put_jobs(words, Sizes::COUNT, &list.jobs);
 }

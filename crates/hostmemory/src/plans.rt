@@ -1,51 +1,34 @@
 // A plan in the words that a host lends: decoding and encoding.
-ghost use Rattle.std.specs.Prelude.{◌≡◌, ◌≤◌, min, length};
-ghost use Rattle.std.proofs.lemmas.List.Edits.{sets};
-ghost use Rattle.hostmemory.specs.Memory.{plan_words, most16, plan_of, outline_of, plan_out};
+ghost use Rattle.std.specs.Prelude.{◌≡◌};
+ghost use Rattle.hostmemory.specs.Memory.{plan_of};
 ghost use Rattle.hostmemory.specs.Answers.{PutsPlan, ReadsColumns};
 
 use crate::jobs::{jobs_in, put_jobs};
 use crate::sizes::Sizes;
-use plan::columns::COLUMN_VALUES;
+use plan::columns::{COLUMN_VALUES, Columns};
 use plan::edition::Edition;
-use plan::kinds::{Outline, Plan, Rate, no_job};
+use plan::kinds::{Plan, Rate, no_job};
+use plan::refusal::Reason;
 use plan::rules::counted_within;
 
-// A word as a number of 16 bits; a word that does not fit becomes the greatest such number.
-fn as16(word: u64) -> u16
-    ensures { result ≡ min word most16 }
-{
-    if word <= 65_535 { word as u16 } else { 65_535 }
-}
-
-// The rates and the count of the plan that words encode; zeros for too few words.
-pub fn outline_in(words: &[u64]) -> Outline
-    ensures { result ≡ outline_of (plan_of words.now) }
+// The rates and the count of the plan that words encode; zeros for too few words. A word of a rate that does not fit
+// means the greatest rate.
+fn head_in(words: &[u64]) -> (Rate, Rate, usize)
+    ensures { result ≡ ((plan_of words.now).n, (plan_of words.now).d, (plan_of words.now).count) }
 {
     if words.len() < Sizes::PLAN {
-        return Outline {
-            n: Rate(0),
-            d: Rate(0),
-            count: 0,
-        };
+        return (Rate(0), Rate(0), 0);
     }
-    let n = Rate(as16(words[0]));
-    let d = Rate(as16(words[1]));
-    Outline {
-        n,
-        d,
-        count: words[2] as usize,
-    }
+    let n = Rate(words[0].min(u64::from(u16::MAX)) as u16);
+    let d = Rate(words[1].min(u64::from(u16::MAX)) as u16);
+    (n, d, words[2] as usize)
 }
 
 // The plan that words encode; too few words encode a plan of zeros.
 pub fn plan_of(words: &[u64]) -> Plan
     ensures { result ≡ plan_of words.now }
 {
-    let outline = outline_in(words);
-    let n = outline.n;
-    let d = outline.d;
-    let count = outline.count;
+    let (n, d, count) = head_in(words);
     if words.len() < Sizes::PLAN {
         let jobs = [no_job(); Edition::MOST_JOBS];
         return Plan { n, d, count, jobs };
@@ -57,25 +40,20 @@ pub fn plan_of(words: &[u64]) -> Plan
 // The number of values that 8 bits hold.
 const GRADE_VALUES: u64 = 256;
 
-// Writes the columns of the plan's counted jobs; too few words encode none. Whether every word has room: a grade
-// in 8 bits, the others in 32. A column holds the lowest 32 bits of a word that has none.
-pub fn columns_in(
-    words: &[u64],
-    grades: &mut [u32; Edition::MOST_JOBS],
-    releases: &mut [u32; Edition::MOST_JOBS],
-    sizes: &mut [u32; Edition::MOST_JOBS],
-    deadlines: &mut [u32; Edition::MOST_JOBS],
-) -> bool
-    ensures { ReadsColumns words.now grades.old releases.old sizes.old deadlines.old result grades.new releases.new sizes.new deadlines.new }
+// Puts the rates, the count and the columns of the plan that words encode into columns; too few words encode no job.
+// If a word of a counted job has no room, a grade in 8 bits and the others in 32, the plan is unsound, and a column
+// holds only the lowest 32 bits of such a word. The columns are filled where they stand, as by `Columns::put`.
+#[tactic(auto, unfolding(base::specs::Below::every, base::specs::Fill::filled, crate::specs::Memory::plan_in, crate::specs::Memory::plan_of))]
+pub fn columns_in(words: &[u64], columns: &mut Columns) -> Result<(), Reason>
+    ensures { ReadsColumns words.now columns.old result columns.new }
 {
-    if words.len() < Sizes::PLAN {
-        return true;
-    }
-    let jobs = counted_within(words[2] as usize);
+    let (n, d, count) = head_in(words);
+    columns.n = n;
+    columns.d = d;
+    columns.count = count;
     let mut grade_bits: u64 = 0;
     let mut bits: u64 = 0;
-    let mut i = 0;
-    while i < jobs {
+    for i in 0..counted_within(count) {
         let at = Sizes::HEAD + Sizes::JOB * i;
         let grade = words[at + 1];
         let release = words[at + 2];
@@ -83,27 +61,16 @@ pub fn columns_in(
         let deadline = words[at + 4];
         grade_bits = grade_bits | grade;
         bits = bits | release | size | deadline;
-        grades[i] = (grade % COLUMN_VALUES) as u32;
-        releases[i] = (release % COLUMN_VALUES) as u32;
-        sizes[i] = (size % COLUMN_VALUES) as u32;
-        deadlines[i] = (deadline % COLUMN_VALUES) as u32;
-        i += 1;
+        columns.grades[i] = (grade % COLUMN_VALUES) as u32;
+        columns.releases[i] = (release % COLUMN_VALUES) as u32;
+        columns.sizes[i] = (size % COLUMN_VALUES) as u32;
+        columns.deadlines[i] = (deadline % COLUMN_VALUES) as u32;
     }
-    (grade_bits < GRADE_VALUES) & (bits < COLUMN_VALUES)
-}
-
-// Writes a plan's words, if there are enough of them.
-fn put_whole_plan(words: &mut [u64], p: Plan)
-    requires { plan_words ≤ length words.old }
-    ensures { words.new ≡ sets words.old 0 (plan_out p) }
-{
-    let n = p.n;
-    let d = p.d;
-    words[0] = n.0 as u64;
-    words[1] = d.0 as u64;
-    words[2] = p.count as u64;
-    let jobs = p.jobs;
-    put_jobs(words, Sizes::HEAD, jobs);
+    if (grade_bits < GRADE_VALUES) & (bits < COLUMN_VALUES) {
+        Ok(())
+    } else {
+        Err(Reason::Unsound)
+    }
 }
 
 // Writes a plan's words; too few words are left unchanged.
@@ -113,5 +80,8 @@ pub fn put_plan(words: &mut [u64], p: Plan)
     if words.len() < Sizes::PLAN {
         return;
     }
-    put_whole_plan(words, p);
+    words[0] = u64::from(p.n.0);
+    words[1] = u64::from(p.d.0);
+    words[2] = p.count as u64;
+    put_jobs(words, Sizes::HEAD, &p.jobs);
 }

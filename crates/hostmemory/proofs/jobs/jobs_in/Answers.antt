@@ -11,20 +11,19 @@ use Rattle.hostmemory.proofs.jobs.jobs_in.Goals as goal
 pub loop-i-init : goal.loop-i-init
 unfolding jobs_to
 loop-i-init c =
-    (omega arith, refl, refl)
+    (refl, refl)
 
 pub loop-i-preserved : goal.loop-i-preserved
 unfolding jobs_to
 loop-i-preserved c =
     let l = c.loop-i in
     let inv = l.invariant in (
-      omega arith,
-      simp length-set inv.1,
-      rw (add-one, take-suc-set l.jobs l.i _ (omega arith), inv.2, c.job_at-job.ensures) refl,
+      simp length-set inv.0,
+      rw (add-one, take-suc-set l.jobs l.i _ (omega arith), inv.1, c.job_at.ensures) refl,
     )
 
 pub returns : goal.returns
 returns c =
     let l = c.loop-i in
     let whole : l.i ≡ most_jobs = omega arith in
-    sym (take_all most_jobs l.jobs (omega (arith, l.invariant.1))) ∙ ap (λ i. take i l.jobs) (sym whole) ∙ l.invariant.2 ∙ ap (jobs_to _ _) whole
+    sym (take_all most_jobs l.jobs (omega (arith, l.invariant.0))) ∙ ap (λ i. take i l.jobs) (sym whole) ∙ l.invariant.1 ∙ ap (jobs_to _ _) whole

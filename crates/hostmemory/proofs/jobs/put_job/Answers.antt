@@ -28,4 +28,4 @@ returns c =
     let e₂ : at + 2 ≡ suc (suc at) = omega arith in
     let e₃ : at + 3 ≡ suc (suc (suc at)) = omega arith in
     let e₄ : at + 4 ≡ suc (suc (suc (suc at))) = omega arith in
-    rw (add-one, e₂, e₃, e₄) refl
+    rw (add-one, e₂, e₃, e₄, c.from.ensures, c.from-2.ensures, c.from-3.ensures) refl
