@@ -5,18 +5,23 @@ use mathlib.Core.Bool.{Bool, true, false, not, cond, ◌||◌}
 use mathlib.Core.List.{List, [], ◌∷◌, ◌++◌}
 use mathlib.Core.Logic.{⊎_elim}
 use Prim.Native.Nat.{ℕ, zero, suc, ◌-◌, ◌≤◌, ◌<◌, ◌^◌, min}
-use native.Mathlib.Nat.{one-le-pow}
 use native.Mathlib.Omega.{arith}
-use lib.Dec.{ltb, eqb, lit<}
+use lib.Dec.{ltb, eqb}
 use lib.IntN.{ℤ}
-use lib.ListN.{length, get_or, drop, replicate}
+use lib.ListN.{length, get_or, drop}
+use Rattle.std.specs.Prelude.{map, Option, None, Some, Result, Ok, Err}
+use Rattle.std.specs.Result.{result_unwrap_or}
 use Rattle.plan.specs.Edition.{most_jobs, most_speeds, places}
 use Rattle.plan.specs.Versions.{rows_allowed_in}
-use Rattle.plan.specs.Refusal.{too_many_rows, row_without_interval, row_without_units, clock_at_end, speed_above_normal, unsound, buffer_too_short, no_such_job, cannot_end, too_many_speeds}
+use Rattle.plan.specs.Refusal.{number_of, too_many_rows, row_without_interval, row_without_units, clock_at_end, speed_above_normal, unsound, buffer_too_short, no_such_job, cannot_end, too_many_speeds}
 use Rattle.plan.specs.Rules.{release, deadline, counted}
 use Rattle.plan.specs.Boundaries.{insert, boundaries_to, boundaries, come, present, last_slot, last_deadline}
-use Rattle.plan.specs.Columns.{sizes_fit, PutsColumns, TellsBegun}
-use Rattle.plan.specs.declared.kinds.Outline.{Outline}
+use Rattle.plan.specs.Columns.{sizes_fit, columns_over, PutsColumns, TellsBegun}
+use Rattle.plan.specs.declared.columns.Columns.{Columns}
+use Rattle.plan.specs.declared.refusal.Reason.{Reason}
+use Rattle.plan.specs.declared.refusal.Reason.TheVariants as reason
+use Rattle.plan.specs.declared.refusal.Refusal.{Refusal}
+use Rattle.plan.proofs.Reasons.{number_some}
 use Rattle.plan.proofs.BoundaryCount.{come_few}
 use Rattle.plan.proofs.BoundaryOrder.{boundaries_ext, boundaries_few}
 use Rattle.plan.proofs.PresentInterval.{Occurs, insert_origin, all_come}
@@ -28,42 +33,33 @@ use Rattle.fields.specs.Parsers as rule
 use Rattle.fields.specs.Parsers.{Parsed, got, no, checked, record_length, opening, ended}
 use Rattle.planfields.specs.Records as records
 use Rattle.planfields.specs.Records.{Head, one_job}
-use Rattle.fields.specs.Answers.{field_view, field_value, is_compared, ReadsField, ReadsLength, ReadsOpening, ReadsEnd}
-use Rattle.planfields.specs.Answers.{head_view, job_view, ReadsHead, ReadsJob, ReadsRowCount, ReadsInterval, ReadsUnits}
-use Rattle.fields.specs.declared.field.Field.{Field}
-use Rattle.fields.specs.declared.field.Field.TheVariants as field
-use Rattle.fields.specs.declared.field.Passed.{Passed}
+use Rattle.fields.specs.Answers.{field_view, is_compared, ReadsField, ReadsLength, ReadsOpening, ReadsEnd}
+use Rattle.planfields.specs.Answers.{head_of, ReadsHead, ReadsJob, ReadsRowCount, ReadsInterval, ReadsUnits}
+use Rattle.fields.specs.declared.field.Parsed as code
 use Rattle.fields.specs.declared.opening.LengthRule.{LengthRule}
-use Rattle.planfields.specs.declared.head.HeadRead.{HeadRead}
-use Rattle.planfields.specs.declared.head.HeadRead.TheVariants as head
-use Rattle.planfields.specs.declared.job.JobRead.{JobRead}
-use Rattle.planfields.specs.declared.job.JobRead.TheVariants as job
+use Rattle.planfields.specs.declared.head.Head as code_head
 use Rattle.fields.proofs.ByteLaws.{Octets}
-use Rattle.fields.proofs.Injective.{fields_one, field_some, passed_one, passed_some}
+use Rattle.fields.proofs.Injective.{parsed_one, parsed_some, fields_one, field_some, passed_one, passed_some}
+use Rattle.fields.proofs.Only.{Only}
 use Rattle.fields.proofs.ParserLaws.{checked_is}
 use Rattle.fields.proofs.OpeningLaws.{opening_version}
-use Rattle.plan.specs.Rules.{no_plan}
-use Rattle.planfile.specs.Reader.{Contents, leaves, read_file, reader, name_shown}
-use Rattle.planfile.specs.Answers.{read_view, Reads, Shows}
-use Rattle.planfile.specs.declared.reader.Answer.TheVariants as read_answer
-use Rattle.planfile.specs.declared.reader.PlanRead.{PlanRead}
-use Rattle.planfile.proofs.Injective.{read_view_injective}
+use Rattle.planfile.specs.Reader.{reader, name_shown}
+use Rattle.planfile.specs.Answers.{Reads, Shows}
+use Rattle.planfile.specs.declared.reader.ReadFault.{ReadFault}
+use Rattle.planfile.proofs.Injective.{read_view_injective, reading_some}
 use Rattle.planwriter.specs.Writing as writing
 use Rattle.planwriter.specs.Writing.{writer}
 use Rattle.planwriter.specs.Answers.{Writes}
-use Rattle.planwriter.specs.declared.writer.Written.{Written}
-use Rattle.planwriter.specs.declared.writer.Written.TheVariants as write-answer
 use Rattle.planwriter.proofs.Injective.{write_view_injective}
 use Rattle.fields.proofs.BytesAt.{field_again}
 use Rattle.judge.specs.Verdict.{hand_fault, constraint_fault, floor_fault, judged}
-use Rattle.plan.specs.Report.{Report, or_else, fault}
+use Rattle.plan.specs.Report.{Report, or_else, fault, is_one_of}
 use Rattle.judge.specs.Slack.{Figure, none_essential, least, refused, slack_of, least_slack, unless, slack_figure}
-use Rattle.judge.specs.Answers.{verdict_view, slack_view, Judges, Measures, MeasuresPair}
+use Rattle.judge.specs.Answers.{report_of, verdict_view, slack_view, Judges, Measures, MeasuresPair}
 use Rattle.judge.specs.Decided.{Decided, short, bad, outside, wrong, over, below, accepted}
-use Rattle.judge.specs.declared.answers.Slack.{Slack}
-use Rattle.judge.specs.declared.answers.Slack.TheVariants.{NoneEssential, Least, Refused}
-use Rattle.judge.specs.declared.answers.Verdict.{Verdict}
-use Rattle.judge.specs.declared.answers.Verdict.TheVariants.{Accepted, BufferTooShort, Unsound, OutsideWindow, WrongTotal, OverCapacity, BelowFloor}
+use Rattle.judge.specs.declared.answers.Least.{Least}
+use Rattle.judge.specs.declared.answers.Fault.{Fault}
+use Rattle.judge.specs.declared.answers.Fault.TheVariants.{BufferTooShort, Unsound, OutsideWindow, WrongTotal, OverCapacity, BelowFloor}
 use Rattle.judge.proofs.Injective.{verdict_view_injective, slack_view_injective}
 use Rattle.judge.proofs.LeastSlack.{first_of_all}
 use Rattle.judge.proofs.FirstLocation.{every_place_is_the_first}
@@ -75,55 +71,49 @@ use Rattle.dispatch.specs.Answers.{outcome_view, run_at, Starts, Steps, StepsOve
 use Rattle.dispatch.specs.Inner.Columns.{plan_on}
 use Rattle.dispatch.specs.declared.Run.{Run}
 use Rattle.dispatch.specs.declared.Moment.{Moment}
-use Rattle.dispatch.specs.declared.step.Slot.{Slot}
-use Rattle.dispatch.specs.declared.early.Told.{Told}
-use Rattle.dispatch.specs.declared.answers.Answer.{Answer}
-use Rattle.dispatch.specs.declared.answers.Answer.TheVariants as slot_answer
 use Rattle.dispatch.specs.declared.answers.Outcome.{Outcome}
 use Rattle.dispatch.specs.declared.answers.Outcome.TheVariants as ends
-use Rattle.dispatch.specs.declared.start.Started.{Started}
-use Rattle.dispatch.specs.declared.step.Stepped.{Stepped}
 use Rattle.dispatch.proofs.Alike.{alike_slot, alike_outcome, alike_told}
-use Rattle.dispatch.proofs.SlotLimits.{slot_answer}
-use Rattle.dispatch.proofs.ShiftLimits.{shift_keeps, shift_answer}
+use Rattle.dispatch.proofs.SlotLimits.{slot_answer, refused_changes_nothing}
+use Rattle.dispatch.proofs.ShiftLimits.{shift_keeps, shift_answer, refused_shift_changes_nothing}
 use Rattle.dispatch.proofs.SlotsInTurn.{alike_shift}
-use Rattle.dispatch.proofs.WordLimits.{word_answer, slot_keeps_ended}
+use Rattle.dispatch.proofs.WordLimits.{word_answer, refused_word_changes_nothing, slot_keeps_ended}
 use Rattle.hostmemory.specs.Memory.{moment_of}
 use Rattle.dispatch.proofs.ColumnPlan.{own_columns, columns_alike}
 use Rattle.dispatch.proofs.Injective.{answer_view_injective, outcome_view_injective}
 use Rattle.lentrun.specs.Answers.{StepsIn, ShiftsIn, StartsIn, TellsIn}
 use Rattle.lines.specs.Answers as line
 use Rattle.lines.specs.Answers.{Prints, PrintsOutcome, printed, outcome_printed}
-use Rattle.lines.specs.declared.Printed.{Printed}
-use Rattle.lines.proofs.Injective.{printed_of, answer_is, printed_view_injective}
+use Rattle.lines.proofs.Injective.{printed_view_injective}
 use Rattle.program.specs.Turns.{Turned, opened, Takes, Opens}
 use Rattle.program.specs.declared.Turn.{Turn}
 use Rattle.promises.proofs.Cases.{file_e}
 use Rattle.promises.proofs.Demand2.{octets_e}
+use Rattle.promises.proofs.RefusalNumbers.{file_reasons, file_numbers, file_only, field_only, checked_only, opening_only, head_only, length_only, job_only, end_only, writer_numbers, outcome_numbers}
 
--- The effect of a line's call determines its result and buffer, and every effect has a result.
-outputs_one : (r s : Printed) (left other : List ℕ)
+-- The effect of a line's call determines its result and buffer, and each line's printing has a result.
+outputs_one : (r s : Result ℕ Reason) (left other : List ℕ)
     → ◌≡◌ {A = line.PrintEffect} (record { answer = line.printed_view r; out = left }) (record { answer = line.printed_view s; out = other }) → (r ≡ s) × (left ≡ other)
 outputs_one r s left other e = (printed_view_injective r s (ap (λ (o : line.PrintEffect). o.answer) e), ap (λ (o : line.PrintEffect). o.out) e)
 
-output_some : (o : line.PrintEffect) → (r : Printed) × (left : List ℕ) × (record { answer = line.printed_view r; out = left } ≡ o)
-output_some o = (printed_of o.answer, o.out, λ i. record { answer = answer_is o.answer i; out = o.out })
+output_some : (text out : List ℕ) → (r : Result ℕ Reason) × (left : List ℕ) × (record { answer = line.printed_view r; out = left } ≡ printed text out)
+unfolding printed
+output_some text out = by (ltb (length out) (length text))
+  where
+    by : (b : Bool)
+        → (r : Result ℕ Reason) × (left : List ℕ)
+        × (record { answer = line.printed_view r; out = left }
+        ≡ cond b (line.refusal buffer_too_short out) (record { answer = line.wrote (length text); out = text ++ drop (length text) out }))
+    by true = (Err reason.BufferTooShort, out, refl)
+    by false = (Ok (length text), text ++ drop (length text) out, refl)
 
 -- `planfile::reader::read`.
-pub one_reading_lem : (file table : List ℕ) (r s : PlanRead) (left other : List ℕ) → Reads file table r left → Reads file table s other
+pub one_reading_lem : (file table : List ℕ) (r s : Result Plan ReadFault) (left other : List ℕ) → Reads file table r left → Reads file table s other
     → (r ≡ s) × (left ≡ other)
 one_reading_lem file table r s left other d e = read_view_injective r s left other (d ∙ sym e)
 
-pub some_reading : (file table : List ℕ) → (r : PlanRead) × (left : List ℕ) × Reads file table r left
-unfolding reader
-some_reading file table = by (ltb (length table) places) (read_file file)
-  where
-    by : (b : Bool) (s : Parsed Contents)
-        → (r : PlanRead) × (left : List ℕ)
-        × (read_view r left ≡ cond b (record { answer = buffer_too_short ∷ []; plan = no_plan; table = table }) (leaves s table))
-    by true s = (record { answer = read_answer.TooShort; plan = no_plan }, table, refl)
-    by false (got held end) = (record { answer = read_answer.Read; plan = held.plan }, held.table ++ drop places table, refl)
-    by false (no refusal) = (record { answer = read_answer.Refused refusal; plan = no_plan }, replicate places 0 ++ drop places table, refl)
+pub some_reading : (file table : List ℕ) → (r : Result Plan ReadFault) × (left : List ℕ) × Reads file table r left
+some_reading file table = reading_some file_reasons file table (file_only file)
 
 -- `planfile::lookup::name_of`.
 pub one_name : (file : List ℕ) (position : ℕ) (part other : List ℕ) → Shows file position part → Shows file position other → part ≡ other
@@ -133,38 +123,45 @@ pub some_name : (file : List ℕ) (position : ℕ) → (part : List ℕ) × Show
 some_name file position = (name_shown file position, refl)
 
 -- `planwriter::writer::write`.
-pub one_writing : (p : Plan) (table out : List ℕ) (r s : Written) (left other : List ℕ) → Writes p table out r left
+pub one_writing : (p : Plan) (table out : List ℕ) (r s : Result ℕ Reason) (left other : List ℕ) → Writes p table out r left
     → Writes p table out s other → (r ≡ s) × (left ≡ other)
 one_writing p table out r s left other d e = write_view_injective r s left other (d ∙ sym e)
 
-pub some_writing : (p : Plan) (table out : List ℕ) → (r : Written) × (left : List ℕ) × Writes p table out r left
+pub some_writing : (p : Plan) (table out : List ℕ) → (r : Result ℕ Reason) × (left : List ℕ) × Writes p table out r left
 some_writing p table out = by (writer p table out).answer refl
   where
-    by : (a : writing.Answer) → (writer p table out).answer ≡ a → (r : Written) × (left : List ℕ) × Writes p table out r left
-    by (writing.wrote n) e = (write-answer.Length n, (writer p table out).out, λ i. record { answer = sym e i; out = (writer p table out).out })
-    by (writing.refused n) e = (write-answer.Refused n, (writer p table out).out, λ i. record { answer = sym e i; out = (writer p table out).out })
+    by : (a : writing.Answer) → (writer p table out).answer ≡ a → (r : Result ℕ Reason) × (left : List ℕ) × Writes p table out r left
+    by (writing.wrote n) e = (Ok n, (writer p table out).out, λ i. record { answer = sym e i; out = (writer p table out).out })
+    by (writing.refused n) e =
+        let s = number_some (reason.Unsound ∷ reason.BufferTooShort ∷ []) n (writer_numbers p table out n e) in
+        (Err s.0, (writer p table out).out, λ i. record { answer = (ap writing.refused s.1 ∙ sym e) i; out = (writer p table out).out })
 
 -- `judge::judge`.
-pub one_verdict : (p : Plan) (table : List ℕ) (r s : Verdict) → Judges p table r → Judges p table s → r ≡ s
+pub one_verdict : (p : Plan) (table : List ℕ) (r s : Result (Unit {0}) Fault) → Judges p table r → Judges p table s → r ≡ s
 one_verdict p table r s d e = verdict_view_injective r s (d ∙ sym e)
 
-pub some_verdict : (p : Plan) (table : List ℕ) → (r : Verdict) × Judges p table r
+pub some_verdict : (p : Plan) (table : List ℕ) → (r : Result (Unit {0}) Fault) × Judges p table r
 some_verdict p table = by (judged p table) (every_place_is_the_first p table)
   where
-    by : (l : Report) → Decided p table l → (r : Verdict) × (verdict_view r ≡ l)
-    by _ (short _) = (BufferTooShort, refl)
-    by _ (bad _ _) = (Unsound, refl)
-    by _ (outside _ i j _ _ _ _ _) = (OutsideWindow i j, refl)
-    by _ (wrong _ _ i _ _ _) = (WrongTotal i, refl)
-    by _ (over _ _ _ j _ _ _) = (OverCapacity j, refl)
-    by _ (below _ _ _ _ l m _ _ _ _ _ _) = (BelowFloor l (record { 0 = _ }), refl)
-    by _ (accepted _ _ _ _ _) = (Accepted, refl)
+    by : (l : Report) → Decided p table l → (r : Result (Unit {0}) Fault) × (verdict_view r ≡ l)
+    by _ (short _) = (Err BufferTooShort, refl)
+    by _ (bad _ _) = (Err Unsound, refl)
+    by _ (outside _ i j _ _ _ _ _) = (Err (OutsideWindow i j), refl)
+    by _ (wrong _ _ i _ _ _) = (Err (WrongTotal i), refl)
+    by _ (over _ _ _ j _ _ _) = (Err (OverCapacity j), refl)
+    by _ (below _ _ _ _ l m _ _ _ _ _ _) = (Err (BelowFloor l (record { 0 = _ })), refl)
+    by _ (accepted _ _ _ _ _) = (Ok tt, refl)
+
+-- A verdict whose view is a refusal is a fault.
+fault_of : (r : Result (Unit {0}) Fault) (number : ℕ) (place : Report) → verdict_view r ≡ number ∷ place → (f : Fault) × (report_of f ≡ number ∷ place)
+fault_of (Ok done) number place e = absurd (let z : ◌≡◌ {A = ℕ} 0 1 = cc in omega arith)
+fault_of (Err f) number place e = (f, e)
 
 -- `judge::figure::slack`.
-pub one_figure : (p : Plan) (table : List ℕ) (r s : Slack) → Measures p table r → Measures p table s → r ≡ s
+pub one_figure : (p : Plan) (table : List ℕ) (r s : Result (Option Least) Fault) → Measures p table r → Measures p table s → r ≡ s
 one_figure p table r s d e = slack_view_injective r s (d ∙ sym e)
 
-pub some_figure : (p : Plan) (table : List ℕ) → (r : Slack) × Measures p table r
+pub some_figure : (p : Plan) (table : List ℕ) → (r : Result (Option Least) Fault) × Measures p table r
 unfolding judged slack_figure
 some_figure p table = by (or_else (hand_fault p table) (constraint_fault p table)) refl
   where
@@ -175,16 +172,17 @@ some_figure p table = by (or_else (hand_fault p table) (constraint_fault p table
     never : {A : Type 0} (l : Report) → least_slack p table ≡ refused l → A
     never l e = absurd (rw e at (first_of_all p table).reached)
 
-    measured : (f : Figure) → least_slack p table ≡ f → (r : Slack) × (slack_view r ≡ f)
-    measured none_essential e = (NoneEssential, refl)
-    measured (least s l D) e = (Least s l (record { 0 = D }), refl)
+    measured : (f : Figure) → least_slack p table ≡ f → (r : Result (Option Least) Fault) × (slack_view r ≡ f)
+    measured none_essential e = (Ok None, refl)
+    measured (least s l D) e = (Ok (Some (record { slack = s; interval = l; deadline = record { 0 = D } })), refl)
     measured (refused l) e = never l e
 
-    by : (l : Report) → or_else (hand_fault p table) (constraint_fault p table) ≡ l → (r : Slack) × (slack_view r ≡ unless l (least_slack p table))
+    by : (l : Report) → or_else (hand_fault p table) (constraint_fault p table) ≡ l → (r : Result (Option Least) Fault) × (slack_view r ≡ unless l (least_slack p table))
     by [] e = measured (least_slack p table) refl
     by (number ∷ rest) e =
         let v = some_verdict p table in
-        (Refused v.0, ap refused (v.1 ∙ whole (hand_fault p table) (constraint_fault p table) (floor_fault p table) ∙ ap (λ l. or_else l (floor_fault p table)) e))
+        let f = fault_of v.0 number rest (v.1 ∙ whole (hand_fault p table) (constraint_fault p table) (floor_fault p table) ∙ ap (λ l. or_else l (floor_fault p table)) e) in
+        (Err f.0, ap refused f.1)
 
 -- `judge::figure::slack_of`.
 pub one_slack : (p : Plan) (table : List ℕ) (interval : ℕ) (deadline : Slots) (r s : ℤ) → MeasuresPair p table interval deadline r
@@ -195,122 +193,145 @@ pub some_slack : (p : Plan) (table : List ℕ) (interval : ℕ) (deadline : Slot
 some_slack p table interval deadline = (slack_of p table interval deadline.0, refl)
 
 -- `dispatch::start::start`.
-pub one_start : (p : Plan) (table : List ℕ) (r s : Started) → Starts p table r → Starts p table s → r ≡ s
-one_start p table r s d e =
-    let verdicts = verdict_view_injective r.verdict s.verdict (d.0 ∙ sym e.0) in
-    let runs = d.1 ∙ sym e.1 in
-    λ i. record { verdict = verdicts i; run = runs i }
+pub one_start : (p : Plan) (table : List ℕ) (r s : Result Run Fault) → Starts p table r → Starts p table s → r ≡ s
+one_start p table r s d e = by r s (d.0 ∙ sym e.0) (d.1 ∙ sym e.1)
+  where
+    by : (r s : Result Run Fault) → verdict_view r ≡ verdict_view s → result_unwrap_or r no_run ≡ result_unwrap_or s no_run → r ≡ s
+    by (Ok a) (Ok b) view run = ap Ok run
+    by (Ok a) (Err g) view run = let z = verdict_view_injective (Ok tt) (Err g) view in absurd (let z : ◌≡◌ {A = ℕ} 0 1 = cc in omega arith)
+    by (Err f) (Ok b) view run = let z = verdict_view_injective (Err f) (Ok tt) view in absurd (let z : ◌≡◌ {A = ℕ} 0 1 = cc in omega arith)
+    by (Err f) (Err g) view run = let same = verdict_view_injective (Err f) (Err g) view in ap Err (cc)
 
-pub some_start : (p : Plan) (table : List ℕ) → (r : Started) × Starts p table r
-some_start p table =
-    let v = some_verdict p table in
-    (record { verdict = v.0; run = start_from (judged p table) (started p) no_run }, (v.1, refl))
+pub some_start : (p : Plan) (table : List ℕ) → (r : Result Run Fault) × Starts p table r
+some_start p table = by (some_verdict p table).0 (some_verdict p table).1
+  where
+    none : (f : Fault) → no_run ≡ start_from (report_of f) (started p) no_run
+    none BufferTooShort = refl
+    none Unsound = refl
+    none (OutsideWindow i j) = refl
+    none (WrongTotal i) = refl
+    none (OverCapacity j) = refl
+    none (BelowFloor l D) = refl
+
+    by : (v : Result (Unit {0}) Fault) → verdict_view v ≡ judged p table → (r : Result Run Fault) × Starts p table r
+    by (Ok done) e = (Ok (started p), (e, ap (λ l. start_from l (started p) no_run) e))
+    by (Err f) e = (Err f, (e, none f ∙ ap (λ l. start_from l (started p) no_run) e))
 
 -- `dispatch::step::step`.
-pub one_step : (p : Plan) (table : List ℕ) (run : Run) (v : ℕ) (grants : List ℕ) (r s : Stepped) (left other : List ℕ)
+pub one_step : (p : Plan) (table : List ℕ) (run : Run) (v : ℕ) (grants : List ℕ) (r s : Result Run Reason) (left other : List ℕ)
     → Steps p table run v grants r left → Steps p table run v grants s other → (r ≡ s) × (left ≡ other)
 one_step p table run v grants r s left other d e =
     let same = d ∙ sym e in
-    let answers = answer_view_injective r.answer s.answer (ap (λ (x : SlotEffect). x.answer) same) in
-    let runs = ap (λ (x : SlotEffect). x.run) same in
-    (λ i. record { answer = answers i; run = runs i }, ap (λ (x : SlotEffect). x.grants) same)
+    (answer_view_injective run r s (ap (λ (x : SlotEffect). x.answer) same) (ap (λ (x : SlotEffect). x.run) same), ap (λ (x : SlotEffect). x.grants) same)
+
+-- An answer that tells what is left, where a refusal leaves what went in.
+telling_left : {A : Type 0} (was left : A) (report : Report) (a : Result (Unit {0}) Reason) → slot.answer_view a ≡ report
+    → ((number : ℕ) (rest : Report) → report ≡ number ∷ rest → left ≡ was)
+    → (r : Result A Reason) × (slot.answer_view r ≡ report) × (result_unwrap_or r was ≡ left)
+telling_left was left report (Ok done) e stays = (Ok left, e, refl)
+telling_left was left report (Err k) e stays = (Err k, e, sym (stays (number_of k) [] (sym e)))
 
 -- The report of a slot's call is the view of an answer.
 one_number : (p : Plan) (table : List ℕ) (run : Run) (v : ℕ) (grants : List ℕ)
-    → (a : Answer) × (slot.answer_view a ≡ (stepped p table run v grants).answer)
+    → (a : Result (Unit {0}) Reason) × (slot.answer_view a ≡ (stepped p table run v grants).answer)
 unfolding slot_fault
 one_number p table run v grants =
     let a = by (not (slot_sound p run)) (ltb (length table) places || ltb (length grants) (counted p)) (eqb run.clock.0 (last_deadline p)) (ltb p.n.0 v) in
     (a.0, a.1 ∙ sym (slot_answer p table run v grants))
   where
     by : (a b c d : Bool)
-        → (r : Answer)
+        → (r : Result (Unit {0}) Reason)
         × (slot.answer_view r
         ≡ or_else (fault a (unsound ∷ []))
         (or_else (fault b (buffer_too_short ∷ [])) (or_else (fault c (clock_at_end ∷ [])) (fault d (speed_above_normal ∷ [])))))
-    by true b c d = (slot_answer.Refused unsound, refl)
-    by false true c d = (slot_answer.Refused buffer_too_short, refl)
-    by false false true d = (slot_answer.Refused clock_at_end, refl)
-    by false false false true = (slot_answer.Refused speed_above_normal, refl)
-    by false false false false = (slot_answer.Done, refl)
+    by true b c d = (Err reason.Unsound, refl)
+    by false true c d = (Err reason.BufferTooShort, refl)
+    by false false true d = (Err reason.ClockAtEnd, refl)
+    by false false false true = (Err reason.SpeedAboveNormal, refl)
+    by false false false false = (Ok tt, refl)
 
 pub some_step : (p : Plan) (table : List ℕ) (run : Run) (v : ℕ) (grants : List ℕ)
-    → (r : Stepped) × (left : List ℕ) × Steps p table run v grants r left
+    → (r : Result Run Reason) × (left : List ℕ) × Steps p table run v grants r left
 some_step p table run v grants =
     let s = stepped p table run v grants in
     let a = one_number p table run v grants in
-    (record { answer = a.0; run = s.run }, s.grants, λ i. record { answer = a.1 i; run = s.run; grants = s.grants })
+    let r = telling_left run s.run s.answer a.0 a.1 (λ number rest e. (refused_changes_nothing p table run v grants number rest e).0) in
+    (r.0, s.grants, λ i. record { answer = r.1 i; run = r.2 i; grants = s.grants })
+
+-- Answers that tell nothing but the refusal are told by their views.
+answered_one : (r s : Result (Unit {0}) Reason) → slot.answer_view r ≡ slot.answer_view s → r ≡ s
+answered_one r s e = answer_view_injective tt r s e refl
 
 -- `lentrun::step_in`.
-pub one_step_in : (run : Run) (p : Plan) (table : List ℕ) (v : ℕ) (grants : List ℕ) (r s : Answer) (after later : Run) (left other : List ℕ)
+pub one_step_in : (run : Run) (p : Plan) (table : List ℕ) (v : ℕ) (grants : List ℕ) (r s : Result (Unit {0}) Reason) (after later : Run) (left other : List ℕ)
     → StepsIn run p table v grants r after left → StepsIn run p table v grants s later other → (r ≡ s) × (after ≡ later) × (left ≡ other)
 one_step_in run p table v grants r s after later left other d e =
     let same = d ∙ sym e in
-    (answer_view_injective r s (ap (λ (x : SlotEffect). x.answer) same), ap (λ (x : SlotEffect). x.run) same, ap (λ (x : SlotEffect). x.grants) same)
+    (answered_one r s (ap (λ (x : SlotEffect). x.answer) same), ap (λ (x : SlotEffect). x.run) same, ap (λ (x : SlotEffect). x.grants) same)
 
 pub some_step_in : (run : Run) (p : Plan) (table : List ℕ) (v : ℕ) (grants : List ℕ)
-    → (r : Answer) × (after : Run) × (left : List ℕ) × StepsIn run p table v grants r after left
+    → (r : Result (Unit {0}) Reason) × (after : Run) × (left : List ℕ) × StepsIn run p table v grants r after left
 some_step_in run p table v grants =
     let s = stepped p table run v grants in
     let a = one_number p table run v grants in
     (a.0, s.run, s.grants, λ i. record { answer = a.1 i; run = s.run; grants = s.grants })
 
 -- `lentrun::start_in`.
-pub one_start_in : (was : Run) (p : Plan) (table : List ℕ) (r s : Verdict) (after later : Run) → StartsIn was p table r after
+pub one_start_in : (was : Run) (p : Plan) (table : List ℕ) (r s : Result (Unit {0}) Fault) (after later : Run) → StartsIn was p table r after
     → StartsIn was p table s later → (r ≡ s) × (after ≡ later)
 one_start_in was p table r s after later d e = (verdict_view_injective r s (d.0 ∙ sym e.0), d.1 ∙ sym e.1)
 
-pub some_start_in : (was : Run) (p : Plan) (table : List ℕ) → (r : Verdict) × (after : Run) × StartsIn was p table r after
+pub some_start_in : (was : Run) (p : Plan) (table : List ℕ) → (r : Result (Unit {0}) Fault) × (after : Run) × StartsIn was p table r after
 some_start_in was p table = let v = some_verdict p table in (v.0, start_in p table was, (v.1, refl))
 
 -- `dispatch::outcome::outcome`.
-pub one_outcome : (p : Plan) (run : Run) (position : ℕ) (r s : Outcome) → Ends p run position r → Ends p run position s → r ≡ s
+pub one_outcome : (p : Plan) (run : Run) (position : ℕ) (r s : Result Outcome Reason) → Ends p run position r → Ends p run position s → r ≡ s
 one_outcome p run position r s d e = outcome_view_injective r s (d ∙ sym e)
 
-pub some_outcome : (p : Plan) (run : Run) (position : ℕ) → (r : Outcome) × Ends p run position r
-some_outcome p run position = by (outcome p run position)
+pub some_outcome : (p : Plan) (run : Run) (position : ℕ) → (r : Result Outcome Reason) × Ends p run position r
+some_outcome p run position = by (outcome p run position) refl
   where
-    by : (e : Ending) → (r : Outcome) × (outcome_view r ≡ e)
-    by step.met = (ends.Met, refl)
-    by step.ended_early = (ends.Ended, refl)
-    by step.discarded = (ends.Discarded, refl)
-    by step.missed = (ends.Missed, refl)
-    by step.still_open = (ends.Open, refl)
-    by (step.refused number) = (ends.Refused number, refl)
+    by : (e : Ending) → outcome p run position ≡ e → (r : Result Outcome Reason) × (outcome_view r ≡ e)
+    by step.met e = (Ok ends.Met, refl)
+    by step.ended_early e = (Ok ends.Ended, refl)
+    by step.discarded e = (Ok ends.Discarded, refl)
+    by step.missed e = (Ok ends.Missed, refl)
+    by step.still_open e = (Ok ends.Open, refl)
+    by (step.refused number) e = (Err reason.Unsound, ap step.refused (sym (outcome_numbers p run position number e)))
 
 -- `dispatch::step::slot_over`: the promise holds for every plan with the columns, and there is one.
-pub one_slot_over : (o : Outline) (grades releases sizes deadlines table : List ℕ) (at : Moment) (v : ℕ) (marks : List Bool) (carried grants : List ℕ) (r s : Slot)
-    (after later left other : List ℕ) → StepsOver o grades releases sizes deadlines table at v marks carried grants r after left
-    → StepsOver o grades releases sizes deadlines table at v marks carried grants s later other → (r ≡ s) × (after ≡ later) × (left ≡ other)
-one_slot_over o grades releases sizes deadlines table at v marks carried grants r s after later left other d e =
-    let p = plan_on o grades releases sizes deadlines in
-    let own = own_columns grades releases sizes deadlines o in
+pub one_slot_over : (cols : Columns) (table : List ℕ) (at : Moment) (v : ℕ) (marks : List Bool) (carried grants : List ℕ) (r s : Result Moment Reason)
+    (after later left other : List ℕ) → StepsOver cols table at v marks carried grants r after left
+    → StepsOver cols table at v marks carried grants s later other → (r ≡ s) × (after ≡ later) × (left ≡ other)
+one_slot_over cols table at v marks carried grants r s after later left other d e =
+    let p = plan_on cols in
+    let own = own_columns cols in
     let same = d p own ∙ sym (e p own) in
-    let answers = answer_view_injective r.answer s.answer (ap (λ (x : SlotEffect). x.answer) same) in
     let runs = ap (λ (x : SlotEffect). x.run) same in (
-      λ i. record { answer = answers i; next = record { clock = (runs i).clock; slow = (runs i).slow; below = (runs i).below } },
+      answer_view_injective at r s (ap (λ (x : SlotEffect). x.answer) same) (ap moment_of runs),
       ap (λ (x : Run). x.carried) runs,
       ap (λ (x : SlotEffect). x.grants) same,
     )
 
-pub some_slot_over : (o : Outline) (grades releases sizes deadlines table : List ℕ) (at : Moment) (v : ℕ) (marks : List Bool) (carried grants : List ℕ)
-    → (r : Slot) × (after left : List ℕ) × StepsOver o grades releases sizes deadlines table at v marks carried grants r after left
-some_slot_over o grades releases sizes deadlines table at v marks carried grants =
-    let p = plan_on o grades releases sizes deadlines in
+pub some_slot_over : (cols : Columns) (table : List ℕ) (at : Moment) (v : ℕ) (marks : List Bool) (carried grants : List ℕ)
+    → (r : Result Moment Reason) × (after left : List ℕ) × StepsOver cols table at v marks carried grants r after left
+some_slot_over cols table at v marks carried grants =
+    let p = plan_on cols in
     let run = run_at at carried marks in
     let s = stepped p table run v grants in
-    let a = one_number p table run v grants in (
-      record { answer = a.0; next = record { clock = s.run.clock; slow = s.run.slow; below = s.run.below } },
+    let a = one_number p table run v grants in
+    let r = telling_left at (moment_of s.run) s.answer a.0 a.1 (λ number rest e. ap moment_of (refused_changes_nothing p table run v grants number rest e).0) in (
+      r.0,
       s.run.carried,
       s.grants,
-      λ q cols.
-          (λ i. record { answer = a.1 i; run = run_at (moment_of s.run) s.run.carried (sym (slot_keeps_ended p table run v grants) i); grants = s.grants })
-          ∙ sym (alike_slot q table p table (columns_alike grades releases sizes deadlines o q table cols) run v grants),
+      λ q has.
+          (λ i. record { answer = r.1 i; run = run_at (r.2 i) s.run.carried (sym (slot_keeps_ended p table run v grants) i); grants = s.grants })
+          ∙ sym (alike_slot q table p table (columns_alike cols q table has) run v grants),
     )
 
 -- The report of a shift is the view of an answer.
 one_shift_number : (p : Plan) (table : List ℕ) (run : Run) (speeds rows numbers : List ℕ)
-    → (a : Answer) × (slot.answer_view a ≡ (shifted p table run speeds rows numbers).answer)
+    → (a : Result (Unit {0}) Reason) × (slot.answer_view a ≡ (shifted p table run speeds rows numbers).answer)
 unfolding shift_fault
 one_shift_number p table run speeds rows numbers =
     let a = by (not (slot_sound p run)) (ltb most_speeds (length speeds))
@@ -318,171 +339,171 @@ one_shift_number p table run speeds rows numbers =
     (a.0, a.1 ∙ sym (shift_answer p table run speeds rows numbers))
   where
     by : (a b c : Bool)
-        → (r : Answer)
+        → (r : Result (Unit {0}) Reason)
         × (slot.answer_view r ≡ or_else (fault a (unsound ∷ [])) (or_else (fault b (too_many_speeds ∷ [])) (fault c (buffer_too_short ∷ []))))
-    by true b c = (slot_answer.Refused unsound, refl)
-    by false true c = (slot_answer.Refused too_many_speeds, refl)
-    by false false true = (slot_answer.Refused buffer_too_short, refl)
-    by false false false = (slot_answer.Done, refl)
+    by true b c = (Err reason.Unsound, refl)
+    by false true c = (Err reason.TooManySpeeds, refl)
+    by false false true = (Err reason.BufferTooShort, refl)
+    by false false false = (Ok tt, refl)
 
 -- `dispatch::shift::shift`.
-pub one_shift : (p : Plan) (table : List ℕ) (run : Run) (speeds rows numbers : List ℕ) (r s : Stepped) (filled other told untold : List ℕ)
+pub one_shift : (p : Plan) (table : List ℕ) (run : Run) (speeds rows numbers : List ℕ) (r s : Result Run Reason) (filled other told untold : List ℕ)
     → Shifts p table run speeds rows numbers r filled told → Shifts p table run speeds rows numbers s other untold
     → (r ≡ s) × (filled ≡ other) × (told ≡ untold)
 one_shift p table run speeds rows numbers r s filled other told untold d e =
-    let same = d ∙ sym e in
-    let answers = answer_view_injective r.answer s.answer (ap (λ (x : ShiftEffect). x.answer) same) in
-    let runs = ap (λ (x : ShiftEffect). x.run) same in
-    (λ i. record { answer = answers i; run = runs i }, ap (λ (x : ShiftEffect). x.rows) same, ap (λ (x : ShiftEffect). x.numbers) same)
+    let same = d ∙ sym e in (
+      answer_view_injective run r s (ap (λ (x : ShiftEffect). x.answer) same) (ap (λ (x : ShiftEffect). x.run) same),
+      ap (λ (x : ShiftEffect). x.rows) same,
+      ap (λ (x : ShiftEffect). x.numbers) same,
+    )
 
 pub some_shift : (p : Plan) (table : List ℕ) (run : Run) (speeds rows numbers : List ℕ)
-    → (r : Stepped) × (filled told : List ℕ) × Shifts p table run speeds rows numbers r filled told
+    → (r : Result Run Reason) × (filled told : List ℕ) × Shifts p table run speeds rows numbers r filled told
 some_shift p table run speeds rows numbers =
     let s = shifted p table run speeds rows numbers in
     let a = one_shift_number p table run speeds rows numbers in
-    (record { answer = a.0; run = s.run }, s.rows, s.numbers, λ i. record { answer = a.1 i; run = s.run; rows = s.rows; numbers = s.numbers })
+    let r = telling_left run s.run s.answer a.0 a.1 (λ number rest e. ap (λ (x : ShiftEffect). x.run) (refused_shift_changes_nothing p table run speeds rows numbers number rest e)) in
+    (r.0, s.rows, s.numbers, λ i. record { answer = r.1 i; run = r.2 i; rows = s.rows; numbers = s.numbers })
 
 -- `lentrun::shift_in`.
-pub one_shift_in : (run : Run) (p : Plan) (table speeds rows numbers : List ℕ) (r s : Answer) (after later : Run) (filled other told untold : List ℕ)
+pub one_shift_in : (run : Run) (p : Plan) (table speeds rows numbers : List ℕ) (r s : Result (Unit {0}) Reason) (after later : Run) (filled other told untold : List ℕ)
     → ShiftsIn run p table speeds rows numbers r after filled told → ShiftsIn run p table speeds rows numbers s later other untold
     → (r ≡ s) × (after ≡ later) × (filled ≡ other) × (told ≡ untold)
 one_shift_in run p table speeds rows numbers r s after later filled other told untold d e =
     let same = d ∙ sym e in (
-      answer_view_injective r s (ap (λ (x : ShiftEffect). x.answer) same),
+      answered_one r s (ap (λ (x : ShiftEffect). x.answer) same),
       ap (λ (x : ShiftEffect). x.run) same,
       ap (λ (x : ShiftEffect). x.rows) same,
       ap (λ (x : ShiftEffect). x.numbers) same,
     )
 
 pub some_shift_in : (run : Run) (p : Plan) (table speeds rows numbers : List ℕ)
-    → (r : Answer) × (after : Run) × (filled told : List ℕ) × ShiftsIn run p table speeds rows numbers r after filled told
+    → (r : Result (Unit {0}) Reason) × (after : Run) × (filled told : List ℕ) × ShiftsIn run p table speeds rows numbers r after filled told
 some_shift_in run p table speeds rows numbers =
     let s = shifted p table run speeds rows numbers in
     let a = one_shift_number p table run speeds rows numbers in
     (a.0, s.run, s.rows, s.numbers, λ i. record { answer = a.1 i; run = s.run; rows = s.rows; numbers = s.numbers })
 
 -- `dispatch::shift::shift_over`: the promise holds for every plan with the columns, and there is one.
-pub one_shift_over : (o : Outline) (grades releases sizes deadlines table : List ℕ) (at : Moment) (speeds : List ℕ) (marks : List Bool) (carried rows numbers : List ℕ) (r s : Slot)
-    (after later filled other told untold : List ℕ) → ShiftsOver o grades releases sizes deadlines table at speeds marks carried rows numbers r after filled told
-    → ShiftsOver o grades releases sizes deadlines table at speeds marks carried rows numbers s later other untold
+pub one_shift_over : (cols : Columns) (table : List ℕ) (at : Moment) (speeds : List ℕ) (marks : List Bool) (carried rows numbers : List ℕ) (r s : Result Moment Reason)
+    (after later filled other told untold : List ℕ) → ShiftsOver cols table at speeds marks carried rows numbers r after filled told
+    → ShiftsOver cols table at speeds marks carried rows numbers s later other untold
     → (r ≡ s) × (after ≡ later) × (filled ≡ other) × (told ≡ untold)
-one_shift_over o grades releases sizes deadlines table at speeds marks carried rows numbers r s after later filled other told untold d e =
-    let p = plan_on o grades releases sizes deadlines in
-    let own = own_columns grades releases sizes deadlines o in
+one_shift_over cols table at speeds marks carried rows numbers r s after later filled other told untold d e =
+    let p = plan_on cols in
+    let own = own_columns cols in
     let same = d p own ∙ sym (e p own) in
-    let answers = answer_view_injective r.answer s.answer (ap (λ (x : ShiftEffect). x.answer) same) in
     let runs = ap (λ (x : ShiftEffect). x.run) same in (
-      λ i. record { answer = answers i; next = record { clock = (runs i).clock; slow = (runs i).slow; below = (runs i).below } },
+      answer_view_injective at r s (ap (λ (x : ShiftEffect). x.answer) same) (ap moment_of runs),
       ap (λ (x : Run). x.carried) runs,
       ap (λ (x : ShiftEffect). x.rows) same,
       ap (λ (x : ShiftEffect). x.numbers) same,
     )
 
-pub some_shift_over : (o : Outline) (grades releases sizes deadlines table : List ℕ) (at : Moment) (speeds : List ℕ) (marks : List Bool) (carried rows numbers : List ℕ)
-    → (r : Slot) × (after filled told : List ℕ) × ShiftsOver o grades releases sizes deadlines table at speeds marks carried rows numbers r after filled told
-some_shift_over o grades releases sizes deadlines table at speeds marks carried rows numbers =
-    let p = plan_on o grades releases sizes deadlines in
+pub some_shift_over : (cols : Columns) (table : List ℕ) (at : Moment) (speeds : List ℕ) (marks : List Bool) (carried rows numbers : List ℕ)
+    → (r : Result Moment Reason) × (after filled told : List ℕ) × ShiftsOver cols table at speeds marks carried rows numbers r after filled told
+some_shift_over cols table at speeds marks carried rows numbers =
+    let p = plan_on cols in
     let run = run_at at carried marks in
     let s = shifted p table run speeds rows numbers in
     let a = one_shift_number p table run speeds rows numbers in
     let kept : s.run.ended ≡ marks
-    = shift_keeps p table (λ r. r.ended ≡ marks) (λ r v grants e. slot_keeps_ended p table r v grants ∙ e) run speeds rows numbers refl in (
-      record { answer = a.0; next = record { clock = s.run.clock; slow = s.run.slow; below = s.run.below } },
+    = shift_keeps p table (λ r. r.ended ≡ marks) (λ r v grants e. slot_keeps_ended p table r v grants ∙ e) run speeds rows numbers refl in
+    let r = telling_left at (moment_of s.run) s.answer a.0 a.1
+    (λ number rest e. ap (λ (x : ShiftEffect). moment_of x.run) (refused_shift_changes_nothing p table run speeds rows numbers number rest e)) in (
+      r.0,
       s.run.carried,
       s.rows,
       s.numbers,
-      λ q cols.
-          (λ i. record { answer = a.1 i; run = run_at (moment_of s.run) s.run.carried (sym kept i); rows = s.rows; numbers = s.numbers })
-          ∙ sym (alike_shift q table p table (columns_alike grades releases sizes deadlines o q table cols) run speeds rows numbers),
+      λ q has.
+          (λ i. record { answer = r.1 i; run = run_at (r.2 i) s.run.carried (sym kept i); rows = s.rows; numbers = s.numbers })
+          ∙ sym (alike_shift q table p table (columns_alike cols q table has) run speeds rows numbers),
     )
 
 -- The report of the word that a job has ended is the view of an answer.
-one_word_number : (p : Plan) (run : Run) (position : ℕ) → (a : Answer) × (slot.answer_view a ≡ (told_ended p run position).answer)
+one_word_number : (p : Plan) (run : Run) (position : ℕ) → (a : Result (Unit {0}) Reason) × (slot.answer_view a ≡ (told_ended p run position).answer)
 unfolding end_fault
 one_word_number p run position =
     let a = by (not (slot_sound p run)) (not (ltb position p.count)) (ltb run.clock.0 (release p position) || not (is_open (outcome p run position))) in
     (a.0, a.1 ∙ sym (word_answer p run position))
   where
     by : (a b c : Bool)
-        → (r : Answer)
+        → (r : Result (Unit {0}) Reason)
         × (slot.answer_view r ≡ or_else (fault a (unsound ∷ [])) (or_else (fault b (no_such_job ∷ [])) (fault c (cannot_end ∷ []))))
-    by true b c = (slot_answer.Refused unsound, refl)
-    by false true c = (slot_answer.Refused no_such_job, refl)
-    by false false true = (slot_answer.Refused cannot_end, refl)
-    by false false false = (slot_answer.Done, refl)
+    by true b c = (Err reason.Unsound, refl)
+    by false true c = (Err reason.NoSuchJob, refl)
+    by false false true = (Err reason.CannotEnd, refl)
+    by false false false = (Ok tt, refl)
 
 -- `dispatch::early::end_early`.
-pub one_end_early : (p : Plan) (run : Run) (position : ℕ) (r s : Told) → Tells p run position r → Tells p run position s → r ≡ s
+pub one_end_early : (p : Plan) (run : Run) (position : ℕ) (r s : Result Run Reason) → Tells p run position r → Tells p run position s → r ≡ s
 one_end_early p run position r s d e =
     let same = d ∙ sym e in
-    let answers = answer_view_injective r.answer s.answer (ap (λ (x : WordEffect). x.answer) same) in
-    let runs = ap (λ (x : WordEffect). x.run) same in
-    λ i. record { answer = answers i; run = runs i }
+    answer_view_injective run r s (ap (λ (x : WordEffect). x.answer) same) (ap (λ (x : WordEffect). x.run) same)
 
-pub some_end_early : (p : Plan) (run : Run) (position : ℕ) → (r : Told) × Tells p run position r
+pub some_end_early : (p : Plan) (run : Run) (position : ℕ) → (r : Result Run Reason) × Tells p run position r
 some_end_early p run position =
     let t = told_ended p run position in
     let a = one_word_number p run position in
-    (record { answer = a.0; run = t.run }, λ i. record { answer = a.1 i; run = t.run })
+    let r = telling_left run t.run t.answer a.0 a.1 (refused_word_changes_nothing p run position) in
+    (r.0, λ i. record { answer = r.1 i; run = r.2 i })
 
 -- `dispatch::early::end_over`.
-pub one_end_over : (o : Outline) (grades releases sizes deadlines : List ℕ) (run : Run) (position : ℕ) (r s : Told)
-    → TellsOver o grades releases sizes deadlines run position r → TellsOver o grades releases sizes deadlines run position s → r ≡ s
-one_end_over o grades releases sizes deadlines run position r s d e =
-    let own = own_columns grades releases sizes deadlines o in
-    one_end_early (plan_on o grades releases sizes deadlines) run position r s (d _ own) (e _ own)
+pub one_end_over : (cols : Columns) (run : Run) (position : ℕ) (r s : Result Run Reason)
+    → TellsOver cols run position r → TellsOver cols run position s → r ≡ s
+one_end_over cols run position r s d e =
+    let own = own_columns cols in
+    one_end_early (plan_on cols) run position r s (d _ own) (e _ own)
 
-pub some_end_over : (o : Outline) (grades releases sizes deadlines : List ℕ) (run : Run) (position : ℕ)
-    → (r : Told) × TellsOver o grades releases sizes deadlines run position r
-some_end_over o grades releases sizes deadlines run position =
-    let p = plan_on o grades releases sizes deadlines in
+pub some_end_over : (cols : Columns) (run : Run) (position : ℕ)
+    → (r : Result Run Reason) × TellsOver cols run position r
+some_end_over cols run position =
+    let p = plan_on cols in
     let one = some_end_early p run position in
-    (one.0, λ q cols. one.1 ∙ sym (alike_told q [] p [] (columns_alike grades releases sizes deadlines o q [] cols) run position))
+    (one.0, λ q has. one.1 ∙ sym (alike_told q [] p [] (columns_alike cols q [] has) run position))
 
 -- `lentrun::end_early_in`.
-pub one_end_in : (run : Run) (p : Plan) (position : ℕ) (r s : Answer) (after later : Run) → TellsIn run p position r after
+pub one_end_in : (run : Run) (p : Plan) (position : ℕ) (r s : Result (Unit {0}) Reason) (after later : Run) → TellsIn run p position r after
     → TellsIn run p position s later → (r ≡ s) × (after ≡ later)
 one_end_in run p position r s after later d e =
     let same = d ∙ sym e in
-    (answer_view_injective r s (ap (λ (x : WordEffect). x.answer) same), ap (λ (x : WordEffect). x.run) same)
+    (answered_one r s (ap (λ (x : WordEffect). x.answer) same), ap (λ (x : WordEffect). x.run) same)
 
-pub some_end_in : (run : Run) (p : Plan) (position : ℕ) → (r : Answer) × (after : Run) × TellsIn run p position r after
+pub some_end_in : (run : Run) (p : Plan) (position : ℕ) → (r : Result (Unit {0}) Reason) × (after : Run) × TellsIn run p position r after
 some_end_in run p position =
     let t = told_ended p run position in
     let a = one_word_number p run position in
     (a.0, t.run, λ i. record { answer = a.1 i; run = t.run })
 
 -- `dispatch::outcome::outcome_over`.
-pub one_outcome_over : (o : Outline) (grades releases sizes deadlines : List ℕ) (run : Run) (position : ℕ) (r s : Outcome)
-    → EndsOver o grades releases sizes deadlines run position r → EndsOver o grades releases sizes deadlines run position s → r ≡ s
-one_outcome_over o grades releases sizes deadlines run position r s d e =
-    let own = own_columns grades releases sizes deadlines o in
-    one_outcome (plan_on o grades releases sizes deadlines) run position r s (d _ own) (e _ own)
+pub one_outcome_over : (cols : Columns) (run : Run) (position : ℕ) (r s : Result Outcome Reason)
+    → EndsOver cols run position r → EndsOver cols run position s → r ≡ s
+one_outcome_over cols run position r s d e =
+    let own = own_columns cols in
+    one_outcome (plan_on cols) run position r s (d _ own) (e _ own)
 
-pub some_outcome_over : (o : Outline) (grades releases sizes deadlines : List ℕ) (run : Run) (position : ℕ)
-    → (r : Outcome) × EndsOver o grades releases sizes deadlines run position r
-some_outcome_over o grades releases sizes deadlines run position =
-    let p = plan_on o grades releases sizes deadlines in
+pub some_outcome_over : (cols : Columns) (run : Run) (position : ℕ)
+    → (r : Result Outcome Reason) × EndsOver cols run position r
+some_outcome_over cols run position =
+    let p = plan_on cols in
     let one = some_outcome p run position in
-    (one.0, λ q cols. one.1 ∙ sym (alike_outcome q [] p [] (columns_alike grades releases sizes deadlines o q [] cols) run position))
+    (one.0, λ q has. one.1 ∙ sym (alike_outcome q [] p [] (columns_alike cols q [] has) run position))
 
--- `plan::columns::columns_of`.
-pub one_columns : (p : Plan) (grades releases sizes deadlines : List ℕ) (r s : Bool) (g h a b x y d e : List ℕ)
-    → PutsColumns p grades releases sizes deadlines r g a x d → PutsColumns p grades releases sizes deadlines s h b y e
-    → (r ≡ s) × (g ≡ h) × (a ≡ b) × (x ≡ y) × (d ≡ e)
-one_columns p grades releases sizes deadlines r s g h a b x y d e one other =
-    (one.0 ∙ sym other.0, one.1 ∙ sym other.1, one.2 ∙ sym other.2, one.3 ∙ sym other.3, one.4 ∙ sym other.4)
+-- `plan::columns::Columns::put`.
+pub one_columns : (p : Plan) (cols : Columns) (r s : Result Unit Reason) (left other : Columns) → PutsColumns p cols r left → PutsColumns p cols s other
+    → (r ≡ s) × (left ≡ other)
+one_columns p cols r s left other one same = (one.0 ∙ sym same.0, one.1 ∙ sym same.1)
 
-pub some_columns : (p : Plan) (grades releases sizes deadlines : List ℕ)
-    → (r : Bool) × (g a x d : List ℕ) × PutsColumns p grades releases sizes deadlines r g a x d
-some_columns p grades releases sizes deadlines = (sizes_fit p, _, _, _, _, (refl, refl, refl, refl, refl))
+pub some_columns : (p : Plan) (cols : Columns) → (r : Result Unit Reason) × (left : Columns) × PutsColumns p cols r left
+some_columns p cols = (cond (sizes_fit p) (Ok tt) (Err reason.Unsound), columns_over p cols, (refl, refl))
 
 -- A plan with given releases and deadlines, made from columns.
-abbrev times_outline : ℕ → Outline
-times_outline count = record { n = record { 0 = 0 }; d = record { 0 = 0 }; count = count }
+abbrev times_columns : (count : ℕ) (releases deadlines : List ℕ) → Columns
+times_columns count releases deadlines =
+    record { n = record { 0 = 0 }; d = record { 0 = 0 }; count = count; grades = []; releases = releases; sizes = []; deadlines = deadlines }
 
 abbrev times_plan : (count : ℕ) (releases deadlines : List ℕ) → Plan
-times_plan count releases deadlines = plan_on (times_outline count) [] releases [] deadlines
+times_plan count releases deadlines = plan_on (times_columns count releases deadlines)
 
 -- Every boundary is at most a bound of all releases and deadlines.
 boundaries_bounded : (p : Plan) (b n : ℕ) → ((i : ℕ) → i < n → release p i ≤ b) → ((i : ℕ) → i < n → deadline p i ≤ b)
@@ -502,14 +523,14 @@ pub one_begun : (count : ℕ) (releases deadlines : List ℕ) (t r s : ℕ) → 
     → TellsBegun count releases deadlines t s → r ≡ s
 one_begun count releases deadlines t r s d e =
     let p = times_plan count releases deadlines in
-    let own = own_columns [] releases [] deadlines (times_outline count) in
+    let own = own_columns (times_columns count releases deadlines) in
     (d.1 p refl own.release own.deadline).0 ∙ sym (e.1 p refl own.release own.deadline).0
 
 pub some_begun : (count : ℕ) (releases deadlines : List ℕ) (t : ℕ) → ((i : ℕ) → get_or releases i 0 ≤ last_slot) → ((i : ℕ) → get_or deadlines i 0 ≤ last_slot)
     → (r : ℕ) × TellsBegun count releases deadlines t r
 some_begun count releases deadlines t early due =
     let p = times_plan count releases deadlines in
-    let own = own_columns [] releases [] deadlines (times_outline count) in (
+    let own = own_columns (times_columns count releases deadlines) in (
       suc (present p t),
       (
         omega (arith, come_few t (boundaries p), boundaries_few p (counted p)),
@@ -524,21 +545,26 @@ some_begun count releases deadlines t early due =
     )
 
 -- The lines of `lines`, except the next.
-pub one_line : (line out : List ℕ) (r s : Printed) (left other : List ℕ) → Prints line out r left → Prints line out s other
+pub one_line : (line out : List ℕ) (r s : Result ℕ Reason) (left other : List ℕ) → Prints line out r left → Prints line out s other
     → (r ≡ s) × (left ≡ other)
 one_line line out r s left other d e = outputs_one r s left other (d ∙ sym e)
 
-pub some_line : (line out : List ℕ) → (r : Printed) × (left : List ℕ) × Prints line out r left
-some_line line out = output_some (printed line out)
+pub some_line : (line out : List ℕ) → (r : Result ℕ Reason) × (left : List ℕ) × Prints line out r left
+some_line line out = output_some line out
 
 -- `lines::outcome_line`.
-pub one_outcome_line : (name : Name) (ended : Outcome) (carried : ℕ) (out : List ℕ) (r s : Printed) (left other : List ℕ)
-    → PrintsOutcome name ended carried out r left → PrintsOutcome name ended carried out s other → (r ≡ s) × (left ≡ other)
-one_outcome_line name ended carried out r s left other d e = outputs_one r s left other (d ∙ sym e)
+pub one_outcome_line : (name : Name) (told : Result Outcome Reason) (carried : ℕ) (out : List ℕ) (r s : Result ℕ Reason) (left other : List ℕ)
+    → PrintsOutcome name told carried out r left → PrintsOutcome name told carried out s other → (r ≡ s) × (left ≡ other)
+one_outcome_line name told carried out r s left other d e = outputs_one r s left other (d ∙ sym e)
 
-pub some_outcome_line : (name : Name) (ended : Outcome) (carried : ℕ) (out : List ℕ)
-    → (r : Printed) × (left : List ℕ) × PrintsOutcome name ended carried out r left
-some_outcome_line name ended carried out = output_some (outcome_printed name.0 (outcome_view ended) carried out)
+pub some_outcome_line : (name : Name) (told : Result Outcome Reason) (carried : ℕ) (out : List ℕ)
+    → (r : Result ℕ Reason) × (left : List ℕ) × PrintsOutcome name told carried out r left
+some_outcome_line name (Ok ends.Met) carried out = output_some _ out
+some_outcome_line name (Ok ends.Ended) carried out = output_some _ out
+some_outcome_line name (Ok ends.Discarded) carried out = output_some _ out
+some_outcome_line name (Ok ends.Missed) carried out = output_some _ out
+some_outcome_line name (Ok ends.Open) carried out = output_some _ out
+some_outcome_line name (Err k) carried out = (Err k, out, refl)
 
 -- `program::advance`: a turn.
 pub one_turn : (t : Turned) (out : List ℕ) (r s : Turn) (left other : List ℕ) → Takes t out r left → Takes t out s other
@@ -565,116 +591,105 @@ some_opening file table out =
     let t = some_turn (opened (reader file table)) out in
     (t.0, (reader file table).table, t.1, (t.2.0, refl, t.2.1))
 
--- `fields::field::read_byte`, `read_two`, `read_four` and `read_eight`, by their width.
-pub one_field : (w : ℕ) (file : List ℕ) (at : ℕ) (r s : Field) → ReadsField w file at r → ReadsField w file at s → r ≡ s
-one_field w file at r s d e = fields_one r s (d.0 ∙ sym e.0)
+-- What was read is below a bound, as the code's types say of a number that has w bytes.
+abbrev Fits : (w : ℕ) → Result (code.Parsed ℕ) Refusal → Type 0
+Fits w (Ok parsed) = parsed.value < 256 ^ w
+Fits w (Err refusal) = Unit {0}
 
-pub some_field : (w : ℕ) (file : List ℕ) → Octets file → (at : ℕ) → (r : Field) × ReadsField w file at r
-some_field w file octets at = by (rule.field w file at) refl
+-- A field that is read or refused for reasons is the view of an answer, whose value is as small as the field's.
+fitting : (w : ℕ) (s : Parsed ℕ) → Only (map number_of file_reasons) s → ((v next : ℕ) → s ≡ got v next → v < 256 ^ w)
+    → (r : Result (code.Parsed ℕ) Refusal) × (field_view r ≡ s) × Fits w r
+fitting w s only small = by (field_some file_reasons s only).0 (field_some file_reasons s only).1
   where
-    by : (s : Parsed ℕ) → rule.field w file at ≡ s → (r : Field) × ((field_view r ≡ s) × (field_value r < 256 ^ w))
-    by (got v next) e = (field.Value v next, (refl, (field_again w file at octets e).1))
-    by (no refusal) e = (field.Refused refusal, (refl, one-le-pow w 256 (lit< tt)))
+    by : (r : Result (code.Parsed ℕ) Refusal) → field_view r ≡ s → (r : Result (code.Parsed ℕ) Refusal) × (field_view r ≡ s) × Fits w r
+    by (Ok parsed) e = (Ok parsed, e, small parsed.value parsed.next (sym e))
+    by (Err refusal) e = (Err refusal, e, tt)
+
+-- `fields::field::read`, by the width of its number.
+pub one_field : {N : Type 0} (w : ℕ) (number : N → ℕ) → ((a b : N) → number a ≡ number b → a ≡ b) → (file : List ℕ) (at : ℕ) (r s : Result (code.Parsed N) Refusal)
+    → ReadsField w number file at r → ReadsField w number file at s → r ≡ s
+one_field w number one file at r s d e = parsed_one number one r s (d ∙ sym e)
+
+pub some_field : (w : ℕ) (file : List ℕ) → Octets file → (at : ℕ) → (r : Result (code.Parsed ℕ) Refusal) × ReadsField w (λ x. x) file at r × Fits w r
+some_field w file octets at = fitting w (rule.field w file at) (field_only file w at) (λ v next e. (field_again w file at octets e).1)
 
 -- `fields::record::read_length`.
-pub one_length : (file : List ℕ) (at long : ℕ) (r s : Passed) → ReadsLength file at long r → ReadsLength file at long s → r ≡ s
+pub one_length : (file : List ℕ) (at long : ℕ) (r s : Result ℕ Refusal) → ReadsLength file at long r → ReadsLength file at long s → r ≡ s
 one_length file at long r s d e = passed_one r s (d ∙ sym e)
 
-pub some_length : (file : List ℕ) (at long : ℕ) → (r : Passed) × ReadsLength file at long r
-some_length file at long = passed_some (record_length long file at)
+pub some_length : (file : List ℕ) (at long : ℕ) → (r : Result ℕ Refusal) × ReadsLength file at long r
+some_length file at long = passed_some file_reasons (record_length long file at) (length_only file long at)
 
 -- `fields::opening::read_opening`. (The code's types give that the newest version is a byte.)
-pub one_file_opening : (file : List ℕ) (newest : ℕ) (lengths : LengthRule) (r s : Field) → ReadsOpening file newest lengths r → ReadsOpening file newest lengths s → r ≡ s
-one_file_opening file newest lengths r s d e = fields_one r s (d.0 ∙ sym e.0)
+pub one_file_opening : (file : List ℕ) (newest : ℕ) (lengths : LengthRule) (r s : Result (code.Parsed ℕ) Refusal) → ReadsOpening file newest lengths r
+    → ReadsOpening file newest lengths s → r ≡ s
+one_file_opening file newest lengths r s d e = fields_one r s (d ∙ sym e)
 
-pub some_file_opening : (file : List ℕ) (newest : ℕ) → newest < 256 ^ 1 → (lengths : LengthRule) → (r : Field) × ReadsOpening file newest lengths r
-some_file_opening file newest small lengths = by (opening newest (is_compared lengths) file 0) refl
-  where
-    by : (s : Parsed ℕ) → opening newest (is_compared lengths) file 0 ≡ s → (r : Field) × ((field_view r ≡ s) × (field_value r < 256 ^ 1))
-    by (got v next) e = (field.Value v next, (refl, omega (arith, small, opening_version newest (is_compared lengths) file e)))
-    by (no refusal) e = (field.Refused refusal, (refl, lit< tt))
+pub some_file_opening : (file : List ℕ) (newest : ℕ) → newest < 256 ^ 1 → (lengths : LengthRule)
+    → (r : Result (code.Parsed ℕ) Refusal) × ReadsOpening file newest lengths r × Fits 1 r
+some_file_opening file newest small lengths =
+    fitting 1 (opening newest (is_compared lengths) file 0) (opening_only file newest (is_compared lengths) 0)
+    (λ v next e. omega (arith, small, opening_version newest (is_compared lengths) file e))
 
 -- `fields::end::read_end`.
-pub one_end : (file : List ℕ) (at : ℕ) (r s : Passed) → ReadsEnd file at r → ReadsEnd file at s → r ≡ s
+pub one_end : (file : List ℕ) (at : ℕ) (r s : Result ℕ Refusal) → ReadsEnd file at r → ReadsEnd file at s → r ≡ s
 one_end file at r s d e = passed_one r s (d ∙ sym e)
 
-pub some_end : (file : List ℕ) (at : ℕ) → (r : Passed) × ReadsEnd file at r
-some_end file at = passed_some (ended file at)
+pub some_end : (file : List ℕ) (at : ℕ) → (r : Result ℕ Refusal) × ReadsEnd file at r
+some_end file at = passed_some file_reasons (ended file at) (end_only file at)
+
+-- A head of the rules as the code has it.
+abbrev from_head : Head → code_head.Head
+from_head h = record { version = h.version; n = record { 0 = h.n }; d = record { 0 = h.d }; count = h.count }
 
 -- `planfields::head::read_head`.
-pub one_head_lem : (file : List ℕ) (lengths : LengthRule) (r s : HeadRead) → ReadsHead file lengths r → ReadsHead file lengths s → r ≡ s
-one_head_lem file lengths r s d e = sym (back r) ∙ ap of (d ∙ sym e) ∙ back s
-  where
-    of : Parsed Head → HeadRead
-    of (got h next) = head.Head (record { version = h.version; n = record { 0 = h.n }; d = record { 0 = h.d }; count = h.count }) next
-    of (no refusal) = head.Refused refusal
+pub one_head_lem : (file : List ℕ) (lengths : LengthRule) (r s : Result (code.Parsed code_head.Head) Refusal) → ReadsHead file lengths r → ReadsHead file lengths s
+    → r ≡ s
+one_head_lem file lengths r s d e = parsed_one head_of (λ a b e. ap from_head e) r s (d ∙ sym e)
 
-    back : (r : HeadRead) → of (head_view r) ≡ r
-    back (head.Head h next) = refl
-    back (head.Refused refusal) = refl
-
-pub some_head : (file : List ℕ) (lengths : LengthRule) → (r : HeadRead) × ReadsHead file lengths r
-some_head file lengths = by (records.head (is_compared lengths) file 0)
-  where
-    by : (s : Parsed Head) → (r : HeadRead) × (head_view r ≡ s)
-    by (got h next) = (head.Head (record { version = h.version; n = record { 0 = h.n }; d = record { 0 = h.d }; count = h.count }) next, refl)
-    by (no refusal) = (head.Refused refusal, refl)
+pub some_head : (file : List ℕ) (lengths : LengthRule) → (r : Result (code.Parsed code_head.Head) Refusal) × ReadsHead file lengths r
+some_head file lengths = parsed_some head_of (λ h. (from_head h, refl)) file_reasons (records.head (is_compared lengths) file 0) (head_only file (is_compared lengths) 0)
 
 -- `planfields::job::read_job`.
-pub one_job_lem : (file : List ℕ) (at : ℕ) (earlier : List ℕ) (r s : JobRead) → ReadsJob file at earlier r → ReadsJob file at earlier s → r ≡ s
-one_job_lem file at earlier r s d e = sym (back r) ∙ ap of (d ∙ sym e) ∙ back s
-  where
-    of : Parsed Job → JobRead
-    of (got j next) = job.Job j next
-    of (no refusal) = job.Refused refusal
+pub one_job_lem : (file : List ℕ) (at : ℕ) (earlier : List ℕ) (r s : Result (code.Parsed Job) Refusal) → ReadsJob file at earlier r → ReadsJob file at earlier s → r ≡ s
+one_job_lem file at earlier r s d e = parsed_one (λ j. j) (λ a b e. e) r s (d ∙ sym e)
 
-    back : (r : JobRead) → of (job_view r) ≡ r
-    back (job.Job j next) = refl
-    back (job.Refused refusal) = refl
-
-pub some_job : (file : List ℕ) (at : ℕ) (earlier : List ℕ) → (r : JobRead) × ReadsJob file at earlier r
-some_job file at earlier = by (one_job earlier file at)
-  where
-    by : (s : Parsed Job) → (r : JobRead) × (job_view r ≡ s)
-    by (got j next) = (job.Job j next, refl)
-    by (no refusal) = (job.Refused refusal, refl)
+pub some_job : (file : List ℕ) (at : ℕ) (earlier : List ℕ) → (r : Result (code.Parsed Job) Refusal) × ReadsJob file at earlier r
+some_job file at earlier = parsed_some (λ j. j) (λ j. (j, refl)) file_reasons (one_job earlier file at) (job_only file earlier at)
 
 -- `planfields::numbers::read_row_count`.
-pub one_row_count : (file : List ℕ) (at version : ℕ) (r s : Field) → ReadsRowCount file at version r → ReadsRowCount file at version s → r ≡ s
+pub one_row_count : (file : List ℕ) (at version : ℕ) (r s : Result (code.Parsed ℕ) Refusal) → ReadsRowCount file at version r → ReadsRowCount file at version s → r ≡ s
 one_row_count file at version r s d e = fields_one r s (d ∙ sym e)
 
-pub some_row_count : (file : List ℕ) (at version : ℕ) → (r : Field) × ReadsRowCount file at version r
-some_row_count file at version = field_some (checked 2 (rows_allowed_in version) too_many_rows file at)
+pub some_row_count : (file : List ℕ) (at version : ℕ) → (r : Result (code.Parsed ℕ) Refusal) × ReadsRowCount file at version r
+some_row_count file at version = field_some file_reasons (checked 2 (rows_allowed_in version) too_many_rows file at) (checked_only file 2 (rows_allowed_in version) too_many_rows at refl)
 
 -- A checked field as an answer whose value has the field's width. (The
 -- code's types give that a byte is below 256.)
-checked_some : (file : List ℕ) → Octets file → (w : ℕ) (ok : ℕ → Bool) (number at : ℕ)
-    → (r : Field) × ((field_view r ≡ checked w ok number file at) × (field_value r < 256 ^ w))
-checked_some file octets w ok number at = by (checked w ok number file at) refl
-  where
-    by : (s : Parsed ℕ) → checked w ok number file at ≡ s → (r : Field) × ((field_view r ≡ s) × (field_value r < 256 ^ w))
-    by (got x end) e = (field.Value x end, (refl, (field_again w file at octets (checked_is w ok number file at e).0).1))
-    by (no k) e = (field.Refused k, (refl, one-le-pow w 256 (lit< tt)))
+checked_some : (file : List ℕ) → Octets file → (w : ℕ) (ok : ℕ → Bool) (number at : ℕ) → is_one_of file_numbers number ≡ true
+    → (r : Result (code.Parsed ℕ) Refusal) × (field_view r ≡ checked w ok number file at) × Fits w r
+checked_some file octets w ok number at h =
+    fitting w (checked w ok number file at) (checked_only file w ok number at h) (λ v next e. (field_again w file at octets (checked_is w ok number file at e).0).1)
 
 -- `planfields::numbers::read_interval`.
-pub one_interval : (file : List ℕ) (at spans : ℕ) (r s : Field) → ReadsInterval file at spans r → ReadsInterval file at spans s → r ≡ s
-one_interval file at spans r s d e = fields_one r s (d.0 ∙ sym e.0)
+pub one_interval : (file : List ℕ) (at spans : ℕ) (r s : Result (code.Parsed ℕ) Refusal) → ReadsInterval file at spans r → ReadsInterval file at spans s → r ≡ s
+one_interval file at spans r s d e = fields_one r s (d ∙ sym e)
 
-pub some_interval : (file : List ℕ) → Octets file → (at spans : ℕ) → (r : Field) × ReadsInterval file at spans r
-some_interval file octets at spans = checked_some file octets 2 (λ j. ltb j spans) row_without_interval at
+pub some_interval : (file : List ℕ) → Octets file → (at spans : ℕ) → (r : Result (code.Parsed ℕ) Refusal) × ReadsInterval file at spans r × Fits 2 r
+some_interval file octets at spans = checked_some file octets 2 (λ j. ltb j spans) row_without_interval at refl
 
 -- `planfields::numbers::read_units`.
-pub one_units : (file : List ℕ) (at : ℕ) (r s : Field) → ReadsUnits file at r → ReadsUnits file at s → r ≡ s
-one_units file at r s d e = fields_one r s (d.0 ∙ sym e.0)
+pub one_units : (file : List ℕ) (at : ℕ) (r s : Result (code.Parsed ℕ) Refusal) → ReadsUnits file at r → ReadsUnits file at s → r ≡ s
+one_units file at r s d e = fields_one r s (d ∙ sym e)
 
-pub some_units : (file : List ℕ) → Octets file → (at : ℕ) → (r : Field) × ReadsUnits file at r
-some_units file octets at = checked_some file octets 4 (λ u. not (eqb u 0)) row_without_units at
+pub some_units : (file : List ℕ) → Octets file → (at : ℕ) → (r : Result (code.Parsed ℕ) Refusal) × ReadsUnits file at r × Fits 4 r
+some_units file octets at = checked_some file octets 4 (λ u. not (eqb u 0)) row_without_units at refl
 
 -- Instances: the interval and the units of the first row in plan E's file.
-some_interval_e : (r : Field) × ReadsInterval file_e 65 3 r
+some_interval_e : (r : Result (code.Parsed ℕ) Refusal) × ReadsInterval file_e 65 3 r × Fits 2 r
 some_interval_e = some_interval file_e octets_e 65 3
 
-some_units_e : (r : Field) × ReadsUnits file_e 67 r
+some_units_e : (r : Result (code.Parsed ℕ) Refusal) × ReadsUnits file_e 67 r × Fits 4 r
 some_units_e = some_units file_e octets_e 67
 
 -- Every other public call returns a plain value and changes no lent buffer: its contract

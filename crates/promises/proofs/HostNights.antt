@@ -11,7 +11,7 @@ use lib.Dec.{eqb}
 use lib.ListN.{length, get_or, replicate, length-replicate}
 use Rattle.base.specs.Sum.{sum, on}
 use Rattle.base.specs.Below
-use Rattle.base.proofs.Logic.{if_true}
+use Rattle.base.proofs.Logic.{neither, if_true}
 use Rattle.plan.specs.Edition.{most_jobs}
 use Rattle.plan.specs.Refusal.{outside_window, wrong_total, over_capacity, below_floor_rule, speed_above_normal, unsound, buffer_too_short, no_such_job, cannot_end, too_many_speeds}
 use Rattle.plan.specs.Report.{Report, done_number, number_of, first}
@@ -25,10 +25,10 @@ use Rattle.dispatch.specs.Step.{SlotEffect, WordEffect, started, slot_sound, slo
 use Rattle.dispatch.specs.Shift.{ShiftEffect, row_start, shift_fault, shifted}
 use Rattle.dispatch.proofs.ShiftLimits.{shift_keeps}
 use Rattle.dispatch.proofs.WordLimits.{word_leaves, word_long, slot_keeps_ended}
-use Rattle.hostmemory.specs.Memory.{plan_words, run_words, location_words, short_plan, short_run, jobs_to, plan_in, plan_of, jobs_out, plan_out, are_marks, marks_in, marks_hold, run_in, run_of, run_out, run_put}
+use Rattle.hostmemory.specs.Memory.{plan_words, run_words, short_plan, short_run, jobs_to, plan_in, plan_of, jobs_out, plan_out, are_marks, marks_in, marks_hold, run_in, run_of, run_out, run_put}
 use Rattle.hostmemory.proofs.RoundTrip.{run_back, put_marks, carried_all, ended_all}
 use Rattle.gateway.specs.Calls.{HostStartEffect, HostStepEffect, HostShiftEffect, HostEndEffect, start_words, located, short_location, slot_words, shift_words, told_words, ending_number, start_call, step_call, shift_call, outcome_call, end_call}
-use Rattle.gateway.proofs.Laws.{all_long, stepped_long, shifted_long}
+use Rattle.gateway.proofs.Laws.{stepped_long, shifted_long}
 use Rattle.promises.specs.Night.{is_done, run_after, had, told}
 use Rattle.promises.specs.NightParts.{ShiftCall, shift_effect, part_answer, part_given, run_after_parts, calls_of, AllowedPart, AllowedParts}
 use Rattle.promises.specs.HostNight.{HostStart, HostStep, HostShift, HostCall, step, end, shift, returned, MeetsContract, part_of, run_words_left, plan_started, HostAllowed, HostNight, night_of, host_run, host_calls, host_given, host_had, host_tells, host_told, CallShown, Shown, HostKept}
@@ -72,8 +72,13 @@ start_done plan table run location e = go (short_plan plan || short_run run || s
         → (left b r).number ≡ done_number → Started plan table run location
     go true s r j e = absurd (omega (arith, e))
     go false s [] j e =
-        let long = all_long plan run location plan_words run_words location_words s in
-        record { accepted = j; plan_long = long.0; run_long = long.1; leaves = rw (s, j) refl }
+        let words = neither (short_plan plan) (short_run run) (neither (short_plan plan || short_run run) (short_location location) s).0 in
+        record {
+          accepted = j;
+          plan_long = ltb-false (length plan) plan_words words.0;
+          run_long = ltb-false (length run) run_words words.1;
+          leaves = rw (s, j) refl;
+        }
     go false s (number ∷ places) j e =
         absurd (false≢true (sym (ap (is_one_of numbers) e) ∙ judge_numbers_lem (plan_of plan) table number places j))
 

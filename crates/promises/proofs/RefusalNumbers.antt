@@ -18,6 +18,8 @@ use Rattle.plan.specs.Boundaries.{insert, boundaries_to, boundary, intervals, la
 use Rattle.plan.specs.Table.{place, no_stray, sound}
 use Rattle.plan.specs.declared.kinds.Job.{Job}
 use Rattle.plan.specs.declared.kinds.Plan.{Plan}
+use Rattle.plan.specs.declared.refusal.Reason.{Reason}
+use Rattle.plan.specs.declared.refusal.Reason.TheVariants as reason
 use Rattle.fields.specs.Bytes.{bytes, value}
 use Rattle.fields.specs.Parsers.{Parsed, got, no, test, field, checked, record_length, refused_as, is_version, version, extent, opening, ended}
 use Rattle.planfields.specs.Records.{head, job_name, one_job}
@@ -56,8 +58,15 @@ file_numbers =
     wrong_version ∷ wrong_extent ∷ wrong_record_length ∷ wrong_rates ∷ wrong_job_count ∷ wrong_name_byte ∷ name_taken ∷ wrong_grade ∷ wrong_job_bounds
     ∷ too_many_rows ∷ row_without_job ∷ row_without_interval ∷ row_without_units ∷ row_out_of_order ∷ []
 
+-- Their reasons.
+abbrev pub file_reasons : List Reason
+file_reasons =
+    reason.WrongVersion ∷ reason.WrongExtent ∷ reason.WrongRecordLength ∷ reason.WrongRates ∷ reason.WrongJobCount ∷ reason.WrongNameByte ∷ reason.NameTaken
+    ∷ reason.WrongGrade ∷ reason.WrongJobBounds ∷ reason.TooManyRows ∷ reason.RowWithoutJob ∷ reason.RowWithoutInterval ∷ reason.RowWithoutUnits
+    ∷ reason.RowOutOfOrder ∷ []
+
 module _ (file : List ℕ) where
-  field_only : (w at : ℕ) → Only file_numbers (field w file at)
+  pub field_only : (w at : ℕ) → Only file_numbers (field w file at)
   unfolding field
   field_only w at = only_cond file_numbers (leb (at + w) (length file)) wrong_extent at (value 0 (take w (drop at file))) (at + w) refl
 

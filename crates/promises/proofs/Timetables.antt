@@ -10,6 +10,7 @@ use native.Mathlib.Omega.{arith}
 use borrow.Author.Tests.{le-leb, lt-leb, le-ltb, lt-ltb, ltb-true, eqb-true, eq-eqb, not-true, not-false}
 use lib.Dec.{leb, ltb, eqb}
 use lib.ListN.{length, drop, replicate, length-replicate}
+use Rattle.std.specs.Prelude.{Result, Ok, Err}
 use Rattle.base.specs.Sum.{sum, on}
 use Rattle.base.specs.Fill.{filled}
 use Rattle.base.specs.Below.{every, least, greatest}
@@ -23,6 +24,9 @@ use Rattle.plan.specs.Report.{Report, is_none, is_one_of, number_of, done_number
 use Rattle.plan.specs.Rules.{hi, lo, no_plan, counted, release, size, deadline, is_hi, name_allowed, names_hold, names_differ, grades_hold, bounds_hold, rules_hold}
 use Rattle.plan.specs.Boundaries.{insert, boundaries_to, boundary, intervals, first_release}
 use Rattle.plan.specs.declared.kinds.Plan.{Plan}
+use Rattle.plan.specs.declared.refusal.Reason.{Reason}
+use Rattle.plan.specs.declared.refusal.Reason.TheVariants as reason
+use Rattle.plan.proofs.Reasons.{number_one, number_some, never_done}
 use Rattle.plan.proofs.Reports.{none_empty, none_first, none_plain, empty_none}
 use Rattle.judge.specs.Verdict.{judged}
 use Rattle.judge.specs.Slack.{through}
@@ -30,9 +34,9 @@ use Rattle.judge.proofs.FirstLocation.{search_first}
 use Rattle.desk.specs.Timetable.{in_class, placing, turns_at, class_placed, all_room, timetable}
 use Rattle.desk.specs.Pairs.{is_deadline, asked, carries, is_end, is_short, pair_at, pair_fault}
 use Rattle.desk.specs.Desk.{one_release, jobs_fault, shortage_of, draw_fault, table_left}
-use Rattle.desk.specs.Answers.{shortage_view, TellsShortage, DrawsUp}
+use Rattle.desk.specs.Answers.{answer_view, drawn_number, TellsShortage, DrawsUp}
 use Rattle.desk.specs.declared.answers.Shortage.{Shortage}
-use Rattle.desk.specs.declared.answers.Shortage.TheVariants.{Nothing, Unsound, ReleasesDiffer, Pair}
+use Rattle.desk.specs.declared.answers.Shortage.TheVariants.{Unsound, ReleasesDiffer, Pair}
 use Rattle.desk.proofs.Closed.{pair_carried, pairs_carried}
 use Rattle.desk.proofs.Accepted.{drawn_accepted}
 use Rattle.desk.proofs.Alone.{timetable_alone}
@@ -476,40 +480,61 @@ host_shortage_numbers plan pair =
     (λ short. rw short refl)
     (λ long. rw long (ap (λ b. eqb (number_of (shortage_of (plan_of plan))) buffer_too_short || b) (shortage_numbers (plan_of plan)) ∙ or-true (eqb (number_of (shortage_of (plan_of plan))) buffer_too_short)))
 
+-- The answer is told by its number, and every number of the desk is that of some answer.
+drawn_one : (r s : Result Unit Reason) → drawn_number r ≡ drawn_number s → r ≡ s
+drawn_one (Ok done) (Ok again) e = refl
+drawn_one (Ok done) (Err k) e = absurd (never_done k (sym e))
+drawn_one (Err j) (Ok done) e = absurd (never_done j e)
+drawn_one (Err j) (Err k) e = ap Err (number_one j k e)
+
+drawn_some : (n : ℕ) → is_one_of (done_number ∷ buffer_too_short ∷ unsound ∷ releases_differ ∷ no_timetable ∷ []) n ≡ true
+    → (r : Result Unit Reason) × (drawn_number r ≡ n)
+drawn_some n h = by (eqb n done_number) refl h
+  where
+    by : (b : Bool) → eqb n done_number ≡ b → (b || is_one_of (buffer_too_short ∷ unsound ∷ releases_differ ∷ no_timetable ∷ []) n) ≡ true
+        → (r : Result Unit Reason) × (drawn_number r ≡ n)
+    by true e h = (Ok tt, sym (eqb-true n done_number e))
+    by false e h =
+        let s = number_some (reason.BufferTooShort ∷ reason.Unsound ∷ reason.ReleasesDiffer ∷ reason.NoTimetable ∷ []) n h in
+        (Err s.0, s.1)
+
 -- One result meets each of the desk's promises.
-pub one_drawing : (p : Plan) (table : List ℕ) (r s : ℕ) (left other : List ℕ) → DrawsUp p table r left → DrawsUp p table s other → (r ≡ s) × (left ≡ other)
-one_drawing p table r s left other a b = (a.0 ∙ sym b.0, a.1 ∙ sym b.1)
+pub one_drawing : (p : Plan) (table : List ℕ) (r s : Result Unit Reason) (left other : List ℕ) → DrawsUp p table r left → DrawsUp p table s other
+    → (r ≡ s) × (left ≡ other)
+one_drawing p table r s left other a b = (drawn_one r s (a.0 ∙ sym b.0), a.1 ∙ sym b.1)
 
-pub some_drawing : (p : Plan) (table : List ℕ) → (r : ℕ) × (left : List ℕ) × DrawsUp p table r left
-some_drawing p table = (number_of (draw_fault p table), table_left p table, (refl, refl))
+pub some_drawing : (p : Plan) (table : List ℕ) → (r : Result Unit Reason) × (left : List ℕ) × DrawsUp p table r left
+some_drawing p table =
+    let r = drawn_some (number_of (draw_fault p table)) (draw_numbers p table) in
+    (r.0, table_left p table, (r.1, refl))
 
--- A left inverse of `shortage_view`.
-abbrev shortage_from : Report → Shortage
-shortage_from [] = Nothing
-shortage_from (number ∷ []) = cond (eqb number unsound) Unsound ReleasesDiffer
-shortage_from (number ∷ D ∷ []) = Nothing
-shortage_from (number ∷ D ∷ E ∷ []) = Nothing
-shortage_from (number ∷ D ∷ E ∷ a ∷ []) = Nothing
-shortage_from (number ∷ D ∷ E ∷ a ∷ c ∷ rest) = Pair (record { 0 = D }) (record { 0 = E }) (record { 0 = a }) (record { 0 = c })
+-- A left inverse of the view of what is told of a shortage.
+abbrev shortage_from : Report → Result Unit Shortage
+shortage_from [] = Ok tt
+shortage_from (number ∷ []) = Err (cond (eqb number unsound) Unsound ReleasesDiffer)
+shortage_from (number ∷ D ∷ []) = Ok tt
+shortage_from (number ∷ D ∷ E ∷ []) = Ok tt
+shortage_from (number ∷ D ∷ E ∷ a ∷ []) = Ok tt
+shortage_from (number ∷ D ∷ E ∷ a ∷ c ∷ rest) = Err (Pair (record { 0 = D }) (record { 0 = E }) (record { 0 = a }) (record { 0 = c }))
 
-shortage_back : (s : Shortage) → shortage_from (shortage_view s) ≡ s
-shortage_back Nothing = refl
-shortage_back Unsound = refl
-shortage_back ReleasesDiffer = refl
-shortage_back (Pair D E a c) = refl
+shortage_back : (r : Result Unit Shortage) → shortage_from (answer_view r) ≡ r
+shortage_back (Ok done) = refl
+shortage_back (Err Unsound) = refl
+shortage_back (Err ReleasesDiffer) = refl
+shortage_back (Err (Pair D E a c)) = refl
 
-pub one_shortage : (p : Plan) (s t : Shortage) → TellsShortage p s → TellsShortage p t → s ≡ t
-one_shortage p s t a b = sym (shortage_back s) ∙ ap shortage_from (a ∙ sym b) ∙ shortage_back t
+pub one_shortage : (p : Plan) (r s : Result Unit Shortage) → TellsShortage p r → TellsShortage p s → r ≡ s
+one_shortage p r s a b = sym (shortage_back r) ∙ ap shortage_from (a ∙ sym b) ∙ shortage_back s
 
-pub some_shortage : (p : Plan) → (s : Shortage) × TellsShortage p s
+pub some_shortage : (p : Plan) → (r : Result Unit Shortage) × TellsShortage p r
 unfolding shortage_of
 some_shortage p =
     if_true (rules_hold p)
     (λ held. if_true (one_release p)
     (λ one. if_true (is_none (pair_fault p))
-    (λ e. (Nothing, rw (held, one) (sym (none_empty (pair_fault p) e))))
+    (λ e. (Ok tt, rw (held, one) (sym (none_empty (pair_fault p) e))))
     (λ e.
     let w = named_pair p e in
-    (Pair (record { 0 = w.0 }) (record { 0 = w.1 }) (record { 0 = asked p w.0 w.1 }) (record { 0 = carries p w.0 w.1 }), rw (held, one) (sym w.2))))
-    (λ differ. (ReleasesDiffer, rw (held, differ) refl)))
-    (λ broken. (Unsound, rw broken refl))
+    (Err (Pair (record { 0 = w.0 }) (record { 0 = w.1 }) (record { 0 = asked p w.0 w.1 }) (record { 0 = carries p w.0 w.1 })), rw (held, one) (sym w.2))))
+    (λ differ. (Err ReleasesDiffer, rw (held, differ) refl)))
+    (λ broken. (Err Unsound, rw broken refl))

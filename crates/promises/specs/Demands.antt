@@ -3,7 +3,7 @@
 -- What they rest on: `reader` (planfile/specs/Reader), `writer` (planwriter/specs/Writing),
 -- `judged` and `Figure2` (judge/specs), `draw_fault`, `table_left` and `shortage_of` (desk/specs/Desk), `stepped`, `order`, `serve` and `due`
 -- (dispatch/specs), `Kept` (Night, beside this file), `calls_of` and `AllowedParts` (NightParts).
-use Rattle.std.specs.Prelude.{◌≡◌, true, List, [], ◌++◌, ◌↔◌, ℕ, ◌≤◌, ◌<◌, ◌^◌, length, get_or, take, drop, replicate}
+use Rattle.std.specs.Prelude.{◌≡◌, true, List, [], ◌++◌, ◌↔◌, ℕ, ◌≤◌, ◌<◌, ◌^◌, length, get_or, take, drop, replicate, Result}
 use Rattle.plan.specs.Kinds.{Bytes, Position, Row, Speed, Table}
 use Rattle.plan.specs.Edition.{most_jobs, places}
 use Rattle.plan.specs.Rules.{counted, name}
@@ -11,17 +11,16 @@ use Rattle.plan.specs.Table.{sound}
 use Rattle.plan.specs.Same.{Same}
 use Rattle.plan.specs.declared.kinds.JobList.{JobList}
 use Rattle.plan.specs.declared.kinds.Plan.{Plan}
+use Rattle.plan.specs.declared.refusal.Reason.{Reason}
 use Rattle.planfile.specs.Reader.{reader}
 use Rattle.planfile.specs.Answers.{Reads, Shows}
-use Rattle.planfile.specs.declared.reader.PlanRead.{PlanRead}
+use Rattle.planfile.specs.declared.reader.ReadFault.{ReadFault}
 use Rattle.planwriter.specs.Writing.{wrote, written, writer}
 use Rattle.planwriter.specs.Answers.{Writes}
-use Rattle.planwriter.specs.declared.writer.Written.{Written}
 use Rattle.joblist.specs.Answers.{Imports, Exports}
-use Rattle.joblist.specs.declared.export.Exported.{Exported}
 use Rattle.meter.specs.Answers.{Meters, ReadsLog}
 use Rattle.meter.specs.declared.reading.Reading.{Reading}
-use Rattle.meter.specs.declared.log.Answer.{Answer}
+use Rattle.meter.specs.declared.log.LogFault.{LogFault}
 use Rattle.judge.specs.Constraints.{Figure2}
 use Rattle.judge.specs.Verdict.{judged}
 use Rattle.judge.specs.Answers.{Judges, Measures}
@@ -31,7 +30,6 @@ use Rattle.dispatch.specs.Order.{order, serve}
 use Rattle.dispatch.specs.Step.{stepped}
 use Rattle.dispatch.specs.Answers.{Starts, Steps, Shifts, Ends, Tells}
 use Rattle.dispatch.specs.declared.Run.{Run}
-use Rattle.dispatch.specs.declared.step.Stepped.{Stepped}
 use Rattle.promises.specs.Night.{run_after, Kept}
 use Rattle.promises.specs.NightParts.{Part, AllowedParts, calls_of, run_after_parts}
 
@@ -43,24 +41,24 @@ ExactlyOne {A} Promised = (r : A) × Promised r × ((s : A) → Promised s → r
 -- `ensures`) is met by exactly one result and one content of each lent buffer. The same is proved of
 -- every other public call (promises/proofs/Determined, and proofs/Determined of the crates themselves).
 pub record EveryCallIsDetermined : Type 0 where
-  pub read : (file : Bytes) (table : Table) → ExactlyOne {A = PlanRead × Table} (λ r. Reads file table r.0 r.1)
+  pub read : (file : Bytes) (table : Table) → ExactlyOne {A = Result Plan ReadFault × Table} (λ r. Reads file table r.0 r.1)
   pub lookup : (file : Bytes) (position : Position) → ExactlyOne (Shows file position)
-  pub write : (p : Plan) (table : Table) (out : Bytes) → ExactlyOne {A = Written × Bytes} (λ r. Writes p table out r.0 r.1)
+  pub write : (p : Plan) (table : Table) (out : Bytes) → ExactlyOne {A = Result ℕ Reason × Bytes} (λ r. Writes p table out r.0 r.1)
   pub judge : (p : Plan) (table : Table) → ExactlyOne (Judges p table)
   pub slack : (p : Plan) (table : Table) → ExactlyOne (Measures p table)
-  pub draw : (p : Plan) (table : Table) → ExactlyOne {A = ℕ × Table} (λ r. DrawsUp p table r.0 r.1)
+  pub draw : (p : Plan) (table : Table) → ExactlyOne {A = Result Unit Reason × Table} (λ r. DrawsUp p table r.0 r.1)
   pub shortage : (p : Plan) → ExactlyOne (TellsShortage p)
   pub start : (p : Plan) (table : Table) → ExactlyOne (Starts p table)
   pub step : (p : Plan) (table : Table) (run : Run) (v : Speed) (grants : Row)
-      → ExactlyOne {A = Stepped × Row} (λ r. Steps p table run v grants r.0 r.1)
+      → ExactlyOne {A = Result Run Reason × Row} (λ r. Steps p table run v grants r.0 r.1)
   pub shift : (p : Plan) (table : Table) (run : Run) (speeds : List ℕ) (rows : Row) (numbers : List ℕ)
-      → ExactlyOne {A = Stepped × Row × List ℕ} (λ r. Shifts p table run speeds rows numbers r.0 r.1 r.2)
+      → ExactlyOne {A = Result Run Reason × Row × List ℕ} (λ r. Shifts p table run speeds rows numbers r.0 r.1 r.2)
   pub outcome : (p : Plan) (run : Run) (position : Position) → ExactlyOne (Ends p run position)
   pub telling : (p : Plan) (run : Run) (position : Position) → ExactlyOne (Tells p run position)
   pub importing : (text : Bytes) → ExactlyOne (Imports text)
-  pub exporting : (list : JobList) (out : Bytes) → ExactlyOne {A = Exported × Bytes} (λ r. Exports list out r.0 r.1)
+  pub exporting : (list : JobList) (out : Bytes) → ExactlyOne {A = Result ℕ Reason × Bytes} (λ r. Exports list out r.0 r.1)
   pub metering : (reading : Reading) (n : ℕ) → ExactlyOne (Meters reading n)
-  pub logging : (file : Bytes) (n : ℕ) (list : List ℕ) → ExactlyOne {A = Answer × List ℕ} (λ r. ReadsLog file n list r.0 r.1)
+  pub logging : (file : Bytes) (n : ℕ) (list : List ℕ) → ExactlyOne {A = Result ℕ LogFault × List ℕ} (λ r. ReadsLog file n list r.0 r.1)
 
 -- What the types of the code say of a plan and its table: all records are there, a name has eight
 -- bytes and a place four.
