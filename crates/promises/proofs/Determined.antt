@@ -73,6 +73,7 @@ use Rattle.dispatch.specs.declared.Run.{Run}
 use Rattle.dispatch.specs.declared.Moment.{Moment}
 use Rattle.dispatch.specs.declared.answers.Outcome.{Outcome}
 use Rattle.dispatch.specs.declared.answers.Outcome.TheVariants as ends
+use Rattle.dispatch.proofs.StartEffect.{fault_stays}
 use Rattle.dispatch.proofs.Alike.{alike_slot, alike_outcome, alike_told}
 use Rattle.dispatch.proofs.SlotLimits.{slot_answer, refused_changes_nothing}
 use Rattle.dispatch.proofs.ShiftLimits.{shift_keeps, shift_answer, refused_shift_changes_nothing}
@@ -205,17 +206,9 @@ one_start p table r s d e = by r s (d.0 ∙ sym e.0) (d.1 ∙ sym e.1)
 pub some_start : (p : Plan) (table : List ℕ) → (r : Result Run Fault) × Starts p table r
 some_start p table = by (some_verdict p table).0 (some_verdict p table).1
   where
-    none : (f : Fault) → no_run ≡ start_from (report_of f) (started p) no_run
-    none BufferTooShort = refl
-    none Unsound = refl
-    none (OutsideWindow i j) = refl
-    none (WrongTotal i) = refl
-    none (OverCapacity j) = refl
-    none (BelowFloor l D) = refl
-
     by : (v : Result (Unit {0}) Fault) → verdict_view v ≡ judged p table → (r : Result Run Fault) × Starts p table r
     by (Ok done) e = (Ok (started p), (e, ap (λ l. start_from l (started p) no_run) e))
-    by (Err f) e = (Err f, (e, none f ∙ ap (λ l. start_from l (started p) no_run) e))
+    by (Err f) e = (Err f, (e, sym (fault_stays f (started p) no_run) ∙ ap (λ l. start_from l (started p) no_run) e))
 
 -- `dispatch::step::step`.
 pub one_step : (p : Plan) (table : List ℕ) (run : Run) (v : ℕ) (grants : List ℕ) (r s : Result Run Reason) (left other : List ℕ)
