@@ -1,6 +1,5 @@
 // The answer to why no timetable can be drawn up.
-ghost use Rattle.std.specs.Prelude.{◌≡◌};
-ghost use Rattle.plan.specs.Refusal.{number_of as reason_number};
+ghost use Rattle.plan.specs.Refusal.{HasNumber};
 ghost use Rattle.plan.specs.Report.{number_of};
 ghost use Rattle.desk.specs.Answers.{shortage_view};
 
@@ -24,7 +23,7 @@ pub enum Shortage {
 impl Shortage {
     // The reason for which the desk then refuses.
     pub fn reason(self) -> Reason
-        ensures { reason_number result ≡ number_of (shortage_view self) }
+        ensures { HasNumber (number_of (shortage_view self)) result }
     {
         match self {
             Shortage::Unsound => Reason::Unsound,

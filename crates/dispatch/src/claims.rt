@@ -1,5 +1,5 @@
 // A job's claim on a slot: its due if it is served, otherwise 0.
-ghost use Rattle.std.specs.Prelude.{◌≡◌, not, ◌&&◌, ◌||◌, ◌≤◌, ◌<◌, replicate, leb, ltb, eqb, get_or};
+ghost use Rattle.std.specs.Prelude.{◌≡◌, true, not, ◌&&◌, ◌||◌, ◌≤◌, ◌<◌, replicate, leb, ltb, eqb, get_or};
 ghost use Rattle.plan.specs.Edition.{most_jobs};
 ghost use Rattle.plan.specs.Rules.{hi};
 ghost use Rattle.dispatch.specs.Inner.Turns.{served_in, goal_by, due_by, claim_by, unknown, KnownDue, Claimed};
@@ -52,6 +52,14 @@ impl Dues<'_> {
         self.goals.at(i).saturating_sub(self.carried[i])
     }
 
+    // The same, if the goals are whole.
+    fn of_whole(&self, i: usize) -> u32
+        requires { (i < most_jobs) × (self.now.goals.whole ≡ true) }
+        ensures { result ≡ due_by self.now i }
+    {
+        self.goals.goals[i].saturating_sub(self.carried[i])
+    }
+
     // What is due to a served job: its claim if it is known, otherwise worked out.
     pub(crate) fn claimed(&self, claims: &[u32; Edition::MOST_JOBS], i: usize) -> u32
         requires { (i < most_jobs) × KnownDue claims.now (due_by self.now) i }
@@ -75,8 +83,32 @@ pub(crate) fn is_served(cols: &Columns, clock: Slots, slow: bool, i: usize) -> b
         & ((cols.grades[i] == HI as u32) | !slow)
 }
 
+// Writes the claims of all jobs, if the goals are whole, and tells whether they fit into v. No row is added up for a claim
+// then, so looking at all of them is faster than stopping at the first that does not fit.
+fn claim_all(
+    claims: &mut [u32; Edition::MOST_JOBS],
+    jobs: usize,
+    v: Units,
+    clock: Slots,
+    slow: bool,
+    cols: &Columns,
+    dues: &Dues,
+) -> bool
+    requires { (jobs ≤ most_jobs) × (dues.now.goals.whole ≡ true) × (claims.old ≡ replicate most_jobs unknown) }
+    ensures { Claimed (claim_by clock.0 slow cols.now dues.now) v.0 jobs claims.new result }
+{
+    let mut sum = 0;
+    for i in 0..jobs {
+        let served = is_served(cols, clock, slow, i);
+        let claim = if served { dues.of_whole(i) } else { 0 };
+        claims[i] = claim;
+        sum += u64::from(claim);
+    }
+    sum <= v.0
+}
+
 // Writes the claims of the jobs in the order of their positions as long as they fit into v, and tells
-// whether all of them do. What follows the first claim that does not fit stays as it was.
+// whether all of them do. What follows the first claim that does not fit stays as it was, unless the goals are whole.
 pub(crate) fn all_fit(
     claims: &mut [u32; Edition::MOST_JOBS],
     jobs: usize,
@@ -89,6 +121,9 @@ pub(crate) fn all_fit(
     requires { (jobs ≤ most_jobs) × (v.0 ≤ unknown) × (claims.old ≡ replicate most_jobs unknown) }
     ensures { Claimed (claim_by clock.0 slow cols.now dues.now) v.0 jobs claims.new result }
 {
+    if dues.goals.whole {
+        return claim_all(claims, jobs, v, clock, slow, cols, dues);
+    }
     let mut total = 0;
     for i in 0..jobs {
         if v.0 < total {

@@ -1,5 +1,5 @@
 -- Numbers as bytes, highest byte first.
-use Rattle.std.specs.Prelude.{List, [], ◌∷◌, ℕ, zero, suc, ◌+◌, ◌*◌, ◌/◌, ◌%◌, ◌^◌}
+use Rattle.std.specs.Prelude.{cond, List, [], ◌∷◌, ℕ, zero, suc, ◌+◌, ◌*◌, ◌/◌, ◌%◌, ◌^◌, eqb, length}
 
 -- `bytes w x`: the w bytes of x, highest first, if x < 256^w. Otherwise, for w > 0, the first element
 -- is x / 256^(w − 1), which is not a byte, and the rest are the lowest w − 1 bytes of x; for w = 0
@@ -12,3 +12,7 @@ bytes (suc w) x = x / 256 ^ w ∷ bytes w (x % 256 ^ w)
 unfoldable pub value : ℕ → List ℕ → ℕ
 value so_far [] = so_far
 value so_far (b ∷ l) = value (so_far * 256 + b) l
+
+-- The number of w bytes, highest first; 0 for more or fewer bytes.
+abbrev pub value_of : (w : ℕ) → List ℕ → ℕ
+value_of w l = cond (eqb (length l) w) (value 0 l) 0

@@ -1,8 +1,8 @@
 // Reading one field: a number of 1, 2, 4 or 8 bytes, highest byte first.
 // Every field of a file is read through `read`; `planfile::extent`, which is asked before there is a whole
 // file, looks at the bytes of the length field by itself.
-ghost use Rattle.std.specs.Prelude.{◌≡◌, ℕ, ◌<◌, length};
-ghost use Rattle.fields.specs.Bytes.{value};
+ghost use Rattle.std.specs.Prelude.{◌≡◌, ℕ};
+ghost use Rattle.fields.specs.Bytes.{value_of};
 ghost use Rattle.fields.specs.Answers.{ReadsField};
 
 use plan::refusal::{Reason, Refusal};
@@ -22,10 +22,9 @@ pub trait Number: Copy {
 
     const WIDTH: usize;
 
-    // The number of as many bytes, highest first.
+    // The number of as many bytes, highest first; 0 for more or fewer.
     fn from_bytes(bytes: &[u8]) -> Self
-        requires { length bytes.now ≡ WIDTH }
-        ensures { number result ≡ value 0 bytes.now };
+        ensures { number result ≡ value_of WIDTH bytes.now };
 }
 
 impl Number for u8 {
@@ -37,6 +36,9 @@ impl Number for u8 {
 
     #[tactic(auto, using(crate::proofs::WholeBytes::value_one))]
     fn from_bytes(bytes: &[u8]) -> u8 {
+        if bytes.len() != Self::WIDTH {
+            return 0;
+        }
         bytes[0]
     }
 }
@@ -50,6 +52,9 @@ impl Number for u16 {
 
     #[tactic(auto, using(crate::proofs::WholeBytes::value_two))]
     fn from_bytes(bytes: &[u8]) -> u16 {
+        if bytes.len() != Self::WIDTH {
+            return 0;
+        }
         u16::from_be_bytes([bytes[0], bytes[1]])
     }
 }
@@ -63,6 +68,9 @@ impl Number for u32 {
 
     #[tactic(auto, using(crate::proofs::WholeBytes::value_four))]
     fn from_bytes(bytes: &[u8]) -> u32 {
+        if bytes.len() != Self::WIDTH {
+            return 0;
+        }
         u32::from_be_bytes([bytes[0], bytes[1], bytes[2], bytes[3]])
     }
 }
@@ -76,6 +84,9 @@ impl Number for u64 {
 
     #[tactic(auto, using(crate::proofs::WholeBytes::value_eight))]
     fn from_bytes(bytes: &[u8]) -> u64 {
+        if bytes.len() != Self::WIDTH {
+            return 0;
+        }
         u64::from_be_bytes([
             bytes[0], bytes[1], bytes[2], bytes[3], bytes[4], bytes[5], bytes[6], bytes[7],
         ])

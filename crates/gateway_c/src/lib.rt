@@ -130,7 +130,7 @@ pub extern "C" fn gateway_outcome(plan: &[u64], run: &[u32], position: usize) ->
     gateway::slots::gateway_outcome(plan, run, position)
 }
 
-// The word that the job at a position has ended: sets its mark in the lent run. A refused word puts back the run
+// The word that the job at a position has ended: sets its mark in the lent run. A refused word leaves the run
 // as it was.
 #[unsafe(no_mangle)]
 pub extern "C" fn gateway_end(plan: &[u64], run: &mut [u32], position: usize) -> u32

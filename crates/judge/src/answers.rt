@@ -1,6 +1,6 @@
 // The answers of `judge` and `slack`.
 ghost use Rattle.std.specs.Prelude.{◌≡◌};
-ghost use Rattle.plan.specs.Refusal as refusal;
+ghost use Rattle.plan.specs.Refusal.{HasNumber};
 ghost use Rattle.plan.specs.Report.{number_of};
 ghost use Rattle.judge.specs.Answers.{report_of, verdict_view};
 
@@ -33,7 +33,7 @@ pub struct Least {
 impl Fault {
     // The reason, without the location.
     pub fn reason(self) -> Reason
-        ensures { refusal.number_of result ≡ number_of (report_of self) }
+        ensures { HasNumber (number_of (report_of self)) result }
     {
         match self {
             Fault::BufferTooShort => Reason::BufferTooShort,

@@ -1,5 +1,5 @@
 -- A refusal, and the refusal numbers, by name.
-use Rattle.std.specs.Prelude.{ℕ}
+use Rattle.std.specs.Prelude.{◌≡◌, ℕ}
 use Rattle.plan.specs.Kinds.{Number, Offset}
 use Rattle.plan.specs.Report.{done_number}
 use Rattle.plan.specs.declared.refusal.Reason.{Reason}
@@ -178,6 +178,10 @@ number_of reason.ReleasesDiffer = releases_differ
 number_of reason.NoTimetable = no_timetable
 number_of reason.NotFinite = not_finite
 number_of reason.WrongLowest = wrong_lowest
+
+-- The contract of a call that answers a reason: it has the number.
+abbrev pub HasNumber : (number : Number) (reason : Reason) → Type 0
+HasNumber number reason = number_of reason ≡ number
 
 -- The view of a refusal of the code: its reason's number, and its offset.
 abbrev pub refusal_view : code.Refusal → Refusal

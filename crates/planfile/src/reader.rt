@@ -2,7 +2,7 @@
 ghost use Rattle.std.specs.Prelude.{◌≡◌, [], length};
 ghost use Rattle.plan.specs.Edition.{places};
 ghost use Rattle.planfile.specs.Reader.{read_file, leaves};
-ghost use Rattle.plan.specs.Refusal.{number_of};
+ghost use Rattle.plan.specs.Refusal.{HasNumber};
 ghost use Rattle.plan.specs.Report as report;
 ghost use Rattle.plan.specs.Report.{offset_of};
 ghost use Rattle.planfile.specs.Answers.{answer_view, read_view, Reads};
@@ -36,7 +36,7 @@ impl From<Refusal> for ReadFault {
 impl ReadFault {
     // The reason, without the offset.
     pub fn reason(self) -> Reason
-        ensures { number_of result ≡ report.number_of (answer_view (Err self)) }
+        ensures { HasNumber (report.number_of (answer_view (Err self))) result }
     {
         match self {
             ReadFault::TooShort => Reason::BufferTooShort,

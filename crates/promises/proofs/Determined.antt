@@ -13,7 +13,7 @@ use Rattle.std.specs.Prelude.{map, Option, None, Some, Result, Ok, Err}
 use Rattle.std.specs.Result.{result_unwrap_or}
 use Rattle.plan.specs.Edition.{most_jobs, most_speeds, places}
 use Rattle.plan.specs.Versions.{rows_allowed_in}
-use Rattle.plan.specs.Refusal.{number_of, too_many_rows, row_without_interval, row_without_units, clock_at_end, speed_above_normal, unsound, buffer_too_short, no_such_job, cannot_end, too_many_speeds}
+use Rattle.plan.specs.Refusal.{number_of, HasNumber, too_many_rows, row_without_interval, row_without_units, clock_at_end, speed_above_normal, unsound, buffer_too_short, no_such_job, cannot_end, too_many_speeds}
 use Rattle.plan.specs.Rules.{release, deadline, counted}
 use Rattle.plan.specs.Boundaries.{insert, boundaries_to, boundaries, come, present, last_slot, last_deadline}
 use Rattle.plan.specs.Columns.{sizes_fit, columns_over, PutsColumns, TellsBegun}
@@ -21,7 +21,7 @@ use Rattle.plan.specs.declared.columns.Columns.{Columns}
 use Rattle.plan.specs.declared.refusal.Reason.{Reason}
 use Rattle.plan.specs.declared.refusal.Reason.TheVariants as reason
 use Rattle.plan.specs.declared.refusal.Refusal.{Refusal}
-use Rattle.plan.proofs.Reasons.{number_some}
+use Rattle.plan.proofs.Reasons.{number_one, number_some}
 use Rattle.plan.proofs.BoundaryCount.{come_few}
 use Rattle.plan.proofs.BoundaryOrder.{boundaries_ext, boundaries_few}
 use Rattle.plan.proofs.PresentInterval.{Occurs, insert_origin, all_come}
@@ -44,8 +44,10 @@ use Rattle.fields.proofs.Only.{Only}
 use Rattle.fields.proofs.ParserLaws.{checked_is}
 use Rattle.fields.proofs.OpeningLaws.{opening_version}
 use Rattle.planfile.specs.Reader.{reader, name_shown}
+use Rattle.planfile.specs.Answers as reading
 use Rattle.planfile.specs.Answers.{Reads, Shows}
 use Rattle.planfile.specs.declared.reader.ReadFault.{ReadFault}
+use Rattle.planfile.specs.declared.reader.ReadFault.TheVariants as read_fault
 use Rattle.planfile.proofs.Injective.{read_view_injective, reading_some}
 use Rattle.planwriter.specs.Writing as writing
 use Rattle.planwriter.specs.Writing.{writer}
@@ -53,6 +55,7 @@ use Rattle.planwriter.specs.Answers.{Writes}
 use Rattle.planwriter.proofs.Injective.{write_view_injective}
 use Rattle.fields.proofs.BytesAt.{field_again}
 use Rattle.judge.specs.Verdict.{hand_fault, constraint_fault, floor_fault, judged}
+use Rattle.plan.specs.Report as report
 use Rattle.plan.specs.Report.{Report, or_else, fault, is_one_of}
 use Rattle.judge.specs.Slack.{Figure, none_essential, least, refused, slack_of, least_slack, unless, slack_figure}
 use Rattle.judge.specs.Answers.{report_of, verdict_view, slack_view, Judges, Measures, MeasuresPair}
@@ -603,6 +606,10 @@ pub one_field : {N : Type 0} (w : ℕ) (number : N → ℕ) → ((a b : N) → n
     → ReadsField w number file at r → ReadsField w number file at s → r ≡ s
 one_field w number one file at r s d e = parsed_one number one r s (d ∙ sym e)
 
+pub one_number_field : (w : ℕ) (file : List ℕ) (at : ℕ) (r s : Result (code.Parsed ℕ) Refusal) → ReadsField w (λ x. x) file at r
+    → ReadsField w (λ x. x) file at s → r ≡ s
+one_number_field w = one_field w (λ x. x) (λ a b e. e)
+
 pub some_field : (w : ℕ) (file : List ℕ) → Octets file → (at : ℕ) → (r : Result (code.Parsed ℕ) Refusal) × ReadsField w (λ x. x) file at r × Fits w r
 some_field w file octets at = fitting w (rule.field w file at) (field_only file w at) (λ v next e. (field_again w file at octets e).1)
 
@@ -692,3 +699,19 @@ one_value value r s d e = d ∙ sym e
 
 pub some_value : {A : Type 0} (value : A) → (r : A) × (r ≡ value)
 some_value value = (value, refl)
+
+-- The calls that answer the reason of a fault: `reason` of the judge's, of the reader's and, in Timetables, of the desk's.
+pub one_reason : (number : ℕ) (r s : Reason) → HasNumber number r → HasNumber number s → r ≡ s
+one_reason number r s d e = number_one r s (d ∙ sym e)
+
+pub some_fault_reason : (f : Fault) → (r : Reason) × HasNumber (report.number_of (report_of f)) r
+some_fault_reason BufferTooShort = (reason.BufferTooShort, refl)
+some_fault_reason Unsound = (reason.Unsound, refl)
+some_fault_reason (OutsideWindow i j) = (reason.OutsideWindow, refl)
+some_fault_reason (WrongTotal i) = (reason.WrongTotal, refl)
+some_fault_reason (OverCapacity j) = (reason.OverCapacity, refl)
+some_fault_reason (BelowFloor l D) = (reason.BelowFloorRule, refl)
+
+pub some_reading_reason : (f : ReadFault) → (r : Reason) × HasNumber (report.number_of (reading.answer_view (Err f))) r
+some_reading_reason read_fault.TooShort = (reason.BufferTooShort, refl)
+some_reading_reason (read_fault.Refused refusal) = (refusal.reason, refl)

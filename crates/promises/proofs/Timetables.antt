@@ -18,7 +18,7 @@ use Rattle.base.proofs.SumLaws.{sum_mono, sum_add, sum_swap}
 use Rattle.base.proofs.Below.{every_at, every_all, least_attained}
 use Rattle.base.proofs.Logic.{both, by_order, if_less, if_true}
 use Rattle.plan.specs.Edition.{places}
-use Rattle.plan.specs.Refusal.{unsound, buffer_too_short, releases_differ, no_timetable}
+use Rattle.plan.specs.Refusal.{HasNumber, unsound, buffer_too_short, releases_differ, no_timetable}
 use Rattle.plan.proofs.PresentInterval.{deadline_is_boundary, first_boundary}
 use Rattle.plan.specs.Report.{Report, is_none, is_one_of, number_of, done_number, or_else, first, fault}
 use Rattle.plan.specs.Rules.{hi, lo, no_plan, counted, release, size, deadline, is_hi, name_allowed, names_hold, names_differ, grades_hold, bounds_hold, rules_hold}
@@ -34,7 +34,7 @@ use Rattle.judge.proofs.FirstLocation.{search_first}
 use Rattle.desk.specs.Timetable.{in_class, placing, turns_at, class_placed, all_room, timetable}
 use Rattle.desk.specs.Pairs.{is_deadline, asked, carries, is_end, is_short, pair_at, pair_fault}
 use Rattle.desk.specs.Desk.{one_release, jobs_fault, shortage_of, draw_fault, table_left}
-use Rattle.desk.specs.Answers.{answer_view, drawn_number, TellsShortage, DrawsUp}
+use Rattle.desk.specs.Answers.{shortage_view, answer_view, drawn_number, TellsShortage, DrawsUp}
 use Rattle.desk.specs.declared.answers.Shortage.{Shortage}
 use Rattle.desk.specs.declared.answers.Shortage.TheVariants.{Unsound, ReleasesDiffer, Pair}
 use Rattle.desk.proofs.Closed.{pair_carried, pairs_carried}
@@ -538,3 +538,9 @@ some_shortage p =
     (Err (Pair (record { 0 = w.0 }) (record { 0 = w.1 }) (record { 0 = asked p w.0 w.1 }) (record { 0 = carries p w.0 w.1 })), rw (held, one) (sym w.2))))
     (λ differ. (Err ReleasesDiffer, rw (held, differ) refl)))
     (λ broken. (Err Unsound, rw broken refl))
+
+-- And a shortage has one reason, by `one_reason`.
+pub some_shortage_reason : (s : Shortage) → (r : Reason) × HasNumber (number_of (shortage_view s)) r
+some_shortage_reason Unsound = (reason.Unsound, refl)
+some_shortage_reason ReleasesDiffer = (reason.ReleasesDiffer, refl)
+some_shortage_reason (Pair D E asked carries) = (reason.NoTimetable, refl)

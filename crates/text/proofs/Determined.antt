@@ -1,5 +1,5 @@
--- The contract of the calls that append to a line determines where the line ends and the buffer, and can be
--- met for every input.
+-- The contracts of the calls that append to a line determine where the line ends and the buffer, or the line that
+-- grows, and can be met for every input.
 use mathlib.Core.Path.{◌≡◌, refl, sym, ◌∙◌}
 use mathlib.Core.List.{List}
 use Prim.Native.Nat.{ℕ}
@@ -7,6 +7,7 @@ use Rattle.plan.specs.Kinds.{Bytes, Offset}
 use Rattle.plan.specs.declared.kinds.Name.{Name}
 use Rattle.text.specs.Text.{decimal, name_text}
 use Rattle.text.specs.Append.{end_after, appended, Adds}
+use Rattle.text.specs.Line.{pushed, Pushes}
 
 -- `text::append::add`.
 pub one_piece : (line : Bytes) (at : Offset) (piece : Bytes) (r s : ℕ) (left other : List ℕ) → Adds line at piece r left
@@ -31,3 +32,26 @@ one_name_piece line at name = one_piece line at (name_text name.0)
 
 pub some_name_piece : (line : Bytes) (at : Offset) (name : Name) → (r : ℕ) × (left : List ℕ) × Adds line at (name_text name.0) r left
 some_name_piece line at name = some_piece line at (name_text name.0)
+
+-- `text::line::Line::push`.
+pub one_push : (n : ℕ) (line piece left other : Bytes) → Pushes n line piece left → Pushes n line piece other → left ≡ other
+one_push n line piece left other d e = d ∙ sym e
+
+pub some_push : (n : ℕ) (line piece : Bytes) → (left : Bytes) × Pushes n line piece left
+some_push n line piece = (pushed n line piece, refl)
+
+-- `text::line::Line::push_number`.
+pub one_number_push : (n : ℕ) (line : Bytes) (number : ℕ) (left other : Bytes) → Pushes n line (decimal number) left
+    → Pushes n line (decimal number) other → left ≡ other
+one_number_push n line number = one_push n line (decimal number)
+
+pub some_number_push : (n : ℕ) (line : Bytes) (number : ℕ) → (left : Bytes) × Pushes n line (decimal number) left
+some_number_push n line number = some_push n line (decimal number)
+
+-- `text::line::Line::push_name`.
+pub one_name_push : (n : ℕ) (line : Bytes) (name : Name) (left other : Bytes) → Pushes n line (name_text name.0) left
+    → Pushes n line (name_text name.0) other → left ≡ other
+one_name_push n line name = one_push n line (name_text name.0)
+
+pub some_name_push : (n : ℕ) (line : Bytes) (name : Name) → (left : Bytes) × Pushes n line (name_text name.0) left
+some_name_push n line name = some_push n line (name_text name.0)

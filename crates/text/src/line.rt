@@ -1,9 +1,10 @@
 // A line that grows in a buffer of N bytes: a piece for which there is no room is left out.
 ghost use Rattle.std.specs.Prelude.{◌≡◌, ℕ, ◌≤◌, List, [], take, length};
 ghost use Rattle.text.specs.Text.{decimal, name_text};
-ghost use Rattle.text.specs.Line.{pushed};
+ghost use Rattle.text.specs.Line.{Pushes};
 
-use crate::{digits_of, name_text};
+use crate::append::add_name;
+use crate::digits_of;
 use plan::kinds::Name;
 use std::marker::Model;
 
@@ -34,7 +35,7 @@ impl<const N: usize> Line<N> {
 
     // Appends some bytes.
     pub fn push(&mut self, piece: &[u8])
-        ensures { self.new ≡ pushed N self.old piece.now }
+        ensures { Pushes N self.old piece.now self.new }
     {
         if N - self.length < piece.len() {
             return;
@@ -47,17 +48,18 @@ impl<const N: usize> Line<N> {
 
     // Appends a number in decimal.
     pub fn push_number(&mut self, number: u32)
-        ensures { self.new ≡ pushed N self.old (decimal number) }
+        ensures { Pushes N self.old (decimal number) self.new }
     {
         let digits = digits_of(number);
         self.push(digits.as_slice());
     }
 
     // Appends a name.
+    #[tactic(auto, unfolding(crate::specs::Append::end_after, crate::specs::Append::appended))]
     pub fn push_name(&mut self, name: Name)
-        ensures { self.new ≡ pushed N self.old (name_text name.0) }
+        ensures { Pushes N self.old (name_text name.0) self.new }
     {
-        self.push(&name_text(name));
+        self.length = add_name(&mut self.bytes, self.length, name);
     }
 
     // The line's length.
