@@ -52,14 +52,6 @@ impl Dues<'_> {
         self.goals.at(i).saturating_sub(self.carried[i])
     }
 
-    // The same, if the goals are whole.
-    fn of_whole(&self, i: usize) -> u32
-        requires { (i < most_jobs) × (self.now.goals.whole ≡ true) }
-        ensures { result ≡ due_by self.now i }
-    {
-        self.goals.goals[i].saturating_sub(self.carried[i])
-    }
-
     // What is due to a served job: its claim if it is known, otherwise worked out.
     pub(crate) fn claimed(&self, claims: &[u32; Edition::MOST_JOBS], i: usize) -> u32
         requires { (i < most_jobs) × KnownDue claims.now (due_by self.now) i }
@@ -84,7 +76,8 @@ pub(crate) fn is_served(cols: &Columns, clock: Slots, slow: bool, i: usize) -> b
 }
 
 // Writes the claims of all jobs, if the goals are whole, and tells whether they fit into v. No row is added up for a claim
-// then, so looking at all of them is faster than stopping at the first that does not fit.
+// then, so looking at all of them is faster than stopping at the first that does not fit. What is due is worked out whether
+// a job is served or not, and the columns are named before the loop: so several jobs are looked at at once.
 fn claim_all(
     claims: &mut [u32; Edition::MOST_JOBS],
     jobs: usize,
@@ -97,10 +90,13 @@ fn claim_all(
     requires { (jobs ≤ most_jobs) × (dues.now.goals.whole ≡ true) × (claims.old ≡ replicate most_jobs unknown) }
     ensures { Claimed (claim_by clock.0 slow cols.now dues.now) v.0 jobs claims.new result }
 {
+    let goals = dues.goals.goals;
+    let carried = dues.carried;
     let mut sum = 0;
     for i in 0..jobs {
         let served = is_served(cols, clock, slow, i);
-        let claim = if served { dues.of_whole(i) } else { 0 };
+        let due = goals[i].saturating_sub(carried[i]);
+        let claim = if served { due } else { 0 };
         claims[i] = claim;
         sum += u64::from(claim);
     }

@@ -107,6 +107,7 @@ pub(crate) fn spans_of(slow: bool, cols: &Columns, clock: Slots) -> u32
 // Writes the grants of a slot at speed v with the slow mark as `slow` says: the claims if all of them fit, otherwise what
 // the jobs get in turns. With the mark clear, claims that do not fit into a speed below n make the slot a slow one: then
 // nothing is written. The answer is whether the grants were written.
+#[inline(always)]
 fn share_under(
     cols: &Columns,
     v: Rate,
@@ -134,6 +135,7 @@ fn share_under(
 
 // Writes the grants of a slot at speed v that is not refused, and answers the slow mark after it. The slot that sets the
 // mark is served under it: then the sizes are the goals.
+#[inline(always)]
 fn share_out(
     cols: &Columns,
     v: Rate,
@@ -164,6 +166,7 @@ fn share_out(
 
 // Carries a slot at speed v, not above n, of a sound run with the goals of the slot: writes the grants, adds them to the
 // carried units, and answers the rest of the run.
+#[inline(always)]
 pub(crate) fn carry_slot(
     cols: &Columns,
     v: Rate,

@@ -19,14 +19,15 @@ loop-i-preserved c =
     let a = c.args in
     let i = c.loop-i.i in
     let claims = claim_by a.clock.0 a.slow a.cols.now a.dues.now in
+    let due : c.saturating_sub-due.result ≡ due_by a.dues.now i = rw c.requires.1 c.saturating_sub-due.ensures in
     let claimed : c.if-served.claim ≡ claims i
     = elim c.if-served.branch [
-      | then-served w ↦ w.claim-is ∙ w.of_whole-claim.ensures ∙ ap (λ b. on b (due_by a.dues.now i)) (sym w.if-served.true ∙ c.is_served-served.ensures)
+      | then-served w ↦ w.claim-is ∙ due ∙ ap (λ b. on b (due_by a.dues.now i)) (sym w.if-served.true ∙ c.is_served-served.ensures)
       | else-served w ↦ w.claim-is ∙ ap (λ b. on b (due_by a.dues.now i)) (sym w.if-served.false ∙ c.is_served-served.ensures)
     ] in
     let small : c.if-served.claim ≤ unknown
     = elim c.if-served.branch [
-      | then-served w ↦ omega (arith, w.claim-is, w.of_whole-claim.type_inv)
+      | then-served w ↦ omega (arith, w.claim-is, c.saturating_sub-due.type_inv)
       | else-served w ↦ omega (arith, w.claim-is)
     ] in (
       filled_next _ i _ c.loop-i.invariant.0 claimed,
