@@ -1,5 +1,5 @@
 -- The answers of the calls in the rules' terms. Their views are injective
--- (`answer_view_injective`, `outcome_view_injective`).
+-- (`answer_by_injective`, `outcome_by_injective`).
 use Rattle.std.specs.Prelude.{◌≡◌, Bool, List, [], ◌∷◌, ℕ, Result, Ok, Err}
 use Rattle.std.specs.Result.{result_unwrap_or}
 use Rattle.plan.specs.Kinds.{Position, Row, Speed, Table}
@@ -19,19 +19,27 @@ use Rattle.dispatch.specs.declared.answers.Outcome.{Outcome}
 use Rattle.dispatch.specs.declared.answers.Outcome.TheVariants.{Met, Ended, Discarded, Missed, Open}
 use Rattle.dispatch.specs.declared.Moment.{Moment}
 
--- The view of an answer: empty if the call is done, otherwise the refusal number.
-abbrev pub answer_view : {A : Type 0} → Result A Reason → Report
-answer_view (Ok left) = []
-answer_view (Err reason) = number_of reason ∷ []
+-- The view of an answer, by the numbers of what tells a refusal: empty if the call is done, otherwise the refusal number.
+abbrev pub answer_by : {A E : Type 0} (number : E → ℕ) → Result A E → Report
+answer_by number (Ok left) = []
+answer_by number (Err refusal) = number refusal ∷ []
 
--- The view of an outcome.
+-- The view of an answer that tells the reason of a refusal.
+abbrev pub answer_view : {A : Type 0} → Result A Reason → Report
+answer_view r = answer_by number_of r
+
+-- The view of an outcome, by the numbers of what tells a refusal.
+abbrev pub outcome_by : {E : Type 0} (number : E → ℕ) → Result Outcome E → Ending
+outcome_by number (Ok Met) = met
+outcome_by number (Ok Ended) = ended_early
+outcome_by number (Ok Discarded) = discarded
+outcome_by number (Ok Missed) = missed
+outcome_by number (Ok Open) = still_open
+outcome_by number (Err refusal) = refused (number refusal)
+
+-- The view of an outcome that tells the reason of a refusal.
 abbrev pub outcome_view : Result Outcome Reason → Ending
-outcome_view (Ok Met) = met
-outcome_view (Ok Ended) = ended_early
-outcome_view (Ok Discarded) = discarded
-outcome_view (Ok Missed) = missed
-outcome_view (Ok Open) = still_open
-outcome_view (Err reason) = refused (number_of reason)
+outcome_view r = outcome_by number_of r
 
 -- The contract of `start`: the judge's verdict, with the started run or, after a refusal, which tells none, `no_run`.
 abbrev pub Starts : (p : Plan) (table : Table) (r : Result Run Fault) → Type 0

@@ -6,13 +6,13 @@
 mod pieces;
 
 ghost use Rattle.std.specs.Prelude.{◌≡◌, ◌≤◌, length};
-ghost use Rattle.dispatch.specs.Answers.{outcome_view};
+ghost use Rattle.dispatch.specs.Answers.{outcome_by, outcome_view};
 ghost use Rattle.text.specs.Text.{most_digits};
-ghost use Rattle.lines.specs.Answers.{Prints, PrintsOutcome};
+ghost use Rattle.lines.specs.Answers.{Prints, PrintsBy, PrintsOutcome};
 ghost use Rattle.lines.specs.Lines.{slot_header, outcome_header, stray_line, refused_line, slot_line, refused_slot_line, outcome_line, ending_word, longest_line};
 
 use crate::pieces::{mode_of, push_grants, push_times};
-use dispatch::answers::Outcome;
+use dispatch::answers::{Numbered, Outcome};
 use plan::edition::Edition;
 use plan::kinds::{Name, Plan, Slots};
 use plan::refusal::Reason;
@@ -28,11 +28,11 @@ pub const LONGEST_LINE: usize = 2 * (MOST_DIGITS + 1)
 
 // Copies a line into a buffer if all of it fits.
 #[tactic(auto, unfolding(crate::specs::Answers::printed))]
-fn print(line: &[u8], out: &mut [u8]) -> Result<usize, Reason>
-    ensures { Prints line.now out.old result out.new }
+fn print<E: Numbered>(line: &[u8], out: &mut [u8]) -> Result<usize, E>
+    ensures { PrintsBy E.number line.now out.old result out.new }
 {
     if out.len() < line.len() {
-        return Err(Reason::BufferTooShort);
+        return Err(E::of(Reason::BufferTooShort));
     }
     out[..line.len()].copy_from_slice(line);
     Ok(line.len())
@@ -122,15 +122,15 @@ fn word_of(outcome: Outcome) -> &'static [u8]
     }
 }
 
-// The line of a job. A refused outcome has no line: its reason is the answer.
-pub fn outcome_line(
+// The line of a job. A refused outcome has no line: what tells its refusal is the answer.
+pub fn outcome_line<E: Numbered>(
     name: Name,
-    outcome: Result<Outcome, Reason>,
+    outcome: Result<Outcome, E>,
     carried: u32,
     out: &mut [u8],
-) -> Result<usize, Reason>
-    ensures prints { PrintsOutcome name outcome carried out.old result out.new }
-    ensures fits { length (outcome_line name.0 (ending_word (outcome_view outcome)) carried) ≤ longest_line }
+) -> Result<usize, E>
+    ensures prints { PrintsOutcome E.number name outcome carried out.old result out.new }
+    ensures fits { length (outcome_line name.0 (ending_word (outcome_by E.number outcome)) carried) ≤ longest_line }
 {
     let word = word_of(outcome?);
     let mut line = Line::<LONGEST_LINE>::new();

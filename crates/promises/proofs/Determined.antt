@@ -87,28 +87,32 @@ use Rattle.dispatch.proofs.ColumnPlan.{own_columns, columns_alike}
 use Rattle.dispatch.proofs.Injective.{answer_view_injective, outcome_view_injective}
 use Rattle.lentrun.specs.Answers.{StepsIn, ShiftsIn, StartsIn, TellsIn}
 use Rattle.lines.specs.Answers as line
-use Rattle.lines.specs.Answers.{Prints, PrintsOutcome, printed, outcome_printed}
-use Rattle.lines.proofs.Injective.{printed_view_injective}
+use Rattle.lines.specs.Answers.{Prints, PrintsBy, PrintsOutcome, printed, outcome_printed}
+use Rattle.lines.proofs.Injective.{printed_by_injective}
 use Rattle.program.specs.Turns.{Turned, opened, Takes, Opens}
 use Rattle.program.specs.declared.Turn.{Turn}
 use Rattle.promises.proofs.Cases.{file_e}
 use Rattle.promises.proofs.Demand2.{octets_e}
 use Rattle.promises.proofs.RefusalNumbers.{file_reasons, file_numbers, file_only, field_only, checked_only, opening_only, head_only, length_only, job_only, end_only, writer_numbers, outcome_numbers}
 
--- The effect of a line's call determines its result and buffer, and each line's printing has a result.
-outputs_one : (r s : Result ℕ Reason) (left other : List ℕ)
-    → ◌≡◌ {A = line.PrintEffect} (record { answer = line.printed_view r; out = left }) (record { answer = line.printed_view s; out = other }) → (r ≡ s) × (left ≡ other)
-outputs_one r s left other e = (printed_view_injective r s (ap (λ (o : line.PrintEffect). o.answer) e), ap (λ (o : line.PrintEffect). o.out) e)
+-- The effect of a line's call determines its result and buffer, and each line's printing has a result: whatever tells a
+-- refusal, if different ones have different numbers and one has the number 22.
+outputs_one : {E : Type 0} (number : E → ℕ) → ((x y : E) → number x ≡ number y → x ≡ y) → (r s : Result ℕ E) (left other : List ℕ)
+    → ◌≡◌ {A = line.PrintEffect} (record { answer = line.printed_by number r; out = left }) (record { answer = line.printed_by number s; out = other })
+    → (r ≡ s) × (left ≡ other)
+outputs_one number one r s left other e =
+    (printed_by_injective number one r s (ap (λ (o : line.PrintEffect). o.answer) e), ap (λ (o : line.PrintEffect). o.out) e)
 
-output_some : (text out : List ℕ) → (r : Result ℕ Reason) × (left : List ℕ) × (record { answer = line.printed_view r; out = left } ≡ printed text out)
+output_some : {E : Type 0} (number : E → ℕ) (no_room : E) → number no_room ≡ buffer_too_short → (text out : List ℕ)
+    → (r : Result ℕ E) × (left : List ℕ) × PrintsBy number text out r left
 unfolding printed
-output_some text out = by (ltb (length out) (length text))
+output_some {E} number no_room is text out = by (ltb (length out) (length text))
   where
     by : (b : Bool)
-        → (r : Result ℕ Reason) × (left : List ℕ)
-        × (record { answer = line.printed_view r; out = left }
+        → (r : Result ℕ E) × (left : List ℕ)
+        × (record { answer = line.printed_by number r; out = left }
         ≡ cond b (line.refusal buffer_too_short out) (record { answer = line.wrote (length text); out = text ++ drop (length text) out }))
-    by true = (Err reason.BufferTooShort, out, refl)
+    by true = (Err no_room, out, ap (λ n. line.refusal n out) is)
     by false = (Ok (length text), text ++ drop (length text) out, refl)
 
 -- `planfile::reader::read`.
@@ -543,24 +547,43 @@ some_begun count releases deadlines t early due =
 -- The lines of `lines`, except the next.
 pub one_line : (line out : List ℕ) (r s : Result ℕ Reason) (left other : List ℕ) → Prints line out r left → Prints line out s other
     → (r ≡ s) × (left ≡ other)
-one_line line out r s left other d e = outputs_one r s left other (d ∙ sym e)
+one_line line out r s left other d e = outputs_one number_of number_one r s left other (d ∙ sym e)
 
 pub some_line : (line out : List ℕ) → (r : Result ℕ Reason) × (left : List ℕ) × Prints line out r left
-some_line line out = output_some line out
+some_line line out = output_some number_of reason.BufferTooShort refl line out
 
--- `lines::outcome_line`.
-pub one_outcome_line : (name : Name) (told : Result Outcome Reason) (carried : ℕ) (out : List ℕ) (r s : Result ℕ Reason) (left other : List ℕ)
-    → PrintsOutcome name told carried out r left → PrintsOutcome name told carried out s other → (r ≡ s) × (left ≡ other)
-one_outcome_line name told carried out r s left other d e = outputs_one r s left other (d ∙ sym e)
+-- `lines::outcome_line`, whatever tells a refusal, if different ones have different numbers and one has the number 22.
+pub one_outcome_line : {E : Type 0} (number : E → ℕ) → ((x y : E) → number x ≡ number y → x ≡ y)
+    → (name : Name) (told : Result Outcome E) (carried : ℕ) (out : List ℕ) (r s : Result ℕ E) (left other : List ℕ)
+    → PrintsOutcome number name told carried out r left → PrintsOutcome number name told carried out s other → (r ≡ s) × (left ≡ other)
+one_outcome_line number one name told carried out r s left other d e = outputs_one number one r s left other (d ∙ sym e)
 
-pub some_outcome_line : (name : Name) (told : Result Outcome Reason) (carried : ℕ) (out : List ℕ)
-    → (r : Result ℕ Reason) × (left : List ℕ) × PrintsOutcome name told carried out r left
-some_outcome_line name (Ok ends.Met) carried out = output_some _ out
-some_outcome_line name (Ok ends.Ended) carried out = output_some _ out
-some_outcome_line name (Ok ends.Discarded) carried out = output_some _ out
-some_outcome_line name (Ok ends.Missed) carried out = output_some _ out
-some_outcome_line name (Ok ends.Open) carried out = output_some _ out
-some_outcome_line name (Err k) carried out = (Err k, out, refl)
+pub some_outcome_line : {E : Type 0} (number : E → ℕ) (no_room : E) → number no_room ≡ buffer_too_short
+    → (name : Name) (told : Result Outcome E) (carried : ℕ) (out : List ℕ)
+    → (r : Result ℕ E) × (left : List ℕ) × PrintsOutcome number name told carried out r left
+some_outcome_line number no_room is name (Ok ends.Met) carried out = output_some number no_room is _ out
+some_outcome_line number no_room is name (Ok ends.Ended) carried out = output_some number no_room is _ out
+some_outcome_line number no_room is name (Ok ends.Discarded) carried out = output_some number no_room is _ out
+some_outcome_line number no_room is name (Ok ends.Missed) carried out = output_some number no_room is _ out
+some_outcome_line number no_room is name (Ok ends.Open) carried out = output_some number no_room is _ out
+some_outcome_line number no_room is name (Err k) carried out = (Err k, out, refl)
+
+-- So it is for a reason, and for a number alone.
+reason_line_one : (name : Name) (told : Result Outcome Reason) (carried : ℕ) (out : List ℕ) (r s : Result ℕ Reason) (left other : List ℕ)
+    → PrintsOutcome number_of name told carried out r left → PrintsOutcome number_of name told carried out s other → (r ≡ s) × (left ≡ other)
+reason_line_one = one_outcome_line number_of number_one
+
+reason_line_some : (name : Name) (told : Result Outcome Reason) (carried : ℕ) (out : List ℕ)
+    → (r : Result ℕ Reason) × (left : List ℕ) × PrintsOutcome number_of name told carried out r left
+reason_line_some = some_outcome_line number_of reason.BufferTooShort refl
+
+number_line_one : (name : Name) (told : Result Outcome ℕ) (carried : ℕ) (out : List ℕ) (r s : Result ℕ ℕ) (left other : List ℕ)
+    → PrintsOutcome (λ n. n) name told carried out r left → PrintsOutcome (λ n. n) name told carried out s other → (r ≡ s) × (left ≡ other)
+number_line_one = one_outcome_line (λ n. n) (λ x y e. e)
+
+number_line_some : (name : Name) (told : Result Outcome ℕ) (carried : ℕ) (out : List ℕ)
+    → (r : Result ℕ ℕ) × (left : List ℕ) × PrintsOutcome (λ n. n) name told carried out r left
+number_line_some = some_outcome_line (λ n. n) buffer_too_short refl
 
 -- `program::advance`: a turn.
 pub one_turn : (t : Turned) (out : List ℕ) (r s : Turn) (left other : List ℕ) → Takes t out r left → Takes t out s other
