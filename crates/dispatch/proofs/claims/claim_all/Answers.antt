@@ -1,6 +1,6 @@
 -- `dispatch::claims::claim_all` meets its contract: after i turns the first i claims are written and added up.
 use mathlib.Core.Path.{◌≡◌, sym, ◌∙◌, ap}
-use Prim.Native.Nat.{◌+◌, ◌≤◌}
+use Prim.Native.Nat.{◌≤◌}
 use native.Mathlib.Omega.{arith}
 use borrow.Author.Tests.{leb-true, leb-false}
 use Rattle.base.specs.Sum.{sum, on}
