@@ -13,9 +13,11 @@ use plan::kinds::{HI, Slots, Units};
 // worked out once more.
 pub(crate) const UNKNOWN: u32 = u32::MAX;
 
-// A column of goals: they are whole, or cut at the allotments of the intervals begun.
+// A column of goals: they are whole, or cut at the allotments of the intervals begun. In a shift claims on whole goals are
+// worked out all at once.
 #[derive(Clone, Copy)]
 pub(crate) struct GoalColumn<'a> {
+    pub(crate) at_once: bool,
     pub(crate) whole: bool,
     pub(crate) spans: u32,
     pub(crate) goals: &'a [u32; Edition::MOST_JOBS],
@@ -76,8 +78,9 @@ pub(crate) fn is_served(cols: &Columns, clock: Slots, slow: bool, i: usize) -> b
 }
 
 // Writes the claims of all jobs, if the goals are whole, and tells whether they fit into v. No row is added up for a claim
-// then, so looking at all of them is faster than stopping at the first that does not fit. What is due is worked out whether
-// a job is served or not, and the columns are named before the loop: so several jobs are looked at at once.
+// then, so in the many slots of a shift looking at all of them is faster than stopping at the first that does not fit. What
+// is due is worked out whether a job is served or not, and the columns are named before the loop: so several jobs are
+// looked at at once.
 fn claim_all(
     claims: &mut [u32; Edition::MOST_JOBS],
     jobs: usize,
@@ -104,7 +107,8 @@ fn claim_all(
 }
 
 // Writes the claims of the jobs in the order of their positions as long as they fit into v, and tells
-// whether all of them do. What follows the first claim that does not fit stays as it was, unless the goals are whole.
+// whether all of them do. What follows the first claim that does not fit stays as it was, unless claims are worked out at once.
+#[inline(always)]
 pub(crate) fn all_fit(
     claims: &mut [u32; Edition::MOST_JOBS],
     jobs: usize,
@@ -117,7 +121,7 @@ pub(crate) fn all_fit(
     requires { (jobs ≤ most_jobs) × (v.0 ≤ unknown) × (claims.old ≡ replicate most_jobs unknown) }
     ensures { Claimed (claim_by clock.0 slow cols.now dues.now) v.0 jobs claims.new result }
 {
-    if dues.goals.whole {
+    if dues.goals.at_once & dues.goals.whole {
         return claim_all(claims, jobs, v, clock, slow, cols, dues);
     }
     let mut total = 0;

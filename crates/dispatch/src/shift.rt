@@ -41,6 +41,7 @@ impl Kept {
     {
         let whole = spans == 0;
         let column = GoalColumn {
+            at_once: true,
             whole,
             spans,
             goals: sizes,
@@ -88,6 +89,7 @@ fn next_slot(
     let begun = spans_of(at.slow, cols, at.clock);
     kept.renew(counted_within(cols.count), begun, &cols.sizes, table);
     let goals = GoalColumn {
+        at_once: true,
         whole: true,
         spans: 0,
         goals: &kept.goals,

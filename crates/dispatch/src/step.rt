@@ -37,6 +37,7 @@ pub fn slot_over(
         return Err(Reason::SpeedAboveNormal);
     }
     let goals = GoalColumn {
+        at_once: false,
         whole: at.slow,
         spans: spans_of(at.slow, cols, at.clock),
         goals: &cols.sizes,

@@ -84,6 +84,7 @@ pub fn ended_in(words: &[u32]) -> [bool; Edition::MOST_JOBS]
 }
 
 // The run that words encode; too few words encode a run of zeros.
+#[inline(always)]
 pub fn run_of(words: &[u32]) -> Run
     ensures { result ≡ run_of words.now }
 {
@@ -109,6 +110,7 @@ fn put_ended(words: &mut [u32], ended: &[bool; Edition::MOST_JOBS])
 
 // Writes the words of what a slot changes of a run: clock, marks and carried units. Too few words are left
 // unchanged.
+#[inline(always)]
 pub fn put_slot(words: &mut [u32], at: Moment, carried: &[u32; Edition::MOST_JOBS])
     ensures { PutsSlot words.old at carried.now words.new }
 {
