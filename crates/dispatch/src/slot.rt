@@ -1,7 +1,8 @@
 // One slot of a sound run: the grants. If all claims fit into the speed, each is granted. Otherwise, with the slow
 // mark clear and a speed below n, the mark is set and the slot begins anew under it; in all other cases the jobs get
 // their turns.
-// What shares a slot out is put into step and shift (`inline`): as calls, each slot of a shift with few jobs would take a third more.
+// What shares a slot out is put into its callers (`inline(always)`, here and in claims): as calls, a slot of a shift with few jobs
+// would take a third more.
 ghost use Rattle.std.specs.Prelude.{◌≡◌, true, false, cond, ◌||◌, ℕ, suc, ◌+◌, ◌≤◌, ◌<◌, ◌^◌, min, ltb, length, get_or};
 ghost use Rattle.base.specs.Fill.{filled};
 ghost use Rattle.plan.specs.Edition.{most_jobs, most_rate, most_deadline};

@@ -47,7 +47,7 @@ pub fn gateway_start(plan: &[u64], table: &[u32], run: &mut [u32], location: &mu
 
 // Fills the columns of the lent plan for a call on the lent run: refused if there are too few words, if a mark is neither
 // 0 nor 1, and if a word has no room in its column, since that breaks rule 8 or 9. The columns are filled where they
-// stand, which takes less stack than handing them on.
+// stand, which takes less stack than handing them on. It is put into its callers: as a call, a slot would take longer.
 #[inline(always)]
 fn ready(plan: &[u64], run: &[u32], cols: &mut Columns) -> Result<(), Reason>
     ensures { Readies plan.now run.now cols.old result cols.new }

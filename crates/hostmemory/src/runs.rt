@@ -83,7 +83,8 @@ pub fn ended_in(words: &[u32]) -> [bool; Edition::MOST_JOBS]
     ended_of(&words[Sizes::ENDED..Sizes::RUN])
 }
 
-// The run that words encode; too few words encode a run of zeros.
+// The run that words encode; too few words encode a run of zeros. It is put into its callers: as a call, a slot would
+// take longer.
 #[inline(always)]
 pub fn run_of(words: &[u32]) -> Run
     ensures { result ≡ run_of words.now }
@@ -109,7 +110,7 @@ fn put_ended(words: &mut [u32], ended: &[bool; Edition::MOST_JOBS])
 }
 
 // Writes the words of what a slot changes of a run: clock, marks and carried units. Too few words are left
-// unchanged.
+// unchanged. It is put into its callers, as `run_of` is.
 #[inline(always)]
 pub fn put_slot(words: &mut [u32], at: Moment, carried: &[u32; Edition::MOST_JOBS])
     ensures { PutsSlot words.old at carried.now words.new }

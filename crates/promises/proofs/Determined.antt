@@ -569,19 +569,19 @@ some_outcome_line number no_room is name (Ok ends.Open) carried out = output_som
 some_outcome_line number no_room is name (Err k) carried out = (Err k, out, refl)
 
 -- So it is for a reason, and for a number alone.
-reason_line_one : (name : Name) (told : Result Outcome Reason) (carried : ℕ) (out : List ℕ) (r s : Result ℕ Reason) (left other : List ℕ)
+pub reason_line_one : (name : Name) (told : Result Outcome Reason) (carried : ℕ) (out : List ℕ) (r s : Result ℕ Reason) (left other : List ℕ)
     → PrintsOutcome number_of name told carried out r left → PrintsOutcome number_of name told carried out s other → (r ≡ s) × (left ≡ other)
 reason_line_one = one_outcome_line number_of number_one
 
-reason_line_some : (name : Name) (told : Result Outcome Reason) (carried : ℕ) (out : List ℕ)
+pub reason_line_some : (name : Name) (told : Result Outcome Reason) (carried : ℕ) (out : List ℕ)
     → (r : Result ℕ Reason) × (left : List ℕ) × PrintsOutcome number_of name told carried out r left
 reason_line_some = some_outcome_line number_of reason.BufferTooShort refl
 
-number_line_one : (name : Name) (told : Result Outcome ℕ) (carried : ℕ) (out : List ℕ) (r s : Result ℕ ℕ) (left other : List ℕ)
+pub number_line_one : (name : Name) (told : Result Outcome ℕ) (carried : ℕ) (out : List ℕ) (r s : Result ℕ ℕ) (left other : List ℕ)
     → PrintsOutcome (λ n. n) name told carried out r left → PrintsOutcome (λ n. n) name told carried out s other → (r ≡ s) × (left ≡ other)
 number_line_one = one_outcome_line (λ n. n) (λ x y e. e)
 
-number_line_some : (name : Name) (told : Result Outcome ℕ) (carried : ℕ) (out : List ℕ)
+pub number_line_some : (name : Name) (told : Result Outcome ℕ) (carried : ℕ) (out : List ℕ)
     → (r : Result ℕ ℕ) × (left : List ℕ) × PrintsOutcome (λ n. n) name told carried out r left
 number_line_some = some_outcome_line (λ n. n) buffer_too_short refl
 
